@@ -1,0 +1,36 @@
+-- The lines of a file, and the words of a line.
+use Rattle.std.specs.Prelude.{◌-◌, ◌+◌, ℕ, Bool, true, false, ◌==◌, List, [], ◌∷◌, length, take, filter, slice_index, if◌then◌else◌}
+use Rattle.std.specs.List.{slice_split}
+
+-- a line and its number, from 1
+pub record Line : Type 0 where
+  pub number : ℕ
+  pub octets : List ℕ
+
+-- whether a list has a member
+abbrev pub is_filled : {A : Type 0} → List A → Bool
+is_filled [] = false
+is_filled (x ∷ xs) = true
+
+-- a line that LF ends, without one CR directly before it
+abbrev pub without_return : List ℕ → List ℕ
+without_return octets = if is_filled octets then (if slice_index octets (length octets - 1) == 13 then take (length octets - 1) octets else octets) else octets
+
+-- what stands between line ends, as lines: each part but the last ended with LF; the last is a line where it isn't empty
+abbrev pub line_octets : List (List ℕ) → List (List ℕ)
+line_octets [] = []
+line_octets (last ∷ []) = if is_filled last then last ∷ [] else []
+line_octets (part ∷ next ∷ parts) = without_return part ∷ line_octets (next ∷ parts)
+
+-- numbered from n
+abbrev pub numbered_from : ℕ → List (List ℕ) → List Line
+numbered_from n [] = []
+numbered_from n (octets ∷ parts) = record { number = n; octets = octets } ∷ numbered_from (n + 1) parts
+
+-- the lines of a file, numbered from 1
+unfoldable pub lines_of : List ℕ → List Line
+lines_of file = numbered_from 1 (line_octets (slice_split (λ x. x == 10) file))
+
+-- the cells of a line: its longest parts without a space, in order
+unfoldable pub cells_of : List ℕ → List (List ℕ)
+cells_of line = filter is_filled (slice_split (λ x. x == 32) line)

@@ -1,1 +1,4 @@
+pub mod Extents
+pub mod Rows
 pub mod Tag
+pub mod Walk

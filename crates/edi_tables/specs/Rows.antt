@@ -1,0 +1,123 @@
+-- Which rows are a segment table, and the nodes that they stand for.
+use Rattle.std.specs.Prelude.{◌≡◌, ◌-◌, ◌+◌, ℕ, Bool, true, false, not, ◌==◌, ◌&&◌, ◌||◌, nat_le, nat_lt, List, [], ◌∷◌, ◌++◌, length, map, reverse, find, slice_get, Option, Some, None, unwrap_or, Result, Ok, Err, codes, if◌then◌else◌}
+use Rattle.std.specs.List.{range_with_len, flat_map}
+use Rattle.std.specs.Str.{bytes_eq}
+use Rattle.edi_tables.specs.declared.tag.Tag.{Tag}
+use Rattle.edi_tables.specs.declared.segment.TableRow.{TableRow}
+use Rattle.edi_tables.specs.declared.table.Node.{Node}
+use Rattle.edi_tables.specs.declared.table.TableKind.{TableKind}
+use Rattle.edi_tables.specs.declared.table.TableKind.TheVariants.{TooMany, NoUnhUnt, EnvelopeTag, BadMax, BadDepth, TooDeep, NoTrigger}
+use Rattle.edi_tables.specs.declared.table.TableStop.{TableStop}
+use Rattle.edi_tables.specs.declared.table.TableStop.TheVariants.{Fault, Memory}
+
+-- a tag with this name
+abbrev pub has_name : List ℕ → Option Tag → Bool
+has_name name None = false
+has_name name (Some tag) = bytes_eq tag.octets name
+
+-- a row of a group has no tag
+abbrev pub is_group_row : TableRow → Bool
+is_group_row row = elim row.tag [ None ↦ true | Some tag ↦ false ]
+
+-- the row of a segment that stands exactly once, outside all groups
+abbrev pub is_frame_row : List ℕ → TableRow → Bool
+is_frame_row name row = has_name name row.tag && row.must && row.max == 1 && row.depth == 0
+
+-- the first row is UNH M 1, and the last is UNT M 1, each outside all groups
+abbrev pub breaks_frame : List TableRow → ℕ → TableRow → Bool
+breaks_frame rows i row =
+    (i == 0 && not (is_frame_row (codes "UNH") row)) || (i + 1 == length rows && not (is_frame_row (codes "UNT") row))
+
+-- UNB, UNG, UNE and UNZ stand in no table, UNH only first and UNT only last
+abbrev pub breaks_envelope : List TableRow → ℕ → TableRow → Bool
+breaks_envelope rows i row =
+    has_name (codes "UNB") row.tag || has_name (codes "UNG") row.tag || has_name (codes "UNE") row.tag || has_name (codes "UNZ") row.tag
+    || (has_name (codes "UNH") row.tag && not (i == 0)) || (has_name (codes "UNT") row.tag && not (i + 1 == length rows))
+
+-- a greatest count is from 1 to 999,999
+abbrev pub breaks_max : TableRow → Bool
+breaks_max row = row.max == 0 || nat_lt 999999 row.max
+
+-- how deep the row behind this one may be
+abbrev pub depth_behind : Option TableRow → ℕ
+depth_behind None = 0
+depth_behind (Some row) = if is_group_row row then row.depth + 1 else row.depth
+
+-- the row before, if there is one
+abbrev pub row_before : List TableRow → ℕ → Option TableRow
+row_before rows i = if i == 0 then None else slice_get rows (i - 1)
+
+-- a row is no deeper than the row before, or one deeper where that is a group
+abbrev pub breaks_depth : List TableRow → ℕ → TableRow → Bool
+breaks_depth rows i row = nat_lt (depth_behind (row_before rows i)) row.depth
+
+-- a trigger: a mandatory segment that stands once, one deeper than its group
+abbrev pub is_trigger_row : ℕ → Option TableRow → Bool
+is_trigger_row depth None = false
+is_trigger_row depth (Some row) = not (is_group_row row) && row.must && row.max == 1 && row.depth == depth + 1
+
+-- directly behind a group stands its trigger
+abbrev pub breaks_trigger : List TableRow → ℕ → TableRow → Bool
+breaks_trigger rows i row = is_group_row row && not (is_trigger_row row.depth (slice_get rows (i + 1)))
+
+-- the rules that the row at i breaks, in judging order
+abbrev pub when : {A : Type 0} → Bool → A → List A
+when broken x = if broken then x ∷ [] else []
+
+abbrev pub row_faults : List TableRow → ℕ → TableRow → List TableKind
+row_faults rows i row =
+    when (breaks_frame rows i row) NoUnhUnt ++ when (breaks_envelope rows i row) EnvelopeTag ++ when (breaks_max row) BadMax
+    ++ when (breaks_depth rows i row) BadDepth ++ when (nat_lt 16 row.depth) TooDeep ++ when (breaks_trigger rows i row) NoTrigger
+
+abbrev pub faults_at : List TableRow → ℕ → Option TableRow → List (ℕ × TableKind)
+faults_at rows i None = []
+faults_at rows i (Some row) = map (λ kind. (i, kind)) (row_faults rows i row)
+
+-- all faults of rows in judging order: more than 2,000 rows are judged before any row, and no rows have no first one
+unfoldable pub table_faults : List TableRow → List (ℕ × TableKind)
+table_faults rows =
+    if nat_lt 2000 (length rows) then (2000, TooMany) ∷ []
+    else (if length rows == 0 then (0, NoUnhUnt) ∷ [] else flat_map (λ i. faults_at rows i (slice_get rows i)) (range_with_len 0 (length rows)))
+
+-- the depth of the row at i: the number of groups round it
+abbrev pub depth_at : List TableRow → ℕ → ℕ
+depth_at rows i = elim (slice_get rows i) [ None ↦ 0 | Some row ↦ row.depth ]
+
+-- the last row before i that is less deep: the group that holds it
+unfoldable pub parent_of : List TableRow → ℕ → Option ℕ
+parent_of rows i = find (λ j. nat_lt (depth_at rows j) (depth_at rows i)) (reverse (range_with_len 0 i))
+
+-- the first row behind i that is no deeper: one past its last descendant
+unfoldable pub end_of : List TableRow → ℕ → ℕ
+end_of rows i =
+    unwrap_or (find (λ j. nat_le (depth_at rows j) (depth_at rows i)) (range_with_len (i + 1) (length rows - (i + 1)))) (length rows)
+
+-- the node of the row at i
+abbrev pub node_of : List TableRow → ℕ → TableRow → Node
+node_of rows i row =
+    record { tag = row.tag; must = row.must; max = row.max; parent = parent_of rows i; end = end_of rows i }
+
+abbrev pub nodes_from : List TableRow → ℕ → List TableRow → List Node
+nodes_from rows i [] = []
+nodes_from rows i (row ∷ more) = node_of rows i row ∷ nodes_from rows (i + 1) more
+
+-- the nodes of rows, one a row
+abbrev pub nodes_of : List TableRow → List Node
+nodes_of rows = nodes_from rows 0 rows
+
+-- a segment table: the nodes of rows that break no rule
+abbrev pub IsTable : List Node → Type 0
+IsTable nodes = (rows : List TableRow) × (table_faults rows ≡ []) × (nodes ≡ nodes_of rows)
+
+-- what `build` answers: the nodes exactly where no rule is broken, else the first fault; memory may run out
+abbrev pub first_or : {A : Type 0} → List (ℕ × TableKind) → A → Result A (ℕ × TableKind)
+first_or [] nodes = Ok nodes
+first_or (fault ∷ faults) nodes = Err fault
+
+abbrev pub table_of : List TableRow → Result (List Node) (ℕ × TableKind)
+table_of rows = first_or (table_faults rows) (nodes_of rows)
+
+abbrev pub Builds : Result (List Node) TableStop → Result (List Node) (ℕ × TableKind) → Type 0
+Builds (Ok nodes) table = table ≡ Ok nodes
+Builds (Err (Fault at kind)) table = table ≡ Err (at, kind)
+Builds (Err Memory) table = Unit {0}

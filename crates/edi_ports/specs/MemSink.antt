@@ -1,0 +1,27 @@
+-- What a sink in memory takes.
+use Rattle.std.specs.Prelude.{◌≡◌, ◌≤◌, ◌+◌, ◌-◌, ◌==◌, ℕ, List, [], length, min, if◌then◌else◌}
+use Rattle.edi_ports.specs.declared.sink.Put.{Put}
+use Rattle.edi_ports.specs.declared.sink.Put.TheVariants.{Took, Failed}
+use Rattle.edi_ports.specs.declared.memory.sink.MemSink.{MemSink}
+use Rattle.edi_ports.specs.Memory.{fails_next}
+
+-- the octets that were put
+abbrev pub held_of : MemSink → List ℕ
+held_of sink = sink.octets.items
+
+-- how often it failed
+abbrev pub faults_of : MemSink → ℕ
+faults_of sink = sink.calls.faults
+
+-- it has room for n octets, and no call of it is to fail
+abbrev pub HasRoom : MemSink → ℕ → Type 0
+HasRoom sink n = (sink.calls.failing.items ≡ []) × (length (held_of sink) + n ≤ sink.room)
+
+-- as many octets of a part of this length as it takes in one call
+abbrev pub taken_of : MemSink → ℕ → ℕ
+taken_of sink size = min (min size sink.most) (sink.room - length (held_of sink))
+
+-- the next put of a part of this length: a fault where it is to fail or has no room, or as many octets as it takes
+abbrev pub put_next : MemSink → ℕ → Put
+put_next sink size =
+    if fails_next sink.calls then Failed else (if taken_of sink size == 0 then Failed else Took (taken_of sink size))

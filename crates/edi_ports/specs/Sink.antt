@@ -1,0 +1,28 @@
+-- What a put does to told octets.
+use Rattle.std.specs.Prelude.{◌≡◌, ◌<◌, ◌≤◌, ◌-◌, ◌++◌, ℕ, List, length, take, drop, Option, Some, IfSome}
+use Rattle.edi_ports.specs.declared.sink.Put.{Put}
+use Rattle.edi_ports.specs.declared.sink.Put.TheVariants.{Took, Failed}
+
+-- the first n octets of the part were appended; at a fault nothing was
+abbrev pub IsPut : Option (List ℕ) → Option (List ℕ) → List ℕ → Put → Type 0
+IsPut before now part (Took n) =
+    (0 < n) × (n ≤ length part) × IfSome before (λ held. now ≡ Some (held ++ take n part))
+IsPut before now part Failed = IfSome before (λ held. now ≡ Some held)
+
+abbrev pub IsFailedPut : Put → Type 0
+IsFailedPut put = put ≡ Failed
+
+-- of the room for n octets so much is left; a put with room doesn't fail
+abbrev pub KeepsRoom : (ℕ → Type 0) → ℕ → Put → Type 0
+KeepsRoom has_room n (Took k) = has_room (n - k)
+KeepsRoom has_room n Failed = ⊥
+
+-- a proper prefix of the part was appended
+abbrev pub IsCut : Option (List ℕ) → Option (List ℕ) → List ℕ → Type 0
+IsCut before now part = IfSome before (λ held. (n : ℕ) × (n < length part) × (now ≡ Some (held ++ take n part)))
+
+-- so much of the part is appended, and that is left of it
+pub record HasPut (whole held : Option (List ℕ)) (part left : List ℕ) : Type 0 where
+  pub shorter : length left ≤ length part
+  pub suffix : left ≡ drop (length part - length left) part
+  pub told : IfSome whole (λ before. held ≡ Some (before ++ take (length part - length left) part))

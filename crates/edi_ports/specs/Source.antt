@@ -1,0 +1,14 @@
+-- What a take does to a told rest.
+use Rattle.std.specs.Prelude.{◌≡◌, ◌<◌, ◌≤◌, ℕ, List, [], length, take, drop, Option, Some, IfSome}
+use Rattle.edi_ports.specs.declared.source.Taken.{Taken}
+use Rattle.edi_ports.specs.declared.source.Taken.TheVariants.{Got, End, Failed}
+
+-- n octets moved from the front of the rest to the front of the buffer, which isn't left empty; at the end and at a fault the rest stays
+abbrev pub IsTake : Option (List ℕ) → Option (List ℕ) → List ℕ → Taken → Type 0
+IsTake before now buffer (Got n) =
+    (0 < n) × (n ≤ length buffer) × IfSome before (λ rest. (n ≤ length rest) × (take n buffer ≡ take n rest) × (now ≡ Some (drop n rest)))
+IsTake before now buffer End = IfSome before (λ rest. (rest ≡ []) × (now ≡ Some rest))
+IsTake before now buffer Failed = IfSome before (λ rest. now ≡ Some rest)
+
+abbrev pub IsFailedTake : Taken → Type 0
+IsFailedTake taken = taken ≡ Failed

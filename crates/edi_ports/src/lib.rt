@@ -1,0 +1,14 @@
+//! What lies outside: sources that are read, sinks that are written, shelves of files, and objects that stand for them.
+#![tactic(auto)]
+
+mod memory;
+mod read;
+mod shelf;
+mod sink;
+mod source;
+
+pub use memory::{MemSink, MemSource};
+pub use read::{ReadStop, read_all, read_file};
+pub use shelf::{Opened, Shelf, ShelfFile};
+pub use sink::{Put, Sink, put_all};
+pub use source::{Source, Taken};

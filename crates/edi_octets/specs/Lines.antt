@@ -27,9 +27,13 @@ abbrev pub numbered_from : ℕ → List (List ℕ) → List Line
 numbered_from n [] = []
 numbered_from n (octets ∷ parts) = record { number = n; octets = octets } ∷ numbered_from (n + 1) parts
 
+-- the lines of a text, numbered from n
+unfoldable pub lines_from : ℕ → List ℕ → List Line
+lines_from n text = numbered_from n (line_octets (slice_split (λ x. x == 10) text))
+
 -- the lines of a file, numbered from 1
-unfoldable pub lines_of : List ℕ → List Line
-lines_of file = numbered_from 1 (line_octets (slice_split (λ x. x == 10) file))
+abbrev pub lines_of : List ℕ → List Line
+lines_of file = lines_from 1 file
 
 -- the cells of a line: its longest parts without a space, in order
 unfoldable pub cells_of : List ℕ → List (List ℕ)

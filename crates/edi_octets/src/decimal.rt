@@ -1,9 +1,35 @@
 //! Decimal numbers.
 ghost use Rattle.std.specs.Prelude.{◌≡◌, ◌++◌, OnOk, OnErr, decimal};
+ghost use Rattle.std.specs.Str.{all_ascii_digits};
+ghost use Rattle.edi_octets.specs.Decimal.{decimal_in};
 
 use edi_tables::Chunk;
 use itoa::Buffer;
 use std::alloc::AllocError;
+
+/// The most digits that a number read has: so many always fit a `u64`.
+const MOST_DIGITS: usize = 19;
+
+/// The number that 1 to 19 digits give, with leading zeros or without; `None` for any other octets.
+pub fn read_decimal(part: &[u8]) -> Option<u64>
+    ensures { result ≡ decimal_in part.now }
+{
+    if part.is_empty() || part.len() > MOST_DIGITS || !are_digits(part) {
+        return None;
+    }
+    let mut n: u64 = 0;
+    for octet in part {
+        n = n * 10 + u64::from(*octet - b'0');
+    }
+    Some(n)
+}
+
+/// Whether each octet is a digit.
+pub(crate) fn are_digits(part: &[u8]) -> bool
+    ensures { result ≡ all_ascii_digits part.now }
+{
+    part.iter().all(|octet| octet.is_ascii_digit())
+}
 
 /// Puts a number at the end, in decimal without leading zero. Where memory is refused, nothing is put.
 pub fn put_decimal(out: &mut Chunk, n: u64) -> Result<(), AllocError>

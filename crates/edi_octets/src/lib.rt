@@ -1,10 +1,20 @@
 //! Texts as lists of octets, decimal numbers in them, and what all directory files share.
 #![tactic(auto)]
 
+mod cells;
 mod decimal;
 mod fault;
+mod lines;
+mod name;
 mod octets;
+mod profile;
 
-pub use decimal::put_decimal;
+pub use cells::Cells;
+pub use decimal::{put_decimal, read_decimal};
 pub use fault::{DirFault, DirKind, DirStop};
+pub use lines::{LineText, Lines};
+pub use name::is_name;
 pub use octets::{Flat, Octets};
+pub use profile::{
+    after_position, is_composite_code, is_element_code, is_lone_mark, read_repr, read_status,
+};

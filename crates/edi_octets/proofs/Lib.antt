@@ -1,0 +1,4 @@
+pub mod CellLemmas
+pub mod DecimalLemmas
+pub mod LineLemmas
+pub mod ProfileLemmas

@@ -1,0 +1,120 @@
+//! The words of the directory text profile.
+ghost use Rattle.std.specs.Prelude.{◌≡◌, ◌==◌, drop, slice_index, if◌then◌else◌};
+ghost use Rattle.edi_octets.specs.Profile as profile;
+ghost use Rattle.edi_octets.specs.Left.{cells_left};
+
+use crate::cells::Cells;
+use crate::decimal::{are_digits, read_decimal};
+use edi_tables::{Class, Repr};
+
+/// Whether an octet is a mark of the published files: `+`, `*`, `#`, `|` or `X`.
+pub(crate) fn is_mark(octet: u8) -> bool
+    ensures { result ≡ profile.is_mark octet }
+{
+    matches!(octet, b'+' | b'*' | b'#' | b'|' | b'X')
+}
+
+/// Whether a field has ten or more `-` and nothing else.
+pub(crate) fn is_rule(field: &[u8]) -> bool
+    ensures { result ≡ profile.is_rule field.now }
+{
+    field.len() >= 10 && field.iter().all(|octet| *octet == b'-')
+}
+
+/// Whether a field is a single mark.
+pub fn is_lone_mark(field: &[u8]) -> bool
+    ensures { result ≡ profile.is_lone_mark field.now }
+{
+    match field {
+        [octet] => is_mark(*octet),
+        _ => false,
+    }
+}
+
+/// Whether a field is a data element's code: four digits.
+pub fn is_element_code(field: &[u8]) -> bool
+    ensures { result ≡ profile.is_element_code field.now }
+{
+    field.len() == 4 && are_digits(field)
+}
+
+/// Whether a field is a composite's code: `C` and three digits.
+pub fn is_composite_code(field: &[u8]) -> bool
+    ensures { result ≡ profile.is_composite_code field.now }
+{
+    field.len() == 4 && field[0] == b'C' && are_digits(&field[1..])
+}
+
+/// The representation that a field is: `a`, `n` or `an`, perhaps `..`, and a length from 1 to 9999
+/// without leading zero.
+#[tactic(auto, using(crate::proofs::ProfileLemmas::representations))]
+pub fn read_repr(field: &[u8]) -> Option<Repr>
+    ensures { result ≡ profile.repr_in field.now }
+{
+    match field {
+        [b'a', rest @ ..] => read_behind_a(rest),
+        [b'n', rest @ ..] => read_sized(Class::N, rest),
+        _ => None,
+    }
+}
+
+/// The representation that an `a` with this behind it is.
+fn read_behind_a(rest: &[u8]) -> Option<Repr>
+    ensures { result ≡ (if slice_index rest.now 0 == 110 then profile.repr_behind Class.An (drop 1 rest.now) else profile.repr_behind Class.A rest.now) }
+{
+    match rest {
+        [b'n', rest @ ..] => read_sized(Class::An, rest),
+        _ => read_sized(Class::A, rest),
+    }
+}
+
+/// The representation of a class with this behind it: a length, exact where no `..` stands before it.
+fn read_sized(class: Class, rest: &[u8]) -> Option<Repr>
+    ensures { result ≡ profile.repr_behind class rest.now }
+{
+    let (exact, length) = match rest {
+        [b'.', b'.', length @ ..] => (false, length),
+        _ => (true, rest),
+    };
+    let max = read_length(length)?;
+    Some(Repr { class, exact, max })
+}
+
+/// A length: a number from 1 to 9999 without leading zero.
+fn read_length(field: &[u8]) -> Option<u16>
+    ensures { result ≡ profile.length_in field.now }
+{
+    if field.len() > 4 || begins_with_zero(field) {
+        return None;
+    }
+    let length = read_decimal(field)?;
+    Some(length as u16)
+}
+
+fn begins_with_zero(field: &[u8]) -> bool
+    ensures { result ≡ (slice_index field.now 0 == 48) }
+{
+    matches!(field, [b'0', ..])
+}
+
+/// The status that a field is: `M`, which is mandatory (true), or `C`, which is conditional (false).
+pub fn read_status(field: &[u8]) -> Option<bool>
+    ensures { result ≡ profile.status_in field.now }
+{
+    match field {
+        b"M" => Some(true),
+        b"C" => Some(false),
+        _ => None,
+    }
+}
+
+/// The fields behind a position: a mark alone is skipped directly after it.
+pub fn after_position(fields: Cells<'_>) -> Cells<'_>
+    ensures { cells_left result ≡ profile.after_position (cells_left fields.entry) }
+{
+    let mut behind = fields;
+    match behind.next() {
+        Some(field) if is_lone_mark(field) => behind,
+        _ => fields,
+    }
+}

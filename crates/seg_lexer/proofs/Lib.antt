@@ -1,0 +1,6 @@
+pub mod PlacesLemmas
+pub mod ReleasedLemmas
+mod ScanLemmas
+pub mod SegmentsLemmas
+pub mod ServiceLemmas
+mod Worked

@@ -1,0 +1,3 @@
+pub mod Released
+pub mod Segments
+pub mod Service

@@ -1,0 +1,56 @@
+//! Segments, one after another.
+ghost use Rattle.std.specs.Prelude.{◌≡◌, ◌+◌, ◌≤◌, ℕ, length, slice_get, Some};
+ghost use Rattle.seg_lexer.specs.Segments.{IsBoundary, IsLexed, boundaries_of};
+ghost use Rattle.seg_lexer.specs.Service.{service_of};
+
+use crate::LONGEST_TEXT;
+use crate::scan::{find_free, skip_breaks};
+use crate::service::Service;
+use edi_octets::Octets;
+use std::sync::ledger::Ledger;
+use step_counter::Steps;
+
+/// What stands at a boundary of a text.
+#[derive(Clone, Copy, Debug, PartialEq, Eq)]
+pub enum Lexed {
+    /// A segment: its first octet, and its terminator's place.
+    Ended { start: usize, end: usize },
+    /// No terminator follows: the first octet of what is left, CR and LF skipped.
+    Tail { start: usize },
+    /// No terminator follows, and nothing is left but CR and LF.
+    Nothing,
+}
+
+/// The segment that begins at a boundary, which is the body's start or the octet behind a terminator; or else the tail
+/// or nothing. The segments of a text are found by going on from the octet behind each terminator.
+pub fn next_segment<O: Octets, L: Ledger>(
+    text: &O,
+    service: &Service,
+    from: usize,
+    lexed: &mut Steps<L>,
+) -> Lexed
+    requires service { service.now ≡ service_of (O.octets text.now) }
+    requires short { length (O.octets text.now) ≤ LONGEST_TEXT }
+    requires boundary { IsBoundary service.now (O.octets text.now) from }
+    ensures lexed { (k : ℕ) → slice_get (boundaries_of service.now (O.octets text.now)) k ≡ Some from
+        → IsLexed service.now (O.octets text.now) k from result }
+    ensures counted { lexed.new ≡ lexed.old + 1 }
+{
+    lexed.tick();
+    let len = text.len();
+    let terminator = service.terminator;
+    match find_free(text, service.release, terminator, terminator, from, len) {
+        Some(end) => Lexed::Ended {
+            start: skip_breaks(text, from, end),
+            end,
+        },
+        None => {
+            let start = skip_breaks(text, from, len);
+            if start < len {
+                Lexed::Tail { start }
+            } else {
+                Lexed::Nothing
+            }
+        }
+    }
+}

@@ -1,0 +1,15 @@
+use Rattle.std.proofs.Common.{◌≡◌, ℕ, ◌+◌, List, ◌++◌, length, take, drop, sum_by}
+use Rattle.std.proofs.Math.Seq.{take-append-add, drop-append-add}
+use Rattle.std.proofs.lemmas.List.Sums.{sum_by-append}
+
+-- past the end of `xs`, the first items of `xs ++ ys` are those of `xs` and then the first of `ys`
+pub take_right : {X : Type 0} (xs ys : List X) (n i : ℕ) → n ≡ length xs + i → take n (xs ++ ys) ≡ xs ++ take i ys
+take_right xs ys n i e = rw e (take-append-add xs ys i)
+
+-- past the end of `xs`, the items that are left of `xs ++ ys` are those that are left of `ys`
+pub drop_right : {X : Type 0} (xs ys : List X) (n i : ℕ) → n ≡ length xs + i → drop n (xs ++ ys) ≡ drop i ys
+drop_right xs ys n i e = rw e (drop-append-add xs ys i)
+
+-- the same for the weights of the first items
+pub sum_by_take_right : {X : Type 0} (m : X → ℕ) (xs ys : List X) (n i : ℕ) → n ≡ length xs + i → sum_by m (take n (xs ++ ys)) ≡ sum_by m xs + sum_by m (take i ys)
+sum_by_take_right m xs ys n i e = rw (take_right xs ys n i e) (sum_by-append m xs (take i ys))

@@ -1,0 +1,22 @@
+use Rattle.std.proofs.Common.{◌≡◌, ℕ, ◌<◌, ◌≤◌, List, [], ◌∷◌, take, sum, insert, refl, lit<, lit≤}
+use Rattle.seq_tree.specs.Shape.{FillsHeight}
+
+-- the items 5, 6, 7, each of which weighs itself
+abbrev row : List ℕ
+row = 5 ∷ 6 ∷ 7 ∷ []
+
+-- the first two weigh 11
+pub before_two : sum (take 2 row) ≡ 11
+before_two = refl
+
+-- the place of weight 5 is 1: the first item weighs no more than that, the first two do
+pub find_five : (sum (take 1 row) ≤ 5) × (5 < sum (take 2 row))
+find_five = (lit≤ tt, lit< tt)
+
+-- an item put at the end
+pub insert_last : insert row 3 8 ≡ 5 ∷ 6 ∷ 7 ∷ 8 ∷ []
+insert_last = refl
+
+-- the smallest balanced tree of height 3 has 5 leaves, 3 and 2
+pub height_three : FillsHeight 3 5
+height_three = lit≤ tt

@@ -1,0 +1,3 @@
+pub mod Shape
+pub mod Tree
+pub mod Seq

@@ -1,0 +1,13 @@
+//! A sequence of weighed items whose versions share what they have in common: a tree of nodes held by `Rc`, balanced by height.
+#![tactic(auto)]
+
+mod join;
+mod look;
+mod measure;
+mod sequence;
+#[cfg(test)]
+mod tests;
+mod tree;
+
+pub use measure::Measured;
+pub use sequence::Seq;

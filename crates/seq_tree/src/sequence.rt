@@ -1,0 +1,216 @@
+//! The sequence that callers see: a list of weighed items, of which an edit makes a new version.
+
+ghost use Rattle.std.specs.Prelude.{◌≡◌, ℕ, ◌+◌, ◌*◌, ◌^◌, ◌<◌, ◌≤◌, [], ◌++◌, length, take, drop, insert, sum_by, slice_get, Some, IfOk, vec_len};
+
+use crate::join;
+use crate::measure::Measured;
+use crate::tree::{Node, Tree};
+use std::alloc::{AllocError, Global};
+use std::marker::Model;
+use std::rc::Rc;
+use std::sync::ledger::Ledger;
+use step_counter::Steps;
+
+/// Weighed items in order, fewer than 2^32 of them, seen as their list.
+///
+/// A call that edits makes a new version and leaves the old one as it was: the two share their nodes, and no item is cloned.
+/// So after an error each version is still what it was.
+pub struct Seq<T: Measured> {
+    root: Option<Rc<Tree<T>>>,
+}
+
+impl<T: Measured> Model for Seq<T> {
+    ghost use Rattle.std.specs.Prelude.{List};
+
+    ghost Value = { List T };
+
+    ghost use Rattle.seq_tree.specs.Seq.{root_items};
+
+    ghost view = { λ s. root_items s.root };
+}
+
+// Written by hand so that a drop is one call to its caller's proof, and no case of the root.
+impl<T: Measured> Drop for Seq<T> {
+    fn drop(self) {
+        let Seq { root } = self;
+        drop(root);
+    }
+}
+
+impl<T: Measured> Seq<T> {
+    /// A sequence of these items, in their order. After an error they are dropped.
+    pub fn of_items(alloc: Global, mut items: Vec<T>) -> Result<Seq<T>, AllocError>
+        requires { length items.items < 2 ^ 32 }
+        ensures { IfOk result (λ s. s ≡ items.items) }
+    {
+        let n = items.len() as u32;
+        if n == 0 {
+            return Ok(Seq { root: None });
+        }
+        let root = build(alloc, &mut items, n)?;
+        Ok(Seq { root: Some(root) })
+    }
+
+    /// The same version once more. It takes no memory: the error is that of an `Rc` whose count is full.
+    pub fn share(&self) -> Result<Seq<T>, AllocError>
+        ensures { IfOk result (λ s. s ≡ self.now) }
+    {
+        match &self.root {
+            None => Ok(Seq { root: None }),
+            Some(root) => Seq::sharing(root),
+        }
+    }
+
+    /// How many items there are.
+    pub fn len(&self) -> usize
+        ensures { result ≡ length self.now }
+    {
+        match &self.root {
+            None => 0,
+            Some(root) => root.len() as usize,
+        }
+    }
+
+    /// The sum of all weights.
+    pub fn total(&self) -> u64
+        ensures { result ≡ sum_by T.measure self.now }
+    {
+        match &self.root {
+            None => 0,
+            Some(root) => root.total(),
+        }
+    }
+
+    /// The item at place `i`, counted from 0. Each node that is visited counts once.
+    pub fn at<L: Ledger>(&self, i: usize, visited: &mut Steps<L>) -> &T
+        requires within { i < length self.now }
+        ensures is { slice_get self.now i ≡ Some result.now }
+        ensures cost { (b : ℕ) → length self.now < 2 ^ b → visited.new ≤ visited.old + (2 * b + 2) }
+    {
+        match &self.root {
+            None => unreachable!(),
+            Some(root) => root.at(i, visited),
+        }
+    }
+
+    /// The sum of the first `i` weights. Each node that is visited counts once.
+    pub fn before<L: Ledger>(&self, i: usize, visited: &mut Steps<L>) -> u64
+        requires within { i ≤ length self.now }
+        ensures is { result ≡ sum_by T.measure (take i self.now) }
+        ensures cost { (b : ℕ) → length self.now < 2 ^ b → visited.new ≤ visited.old + (2 * b + 2) }
+    {
+        match &self.root {
+            None => 0,
+            Some(root) => root.before(i, visited),
+        }
+    }
+
+    /// The first place up to which, its own item included, the items weigh more than `bound`. Each node that is visited counts
+    /// once.
+    pub fn find<L: Ledger>(&self, bound: u64, visited: &mut Steps<L>) -> usize
+        requires below { bound < sum_by T.measure self.now }
+        ensures within { result < length self.now }
+        ensures not_past { sum_by T.measure (take result self.now) ≤ bound }
+        ensures far_enough { bound < sum_by T.measure (take (result + 1) self.now) }
+        ensures cost { (b : ℕ) → length self.now < 2 ^ b → visited.new ≤ visited.old + (2 * b + 2) }
+    {
+        match &self.root {
+            None => unreachable!(),
+            Some(root) => root.find(bound, visited),
+        }
+    }
+
+    /// The version in which this item stands at place `i` and those from there on follow it. After an error the item is dropped.
+    pub fn insert(&self, alloc: Global, i: usize, item: T) -> Result<Seq<T>, AllocError>
+        requires within { i ≤ length self.now }
+        requires fits { length self.now + 1 < 2 ^ 32 }
+        ensures { IfOk result (λ s. s ≡ insert self.now i item) }
+    {
+        let leaf = Tree::leaf(alloc, item)?;
+        let (front, back) = self.cut(alloc, i)?;
+        let front = front.join(alloc, &Seq { root: Some(leaf) })?;
+        front.join(alloc, &back)
+    }
+
+    /// The first `i` items, and the others.
+    pub fn cut(&self, alloc: Global, i: usize) -> Result<(Seq<T>, Seq<T>), AllocError>
+        requires within { i ≤ length self.now }
+        ensures { IfOk result (λ p. (p.0 ≡ take i self.now) × (p.1 ≡ drop i self.now)) }
+    {
+        match &self.root {
+            None => Ok((Seq { root: None }, Seq { root: None })),
+            Some(root) => cut_tree(alloc, root, i),
+        }
+    }
+
+    /// These items and then those of `other`.
+    pub fn join(&self, alloc: Global, other: &Seq<T>) -> Result<Seq<T>, AllocError>
+        requires fits { length self.now + length other.now < 2 ^ 32 }
+        ensures { IfOk result (λ s. s ≡ self.now ++ other.now) }
+    {
+        match (&self.root, &other.root) {
+            (None, _) => other.share(),
+            (_, None) => self.share(),
+            (Some(left), Some(right)) => {
+                let root = join::join(alloc, left, right)?;
+                Ok(Seq { root: Some(root) })
+            }
+        }
+    }
+
+    /// The items of this tree, which is shared.
+    fn sharing(tree: &Rc<Tree<T>>) -> Result<Seq<T>, AllocError>
+        ensures { IfOk result (λ s. s ≡ tree.now.value.0) }
+    {
+        let root = tree.clone()?;
+        Ok(Seq { root: Some(root) })
+    }
+}
+
+/// A tree of the last `n` items, which are taken off. Each fork has as many on its right side as on its left, or one fewer.
+fn build<T: Measured>(alloc: Global, items: &mut Vec<T>, n: u32) -> Result<Rc<Tree<T>>, AllocError>
+    requires some { 0 < n }
+    requires enough { n ≤ vec_len items.old }
+    ensures taken { IfOk result (λ t. items.new.items ++ t.value.0 ≡ items.old.items) }
+    ensures count { IfOk result (λ t. length t.value.0 ≡ n) }
+{
+    if n == 1 {
+        return Tree::leaf(alloc, items.pop().unwrap());
+    }
+    let right = build(alloc, items, n / 2)?;
+    let left = build(alloc, items, n - n / 2)?;
+    join::join(alloc, &left, &right)
+}
+
+/// The first `i` items of a tree and the others.
+#[tactic(auto, using(crate::proofs::Parts::take_right, crate::proofs::Parts::drop_right))]
+fn cut_tree<T: Measured>(
+    alloc: Global,
+    tree: &Rc<Tree<T>>,
+    i: usize,
+) -> Result<(Seq<T>, Seq<T>), AllocError>
+    requires within { i ≤ length tree.now.value.0 }
+    ensures { IfOk result (λ p. (p.0 ≡ take i tree.now.value.0) × (p.1 ≡ drop i tree.now.value.0)) }
+{
+    if i == 0 {
+        return Ok((Seq { root: None }, Seq::sharing(tree)?));
+    }
+    if i == tree.len() as usize {
+        return Ok((Seq::sharing(tree)?, Seq { root: None }));
+    }
+    let open: &Tree<T> = tree;
+    match &open.node {
+        Node::Leaf(_) => unreachable!(),
+        Node::Fork(left, left_len, _, right) => {
+            if i < *left_len as usize {
+                let (front, middle) = cut_tree(alloc, left, i)?;
+                let back = middle.join(alloc, &Seq::sharing(right)?)?;
+                Ok((front, back))
+            } else {
+                let (middle, back) = cut_tree(alloc, right, i - *left_len as usize)?;
+                let front = Seq::sharing(left)?.join(alloc, &middle)?;
+                Ok((front, back))
+            }
+        }
+    }
+}

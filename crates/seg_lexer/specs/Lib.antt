@@ -1,3 +1,7 @@
+pub mod Fields
+pub mod Parts
+pub mod Place
 pub mod Released
 pub mod Segments
 pub mod Service
+pub mod Value

@@ -1,5 +1,5 @@
 -- Fields of a segment (ISO 9735): elements parted by unreleased element separators, and their components by unreleased component separators. All of it is said over a segment's own octets.
-use Rattle.std.specs.Prelude.{ℕ, ◌+◌, ◌-◌, ◌≢◌, Bool, not, ◌&&◌, ◌==◌, List, [], ◌∷◌, ◌++◌, length, map, filter, slice_index, slice_range, Option}
+use Rattle.std.specs.Prelude.{◌≤◌, ⊤, ℕ, ◌+◌, ◌-◌, ◌≢◌, Bool, not, ◌&&◌, ◌==◌, List, [], ◌∷◌, ◌++◌, length, map, filter, slice_index, slice_range, Option}
 use Rattle.std.specs.List.{enumerate_from, flat_map, range_with_len}
 use Rattle.std.specs.Option.{ForSome}
 use Rattle.seg_lexer.specs.Released.{is_release, is_released}
@@ -80,3 +80,8 @@ fields_after release inner xs c (p ∷ ps) =
 unfoldable pub fields_from : Option ℕ → ℕ → ℕ → List ℕ → ℕ → ℕ → ℕ → List Field
 fields_from release separator inner xs element c a =
     fields_after release inner xs c (enumerate_from element (cut release xs separator a (length xs)))
+
+-- the elements of these components never fall, and none is below n
+abbrev pub IsInOrder : ℕ → List Entry → Type 0
+IsInOrder n [] = ⊤
+IsInOrder n (e ∷ es) = (n ≤ e.element) × IsInOrder e.element es

@@ -5,3 +5,4 @@ pub mod Released
 pub mod Segments
 pub mod Service
 pub mod Value
+pub mod Tag

@@ -5,11 +5,13 @@ mod parts;
 mod scan;
 mod segment;
 mod service;
+mod tag;
 mod value;
 
 pub use parts::{Fields, Part};
 pub use segment::{Lexed, fields, next_segment};
 pub use service::{Service, read_service};
+pub use tag::read_tag;
 pub use value::{Value, ValueOctets};
 
 /// The most octets that a text may have, by this project's own limit.

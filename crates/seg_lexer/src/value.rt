@@ -1,5 +1,5 @@
 //! Values of components, and a cursor over the octets of one.
-ghost use Rattle.std.specs.Prelude.{List, [], ◌∷◌, ◌≡◌, ◌+◌, ◌<◌, ◌≤◌, ◌^◌, ◌↔◌, ℕ, IsTrue, MatchOption, length, slice_index, slice_range};
+ghost use Rattle.std.specs.Prelude.{List, [], ◌∷◌, ◌≡◌, ◌+◌, ◌<◌, ◌≤◌, ◌^◌, ◌↔◌, ◌==◌, ℕ, IsTrue, MatchOption, length, slice_index, slice_range};
 ghost use Rattle.std.specs.Iterator.{YieldsFirst, item_count};
 ghost use Rattle.seg_lexer.specs.Fields.{value_of};
 ghost use Rattle.seg_lexer.specs.Released.{is_release as is_release_of};
@@ -70,7 +70,7 @@ impl<'a, O: Octets> Value<'a, O> {
 
     /// Whether it has no octet.
     pub fn is_empty(&self) -> bool
-        ensures { IsTrue result ↔ (octets_of self.now ≡ []) }
+        ensures { result ≡ (length (octets_of self.now) == 0) }
     {
         self.octets().next().is_none()
     }

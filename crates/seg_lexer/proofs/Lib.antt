@@ -1,6 +1,13 @@
+mod CountLemmas
+mod CutLemmas
+pub mod FieldsLemmas
+pub mod OrderLemmas
+mod PartsLemmas
 pub mod PlacesLemmas
 pub mod ReleasedLemmas
 mod ScanLemmas
 pub mod SegmentsLemmas
 pub mod ServiceLemmas
+mod TagLemmas
+pub mod ValueLemmas
 mod Worked

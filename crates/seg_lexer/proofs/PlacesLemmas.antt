@@ -1,9 +1,10 @@
 -- The places of a range that pass a test.
-use Rattle.std.proofs.Common.{◌≡◌, ℕ, zero, suc, ◌+◌, ◌<◌, ◌≤◌, ◌⊎◌, Bool, true, false, List, [], ◌∷◌, Option, Some, None, refl, sym, ap, ◌∙◌, subst, inl, inr, arith}
+use Rattle.std.proofs.Common.{◌≡◌, ℕ, zero, suc, ◌+◌, ◌-◌, ◌<◌, ◌≤◌, ◌⊎◌, Bool, true, false, cond, List, [], ◌∷◌, length, Option, Some, None, refl, sym, ap, ◌∙◌, subst, inl, inr, arith}
 use Rattle.std.specs.List.{filter, range_with_len, slice_get}
 use Rattle.std.specs.Prelude.{map}
-use Rattle.std.proofs.lemmas.Bool.{cases_Bool, cond-true, cond-false, both_ways}
-use Rattle.memchr.specs.Find.{IsFirst}
+use Rattle.std.proofs.lemmas.Bool.{cond_both, false_from_ne_true, cases_Bool, cond-true, cond-false, both_ways}
+use Rattle.memchr.specs.Find.{IsFirst, Nowhere}
+use Rattle.seg_lexer.specs.Fields.{places_that}
 
 -- place `from` is the range's start, or stands behind a place of it that passes
 pub record IsStart (p : ℕ → Bool) (a n from : ℕ) : Type 0 where
@@ -16,10 +17,10 @@ abbrev pub starts_of : (ℕ → Bool) → ℕ → ℕ → List ℕ
 starts_of p a n = a ∷ map (λ e. e + 1) (filter p (range_with_len a n))
 
 module _ (p : ℕ → Bool) (a n : ℕ) where
-  filter-pass : p a ≡ true → filter p (range_with_len a (suc n)) ≡ a ∷ filter p (range_with_len (a + 1) n)
+  pub filter-pass : p a ≡ true → filter p (range_with_len a (suc n)) ≡ a ∷ filter p (range_with_len (a + 1) n)
   filter-pass h = cond-true (p a) _ _ h
 
-  filter-fail : p a ≡ false → filter p (range_with_len a (suc n)) ≡ filter p (range_with_len (a + 1) n)
+  pub filter-fail : p a ≡ false → filter p (range_with_len a (suc n)) ≡ filter p (range_with_len (a + 1) n)
   filter-fail h = cond-false (p a) _ _ h
 
 -- what holds of the first, and of each later one, holds of a member
@@ -109,3 +110,87 @@ end-at p a (suc n) k from r h first =
       | inl passes ↦ ap (λ (zs : List ℕ). slice_get zs k) (filter-pass p a n passes) ∙ end-pass p a n r xs later k from passes (start _ (filter-pass p a n passes)) first
       | inr fails ↦ ap (λ (zs : List ℕ). slice_get zs k) (filter-fail p a n fails) ∙ end-fail p a n r xs later k from fails (start _ (filter-fail p a n fails)) first
     ]
+
+map-cond : (f : ℕ → ℕ) (b : Bool) (x : ℕ) (xs : List ℕ) → map f (cond b (x ∷ xs) xs) ≡ cond b (f x ∷ map f xs) (map f xs)
+map-cond f true x xs = refl
+map-cond f false x xs = refl
+
+-- two tests that agree on a range keep the same places of it
+pub filter-agree : (p q : ℕ → Bool) (a n : ℕ) → ((i : ℕ) → a ≤ i → i < a + n → p i ≡ q i) → filter p (range_with_len a n) ≡ filter q (range_with_len a n)
+filter-agree p q a zero same = refl
+filter-agree p q a (suc n) same =
+    ap (λ (b : Bool). cond b (a ∷ filter p (range_with_len (a + 1) n)) (filter p (range_with_len (a + 1) n))) (same a (omega arith) (omega arith))
+    ∙ ap (λ (xs : List ℕ). cond (q a) (a ∷ xs) xs) (filter-agree p q (a + 1) n (λ i low high. same i (omega arith) (omega arith)))
+
+-- what f gives at a place is what g gives at that place moved by a, and so is the test
+pub record IsMoved (f g : ℕ → ℕ) (p q : ℕ → Bool) (a j n : ℕ) : Type 0 where
+  pub value : (i : ℕ) → j ≤ i → i < j + n → f i ≡ g (a + i)
+  pub test : (i : ℕ) → j ≤ i → i < j + n → p i ≡ q (a + i)
+
+-- the same values stand at the places that pass, once these are moved
+pub map-filter-moved : (f g : ℕ → ℕ) (p q : ℕ → Bool) (a j n : ℕ) → IsMoved f g p q a j n → map f (filter p (range_with_len j n)) ≡ map g (filter q (range_with_len (a + j) n))
+map-filter-moved f g p q a j zero moved = refl
+map-filter-moved f g p q a j (suc n) moved =
+    let next : a + (j + 1) ≡ a + j + 1 = omega arith in
+    let later : map f (filter p (range_with_len (j + 1) n)) ≡ map g (filter q (range_with_len (a + j + 1) n)) =
+    map-filter-moved f g p q a (j + 1) n (record { value = λ i low high. moved.value i (omega arith) (omega arith); test = λ i low high. moved.test i (omega arith) (omega arith) })
+    ∙ ap (λ (k : ℕ). map g (filter q (range_with_len k n))) next in
+    map-cond f (p j) j (filter p (range_with_len (j + 1) n))
+    ∙ (ap (λ (b : Bool). cond b (f j ∷ map f (filter p (range_with_len (j + 1) n))) (map f (filter p (range_with_len (j + 1) n)))) (moved.test j (omega arith) (omega arith))
+    ∙ (ap (λ (x : ℕ). cond (q (a + j)) (x ∷ map f (filter p (range_with_len (j + 1) n))) (map f (filter p (range_with_len (j + 1) n)))) (moved.value j (omega arith) (omega arith))
+    ∙ (ap (λ (xs : List ℕ). cond (q (a + j)) (g (a + j) ∷ xs) xs) later ∙ sym (map-cond g (q (a + j)) (a + j) (filter q (range_with_len (a + j + 1) n))))))
+
+-- a filter keeps no more than there is
+pub length-filter-le : (p : ℕ → Bool) (xs : List ℕ) → length (filter p xs) ≤ length xs
+length-filter-le p [] = omega arith
+length-filter-le p (x ∷ xs) =
+    let le : length (filter p xs) ≤ length xs = length-filter-le p xs in
+    cond_both (p x) (x ∷ filter p xs) (filter p xs) (λ (ys : List ℕ). length ys ≤ suc (length xs)) (λ _. omega arith) (λ _. omega arith)
+
+-- places that don't pass may be left out in front
+pub filter-later : (p : ℕ → Bool) (a n m : ℕ) → Nowhere (λ i. p i ≡ true) a (a + n) → filter p (range_with_len a (n + m)) ≡ filter p (range_with_len (a + n) m)
+filter-later p a zero m none =
+    let less : zero + m ≡ m = omega arith in
+    let same : a + zero ≡ a = omega arith in
+    ap (λ (k : ℕ). filter p (range_with_len a k)) less ∙ sym (ap (λ (j : ℕ). filter p (range_with_len j m)) same)
+filter-later p a (suc n) m none =
+    let one : suc n + m ≡ suc (n + m) = omega arith in
+    let next : a + 1 + n ≡ a + suc n = omega arith in
+    ap (λ (k : ℕ). filter p (range_with_len a k)) one
+    ∙ (filter-fail p a (n + m) (false_from_ne_true (p a) (none a (omega arith) (omega arith)))
+    ∙ (filter-later p (a + 1) n m (λ k low high. none k (omega arith) (omega arith)) ∙ ap (λ (j : ℕ). filter p (range_with_len j m)) next))
+
+module _ (p : ℕ → Bool) (a b : ℕ) where
+  unfolded : places_that p a b ≡ filter p (range_with_len a (b - a))
+  unfolding places_that
+  unfolded = refl
+
+  -- none passes
+  pub places_that-none : Nowhere (λ i. p i ≡ true) a b → places_that p a b ≡ []
+  places_that-none none =
+      let all : b - a ≡ (b - a) + 0 = omega arith in
+      unfolded ∙ (ap (λ (n : ℕ). filter p (range_with_len a n)) all ∙ filter-later p a (b - a) 0 (λ k low high. none k low (omega arith)))
+
+-- the first that passes lies in the range
+pub places_that-within : (p : ℕ → Bool) (a b k : ℕ) → slice_get (places_that p a b) 0 ≡ Some k → a ≤ k
+places_that-within p a b k found = (filtered-at p a (b - a) 0 k (sym (ap (λ (xs : List ℕ). slice_get xs 0) (unfolded p a b)) ∙ found)).1
+
+module _ (p : ℕ → Bool) (a j b : ℕ) (low : a ≤ j) where
+  -- none passes before place j
+  pub places_that-later : j ≤ b → Nowhere (λ i. p i ≡ true) a j → places_that p a b ≡ places_that p j b
+  places_that-later high none =
+      let all : b - a ≡ (j - a) + (b - j) = omega arith in
+      let to : a + (j - a) ≡ j = omega arith in
+      unfolded p a b
+      ∙ (ap (λ (n : ℕ). filter p (range_with_len a n)) all
+      ∙ (filter-later p a (j - a) (b - j) (λ k low high. none k low (omega arith))
+      ∙ (ap (λ (i : ℕ). filter p (range_with_len i (b - j))) to ∙ sym (unfolded p j b))))
+
+  -- place j is the first that passes
+  pub places_that-first : j < b → Nowhere (λ i. p i ≡ true) a j → p j ≡ true → places_that p a b ≡ j ∷ places_that p (j + 1) b
+  places_that-first high none passes =
+      let one : b - j ≡ suc (b - (j + 1)) = omega arith in
+      places_that-later (omega arith) none
+      ∙ (unfolded p j b
+      ∙ (ap (λ (n : ℕ). filter p (range_with_len j n)) one
+      ∙ (filter-pass p j (b - (j + 1)) passes ∙ ap (λ (xs : List ℕ). j ∷ xs) (sym (unfolded p (j + 1) b)))))

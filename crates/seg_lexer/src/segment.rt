@@ -1,9 +1,12 @@
 //! Segments, one after another.
-ghost use Rattle.std.specs.Prelude.{◌≡◌, ◌+◌, ◌≤◌, ℕ, length, slice_get, Some};
+ghost use Rattle.std.specs.Prelude.{◌≡◌, ◌+◌, ◌-◌, ◌≤◌, ℕ, Some, length, map, slice_get, slice_range};
+ghost use Rattle.seg_lexer.specs.Fields.{IsInOrder, entries_of, fields_of, placed};
+ghost use Rattle.seg_lexer.specs.Parts.{entries_left, fields_left};
 ghost use Rattle.seg_lexer.specs.Segments.{IsBoundary, IsLexed, boundaries_of};
 ghost use Rattle.seg_lexer.specs.Service.{service_of};
 
 use crate::LONGEST_TEXT;
+use crate::parts::Fields;
 use crate::scan::{find_free, skip_breaks};
 use crate::service::Service;
 use edi_octets::Octets;
@@ -53,4 +56,26 @@ pub fn next_segment<O: Octets, L: Ledger>(
             }
         }
     }
+}
+
+/// The components of the segment `start..end`, in order, empty ones too: those of the tag field, which is element 0, and
+/// then those of each element.
+pub fn fields<'a, O: Octets>(
+    text: &'a O,
+    service: &Service,
+    start: usize,
+    end: usize,
+) -> Fields<'a, O>
+    requires service { service.now ≡ service_of (O.octets text.now) }
+    requires short { length (O.octets text.now) ≤ LONGEST_TEXT }
+    requires ordered { start ≤ end }
+    requires within { end ≤ length (O.octets text.now) }
+    ensures fields { let segment = slice_range (O.octets text.now) start end in
+        fields_left result ≡ map (placed start) (fields_of service.now.release service.now.element service.now.component segment) }
+    ensures entries { let segment = slice_range (O.octets text.now) start end in
+        entries_left result ≡ entries_of service.now.release service.now.element service.now.component segment }
+    ensures in_order { IsInOrder 0 (entries_left result) }
+    ensures few { length (fields_left result) ≤ end - start + 1 }
+{
+    Fields::new(text, service, start, end)
 }

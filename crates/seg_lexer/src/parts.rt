@@ -1,0 +1,170 @@
+//! The components of a segment, one after another.
+ghost use Rattle.std.specs.Prelude.{Some, ◌≡◌, ◌∷◌, ◌-◌, ◌≤◌, length, slice_range};
+ghost use Rattle.std.specs.Option.{ForSome};
+ghost use Rattle.seg_lexer.specs.Fields.{AreApart, field_of};
+ghost use Rattle.seg_lexer.specs.Place.{IsPlace, rest_of};
+ghost use Rattle.seg_lexer.specs.declared.TheConstants.{LONGEST_TEXT};
+
+use crate::scan::find_free;
+use crate::service::Service;
+use crate::value::Value;
+use edi_octets::Octets;
+use std::alloc::AllocError;
+
+/// A component of a segment: the number of its element, which is 0 for the tag field, its own number, from 1 in each
+/// element, and its value.
+#[derive_where(Clone, Copy, Debug)]
+pub struct Part<'a, O: Octets> {
+    pub element: u32,
+    pub component: u32,
+    pub value: Value<'a, O>,
+}
+
+/// Where a component begins, counted from the segment's first octet, and its numbers.
+#[derive(Clone, Copy, Debug)]
+struct Place {
+    at: usize,
+    element: u32,
+    component: u32,
+}
+
+/// Where a component ends, and where the next one begins if there is one.
+#[derive(Clone, Copy)]
+struct Cut {
+    stop: usize,
+    next: Option<Place>,
+}
+
+/// The components of a segment that are left, in order, empty ones too. A copy goes on by itself.
+#[derive_where(Debug)]
+pub struct Fields<'a, O: Octets> {
+    #[derive_where(skip)]
+    text: &'a O,
+    release: Option<u8>,
+    element_separator: u8,
+    component_separator: u8,
+    start: usize,
+    end: usize,
+    place: Option<Place>,
+    ghost apart: { AreApart release element_separator component_separator },
+    ghost ordered: { start ≤ end },
+    ghost within: { end ≤ length (O.octets text.now) },
+    ghost short: { length (O.octets text.now) ≤ LONGEST_TEXT },
+    ghost here: { ForSome place (IsPlace release (slice_range (O.octets text.now) start end)) },
+}
+
+impl<O: Octets> Clone for Fields<'_, O> {
+    fn clone(&self) -> Result<Self, AllocError> {
+        Ok(*self)
+    }
+}
+
+impl<O: Octets> Copy for Fields<'_, O> {}
+
+impl<'a, O: Octets> Fields<'a, O> {
+    ghost use Rattle.std.specs.Prelude.{map};
+    ghost use Rattle.seg_lexer.specs.Fields.{fields_of, placed};
+    ghost use Rattle.seg_lexer.specs.Parts.{fields_left};
+
+    /// The components of the segment `start..end` of a text.
+    pub fn new(text: &'a O, service: &Service, start: usize, end: usize) -> Fields<'a, O>
+        requires apart { AreApart service.now.release service.now.element service.now.component }
+        requires ordered { start ≤ end }
+        requires within { end ≤ length (O.octets text.now) }
+        requires short { length (O.octets text.now) ≤ LONGEST_TEXT }
+        ensures { let segment = slice_range (O.octets text.now) start end in
+            fields_left result ≡ map (placed start) (fields_of service.now.release service.now.element service.now.component segment) }
+    {
+        let first = Place {
+            at: 0,
+            element: 0,
+            component: 1,
+        };
+        Fields {
+            text,
+            release: service.release,
+            element_separator: service.element,
+            component_separator: service.component,
+            start,
+            end,
+            place: Some(first),
+        }
+    }
+
+    /// Cuts off the component that is next.
+    fn cut(&self, place: Place) -> Cut
+        requires { self.now.place ≡ Some place }
+        ensures stop { (place.at ≤ result.stop) × (result.stop ≤ self.now.end - self.now.start) }
+        ensures next { ForSome result.next (IsPlace self.now.release (slice_range (O.octets self.now.text.now) self.now.start self.now.end)) }
+        ensures rest { let xs = slice_range (O.octets self.now.text.now) self.now.start self.now.end in
+            rest_of self.now.release self.now.element_separator self.now.component_separator xs (Some place)
+            ≡ field_of self.now.release xs place.element (place.component, (place.at, result.stop))
+            ∷ rest_of self.now.release self.now.element_separator self.now.component_separator xs result.next }
+    {
+        let from = self.start + place.at;
+        let separators = (self.element_separator, self.component_separator);
+        match find_free(
+            self.text,
+            self.release,
+            separators.0,
+            separators.1,
+            from,
+            self.end,
+        ) {
+            None => Cut {
+                stop: self.end - self.start,
+                next: None,
+            },
+            Some(found) => {
+                let stop = found - self.start;
+                if self.text.octet(found) == self.element_separator {
+                    let next = Place {
+                        at: stop + 1,
+                        element: place.element + 1,
+                        component: 1,
+                    };
+                    return Cut {
+                        stop,
+                        next: Some(next),
+                    };
+                }
+                let next = Place {
+                    at: stop + 1,
+                    element: place.element,
+                    component: place.component + 1,
+                };
+                Cut {
+                    stop,
+                    next: Some(next),
+                }
+            }
+        }
+    }
+}
+
+impl<'a, O: Octets> Iterator for Fields<'a, O> {
+    type Item = Part<'a, O>;
+
+    ghost use Rattle.std.specs.Iterator.{YieldsFirstBy, item_count};
+    ghost use Rattle.seg_lexer.specs.Parts.{field_in, fields_left};
+
+    ghost next_gives = { YieldsFirstBy field_in fields_left };
+
+    ghost remaining = { item_count fields_left };
+
+    fn next(&mut self) -> Option<Part<'a, O>> {
+        let place = self.place?;
+        let cut = self.cut(place);
+        self.place = cut.next;
+        Some(Part {
+            element: place.element,
+            component: place.component,
+            value: Value::new(
+                self.text,
+                self.release,
+                self.start + place.at,
+                self.start + cut.stop,
+            ),
+        })
+    }
+}

@@ -1,0 +1,179 @@
+//! Values of components, and a cursor over the octets of one.
+ghost use Rattle.std.specs.Prelude.{List, [], ◌∷◌, ◌≡◌, ◌+◌, ◌<◌, ◌≤◌, ◌^◌, ◌↔◌, ◌==◌, ℕ, IsTrue, MatchOption, length, slice_index, slice_range};
+ghost use Rattle.std.specs.Iterator.{YieldsFirst, item_count};
+ghost use Rattle.seg_lexer.specs.Fields.{value_of};
+ghost use Rattle.seg_lexer.specs.Released.{is_release as is_release_of};
+
+use edi_octets::Octets;
+use std::alloc::AllocError;
+use std::marker::Model;
+
+/// The value of a component: its octets without the release characters that release the octet behind them. It lends
+/// them from the text and copies none.
+#[derive_where(Debug)]
+pub struct Value<'a, O: Octets> {
+    #[derive_where(skip)]
+    text: &'a O,
+    release: Option<u8>,
+    from: usize,
+    to: usize,
+    ghost ordered: { from ≤ to },
+    ghost within: { to ≤ length (O.octets text.now) },
+    ghost fits: { to < 2 ^ 64 },
+}
+
+impl<O: Octets> Clone for Value<'_, O> {
+    fn clone(&self) -> Result<Self, AllocError> {
+        Ok(*self)
+    }
+}
+
+impl<O: Octets> Copy for Value<'_, O> {}
+
+impl<'a, O: Octets> Value<'a, O> {
+    ghost use Rattle.seg_lexer.specs.Value.{octets_of, span_of};
+
+    /// The value of the component `from..to` of a text.
+    pub fn new(text: &'a O, release: Option<u8>, from: usize, to: usize) -> Value<'a, O>
+        requires ordered { from ≤ to }
+        requires within { to ≤ length (O.octets text.now) }
+        ensures octets { octets_of result ≡ value_of release (slice_range (O.octets text.now) from to) }
+        ensures span { span_of result ≡ (from, to) }
+    {
+        Value {
+            text,
+            release,
+            from,
+            to,
+        }
+    }
+
+    /// Its octets, one after another.
+    pub fn octets(&self) -> ValueOctets<'a, O>
+        ensures value { result ≡ octets_of self.now }
+        ensures few { length result < 2 ^ 64 }
+    {
+        ValueOctets {
+            text: self.text,
+            release: self.release,
+            at: self.from,
+            to: self.to,
+        }
+    }
+
+    /// How many octets it has. This goes over all of them.
+    pub fn len(&self) -> usize
+        ensures { result ≡ length (octets_of self.now) }
+    {
+        self.octets().count()
+    }
+
+    /// Whether it has no octet.
+    pub fn is_empty(&self) -> bool
+        ensures { result ≡ (length (octets_of self.now) == 0) }
+    {
+        self.octets().next().is_none()
+    }
+
+    /// The octet at a place in it. This goes over all before it: use `octets` for one after another.
+    pub fn octet(&self, i: usize) -> u8
+        requires { i < length (octets_of self.now) }
+        ensures { result ≡ slice_index (octets_of self.now) i }
+    {
+        self.octets().nth(i).unwrap()
+    }
+
+    /// Whether its octets are these.
+    pub fn is(&self, other: &[u8]) -> bool
+        ensures { IsTrue result ↔ (octets_of self.now ≡ other.now) }
+    {
+        let mut rest = other;
+        for octet in self.octets() {
+            match rest {
+                [first, later @ ..] if *first == octet => rest = later,
+                _ => return false,
+            }
+        }
+        rest.is_empty()
+    }
+
+    /// Whether its octets are those of another value, wherever these stand.
+    pub fn same(&self, other: &Value<'a, O>) -> bool
+        ensures { IsTrue result ↔ (octets_of self.now ≡ octets_of other.now) }
+    {
+        let mut rest = other.octets();
+        for octet in self.octets() {
+            if rest.next() != Some(octet) {
+                return false;
+            }
+        }
+        rest.next().is_none()
+    }
+
+    /// Its component's first place in the text, and the place past its last.
+    pub fn span(&self) -> (usize, usize)
+        ensures { result ≡ (self.now.from, self.now.to) }
+    {
+        (self.from, self.to)
+    }
+}
+
+/// The octets of a value, one after another: seen as the list of those that are left.
+#[derive(Drop)]
+pub struct ValueOctets<'a, O: Octets> {
+    text: &'a O,
+    release: Option<u8>,
+    at: usize,
+    to: usize,
+}
+
+impl<'a, O: Octets> Model for ValueOctets<'a, O> {
+    ghost Value = { List ℕ };
+
+    ghost view = { λ v. value_of v.release (slice_range (O.octets v.text.now) v.at v.to) };
+
+    ghost invariant = { λ v. (v.at ≤ v.to) × (v.to ≤ length (O.octets v.text.now)) };
+}
+
+impl<O: Octets> Iterator for ValueOctets<'_, O> {
+    type Item = u8;
+
+    ghost next_gives = { YieldsFirst (λ rest. rest) };
+
+    ghost remaining = { item_count (λ rest. rest) };
+
+    fn next(&mut self) -> Option<u8> {
+        let (octet, next) = kept_at(self.text, self.release, self.at, self.to)?;
+        self.at = next;
+        Some(octet)
+    }
+}
+
+/// The first octet of the value of `at..to`, and the place behind it.
+fn kept_at<O: Octets>(text: &O, release: Option<u8>, at: usize, to: usize) -> Option<(u8, usize)>
+    requires ordered { at ≤ to }
+    requires within { to ≤ length (O.octets text.now) }
+    ensures { MatchOption result (value_of release (slice_range (O.octets text.now) at to) ≡ []) (λ kept. (kept.1 ≤ to)
+        × (value_of release (slice_range (O.octets text.now) at to) ≡ kept.0 ∷ value_of release (slice_range (O.octets text.now) kept.1 to))) }
+{
+    if at >= to {
+        return None;
+    }
+    let octet = text.octet(at);
+    if !is_release(release, octet) {
+        return Some((octet, at + 1));
+    }
+    if at + 1 >= to {
+        return None;
+    }
+    Some((text.octet(at + 1), at + 2))
+}
+
+fn is_release(release: Option<u8>, octet: u8) -> bool
+    ensures { result ≡ is_release_of release octet }
+{
+    match release {
+        Some(release) => octet == release,
+        None => false,
+    }
+}

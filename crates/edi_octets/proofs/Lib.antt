@@ -1,4 +1,8 @@
 pub mod CellLemmas
 pub mod DecimalLemmas
+pub mod EarlierLemmas
+pub mod EntryLemmas
 pub mod LineLemmas
 pub mod ProfileLemmas
+pub mod SplitLemmas
+pub mod TurnLemmas

@@ -2,6 +2,7 @@ pub mod CellLemmas
 pub mod DecimalLemmas
 pub mod EarlierLemmas
 pub mod EntryLemmas
+pub mod HeadLemmas
 pub mod LineLemmas
 pub mod ProfileLemmas
 pub mod SplitLemmas

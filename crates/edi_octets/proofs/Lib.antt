@@ -1,4 +1,9 @@
 pub mod CellLemmas
 pub mod DecimalLemmas
+pub mod EarlierLemmas
+pub mod EntryLemmas
+pub mod HeadLemmas
 pub mod LineLemmas
 pub mod ProfileLemmas
+pub mod SplitLemmas
+pub mod TurnLemmas

@@ -8,6 +8,7 @@ use Rattle.std.proofs.lemmas.List.Splits.{slice_split_first, slice_split_none}
 use Rattle.memchr.specs.Find.{is_byte, Passes, NoneBefore}
 use Rattle.edi_octets.specs.Lines.{without_return, line_octets, numbered_from, lines_from}
 use Rattle.edi_octets.proofs.CellLemmas.{is_filled-true}
+use Rattle.edi_octets.proofs.SplitLemmas.{first_part}
 
 -- what a search for an octet found is the first place that has it
 pub place-from_search : (octet : ℕ) (text : List ℕ) (k : ℕ) → NoneBefore (Passes (is_byte octet) text) 0 (length text) k × Passes (is_byte octet) text k → position_or_len (λ x. x == octet) text ≡ k
@@ -22,19 +23,9 @@ place-from_no_search octet text none =
 abbrev pub is_line_feed : ℕ → Bool
 is_line_feed x = x == 10
 
--- there is always a first part
-first_part : (text : List ℕ) → (part : List ℕ) × (parts : List (List ℕ)) × (slice_split is_line_feed text ≡ part ∷ parts)
-first_part [] = ([], [], refl)
-first_part (x ∷ text) =
-    let behind = first_part text in
-    ⊎_elim
-    (λ (ends : is_line_feed x ≡ true). ([], slice_split is_line_feed text, rw ends refl))
-    (λ (stays : is_line_feed x ≡ false). (x ∷ behind.0, behind.1, rw (stays, behind.2) refl))
-    (cases_Bool (is_line_feed x))
-
 -- a part that LF ends is a line, whatever follows
 line_octets-cons : (part text : List ℕ) → line_octets (part ∷ slice_split is_line_feed text) ≡ without_return part ∷ line_octets (slice_split is_line_feed text)
-line_octets-cons part text = let behind = first_part text in rw behind.2 refl
+line_octets-cons part text = let behind = first_part is_line_feed text in rw behind.2 refl
 
 pub lines_from-nil : (n : ℕ) → lines_from n [] ≡ []
 unfolding lines_from

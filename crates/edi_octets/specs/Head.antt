@@ -6,7 +6,7 @@ use Rattle.edi_tables.specs.declared.element.Code.{Code}
 use Rattle.edi_octets.specs.declared.fault.DirFault.{DirFault}
 use Rattle.edi_octets.specs.declared.fault.DirKind.TheVariants.{BadCode, Twice}
 use Rattle.edi_octets.specs.Lines.{Line}
-use Rattle.edi_octets.specs.Profile.{fields_of, first_field, is_element_code}
+use Rattle.edi_octets.specs.Profile.{fields_of, first_field}
 use Rattle.edi_octets.specs.DirStop.{at_line}
 
 -- a code and a name: the name is one or more fields

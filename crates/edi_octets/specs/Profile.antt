@@ -1,6 +1,6 @@
 -- The words of the directory text profile, which every directory file shares.
 use Rattle.std.specs.Prelude.{ℕ, Bool, true, false, not, ◌==◌, ◌&&◌, ◌||◌, nat_le, List, [], ◌∷◌, ◌++◌, length, drop, filter, map, slice_index, replicate, Option, Some, None, if◌then◌else◌}
-use Rattle.std.specs.List.{slice_split, list_all, prefix_len}
+use Rattle.std.specs.List.{slice_split, list_all, prefix_len, before_first}
 use Rattle.std.specs.Str.{all_ascii_digits, bytes_eq}
 use Rattle.std.specs.Str.Parse.{digits_value}
 use Rattle.edi_tables.specs.declared.element.Class.{Class}
@@ -51,6 +51,14 @@ is_separator line = is_separator_of (fields_of line.octets)
 -- the entries of a file: what stands behind its first separator, cut at separators, without blank lines; a part without a line is nothing
 unfoldable pub entries_of : List Line → List (List Line)
 entries_of lines = filter is_filled (map (filter is_written) (drop 1 (slice_split is_separator lines)))
+
+-- the entries of lines behind a separator
+unfoldable pub entries_within : List Line → List (List Line)
+entries_within lines = filter is_filled (map (filter is_written) (slice_split is_separator lines))
+
+-- the lines of the entry that these lines stand in: those before the first separator, without blank lines
+unfoldable pub body_within : List Line → List Line
+body_within lines = filter is_written (before_first is_separator lines)
 
 -- a mark alone is a field that is skipped directly after a position
 abbrev pub is_lone_mark : List ℕ → Bool

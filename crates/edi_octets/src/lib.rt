@@ -3,6 +3,7 @@
 
 mod cells;
 mod decimal;
+mod entries;
 mod fault;
 mod lines;
 mod name;
@@ -11,6 +12,7 @@ mod profile;
 
 pub use cells::Cells;
 pub use decimal::{put_decimal, read_decimal};
+pub use entries::{Body, Entries, Entry};
 pub use fault::{DirFault, DirKind, DirStop};
 pub use lines::{LineText, Lines};
 pub use name::is_name;

@@ -86,8 +86,9 @@ fn before_return(line: &[u8]) -> &[u8]
 }
 
 impl<'a> LineText<'a> {
-    ghost use Rattle.std.specs.Prelude.{◌≡◌};
-    ghost use Rattle.edi_octets.specs.Profile.{fields_of, indentation_of, is_written, is_separator};
+    ghost use Rattle.std.specs.Prelude.{◌≡◌, true};
+    ghost use Rattle.edi_octets.specs.Head.{is_code_and_name};
+    ghost use Rattle.edi_octets.specs.Profile.{begins_with_word, fields_of, first_field, indentation_of, is_written, is_separator};
     ghost use Rattle.edi_octets.specs.Left.{line_shown, cells_left};
 
     /// The fields of the line: its cells, once marks in front are read as spaces.
@@ -110,6 +111,28 @@ impl<'a> LineText<'a> {
         ensures { result ≡ is_written (line_shown self.now) }
     {
         self.fields().next().is_some()
+    }
+
+    /// The first field of the line; no octet where the line has no field.
+    pub fn first_field(&self) -> &'a [u8]
+        ensures { result.now ≡ first_field (fields_of self.now.octets.now) }
+    {
+        self.fields().next().unwrap_or(&[])
+    }
+
+    /// Whether the line's first field is this word.
+    pub fn begins_with(&self, word: &[u8]) -> bool
+        ensures { result ≡ begins_with_word word.now (fields_of self.now.octets.now) }
+    {
+        self.first_field() == word
+    }
+
+    /// Whether the line has a field behind its first: a code has a name there.
+    pub fn has_name(&self) -> bool
+        ensures { result ≡ is_code_and_name (λ _. true) (fields_of self.now.octets.now) }
+    {
+        let mut fields = self.fields();
+        matches!((fields.next(), fields.next()), (Some(_), Some(_)))
     }
 
     /// Whether the line is a separator: one field of ten or more `-`.

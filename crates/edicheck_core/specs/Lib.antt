@@ -1,0 +1,6 @@
+pub mod Answer
+pub mod Form
+pub mod Inputs
+pub mod Made
+pub mod Printing
+pub mod Status

@@ -1,0 +1,14 @@
+//! All that the program does, over any source, sink and shelf.
+#![tactic(auto)]
+
+mod form;
+mod made;
+mod print;
+mod print_line;
+mod print_value;
+mod program;
+mod status;
+
+pub use form::{Form, read_form};
+pub use program::run;
+pub use status::Status;

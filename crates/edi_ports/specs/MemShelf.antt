@@ -6,7 +6,7 @@ use Rattle.edi_ports.specs.declared.shelf.ShelfFile.{ShelfFile}
 use Rattle.edi_ports.specs.declared.shelf.Opened.{Opened}
 use Rattle.edi_ports.specs.declared.shelf.Opened.TheVariants.{Open, Absent, Failed}
 use Rattle.edi_ports.specs.declared.memory.shelf.MemShelf.{MemShelf}
-use Rattle.edi_ports.specs.Memory.{fails_next}
+use Rattle.edi_ports.specs.Memory.{fails_next, after_call}
 use Rattle.edi_ports.specs.Shelf.{file_named}
 use Rattle.edi_ports.specs.Place.{rest_from}
 
@@ -39,3 +39,7 @@ abbrev pub taken_next : MemShelf → ℕ → Taken
 taken_next shelf size =
     if fails_next shelf.calls then taken.Failed
     else (if length (rest_of shelf) == 0 then taken.End else taken.Got (min (min (length (rest_of shelf)) shelf.most) size))
+
+-- one more call is counted, and the most that a call gives stays
+abbrev pub IsNextCall : MemShelf → MemShelf → Type 0
+IsNextCall before now = (now.calls ≡ after_call before.calls) × (now.most ≡ before.most)

@@ -47,7 +47,7 @@ impl MemShelf {
 }
 
 impl Shelf for MemShelf {
-    ghost use Rattle.edi_ports.specs.MemShelf.{files_of, rest_of, is_open_of, faults_of, IsSteady, opened_next, taken_next};
+    ghost use Rattle.edi_ports.specs.MemShelf.{files_of, rest_of, is_open_of, faults_of, IsSteady, opened_next, taken_next, IsNextCall};
 
     ghost files = { λ s. Some (files_of s) };
 
@@ -66,6 +66,7 @@ impl Shelf for MemShelf {
         ensures counted { faults_of self.old ≤ faults_of self.new }
         ensures steady { IsSteady self.old → (IsFailedOpening result → ⊥) × IsSteady self.new }
         ensures exact { result ≡ opened_next self.old name.now }
+        ensures next { IsNextCall self.old self.new }
     {
         self.place = None;
         if self.calls.next_fails() {
@@ -90,6 +91,7 @@ impl Shelf for MemShelf {
         ensures cause { IsFailedTake result → HasRisen (faults_of self.old) (faults_of self.new) }
         ensures steady { IsSteady self.old → (IsFailedTake result → ⊥) × IsSteady self.new }
         ensures exact { result ≡ taken_next self.old (length buffer.old) }
+        ensures next { IsNextCall self.old self.new }
     {
         if self.calls.next_fails() {
             return Taken::Failed;

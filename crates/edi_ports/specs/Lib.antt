@@ -1,7 +1,9 @@
 pub mod Faults
+pub mod MemShelf
 pub mod MemSink
 pub mod MemSource
 pub mod Memory
+pub mod Place
 pub mod Read
 pub mod Shelf
 pub mod Sink

@@ -3,7 +3,8 @@ use Rattle.std.specs.Prelude.{◌≡◌, ◌≤◌, ◌+◌, ◌-◌, ◌==◌, 
 use Rattle.edi_ports.specs.declared.sink.Put.{Put}
 use Rattle.edi_ports.specs.declared.sink.Put.TheVariants.{Took, Failed}
 use Rattle.edi_ports.specs.declared.memory.sink.MemSink.{MemSink}
-use Rattle.edi_ports.specs.Memory.{fails_next}
+use Rattle.edi_ports.specs.declared.memory.calls.Calls.{Calls}
+use Rattle.edi_ports.specs.Memory.{fails_next, after_call, after_fault}
 
 -- the octets that were put
 abbrev pub held_of : MemSink → List ℕ
@@ -25,3 +26,9 @@ taken_of sink size = min (min size sink.most) (sink.room - length (held_of sink)
 abbrev pub put_next : MemSink → ℕ → Put
 put_next sink size =
     if fails_next sink.calls then Failed else (if taken_of sink size == 0 then Failed else Took (taken_of sink size))
+
+-- one more call is counted, and a fault where no room is left; the room and the most that a call takes stay
+abbrev pub IsNextCall : MemSink → MemSink → ℕ → Type 0
+IsNextCall before now size =
+    let counted : Calls = after_call before.calls in
+    (now.calls ≡ (if fails_next before.calls then counted else (if taken_of before size == 0 then after_fault counted else counted))) × (now.room ≡ before.room) × (now.most ≡ before.most)

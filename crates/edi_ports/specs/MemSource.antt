@@ -3,7 +3,7 @@ use Rattle.std.specs.Prelude.{◌≡◌, ◌==◌, ℕ, List, [], length, min, d
 use Rattle.edi_ports.specs.declared.source.Taken.{Taken}
 use Rattle.edi_ports.specs.declared.source.Taken.TheVariants.{Got, End, Failed}
 use Rattle.edi_ports.specs.declared.memory.source.MemSource.{MemSource}
-use Rattle.edi_ports.specs.Memory.{fails_next}
+use Rattle.edi_ports.specs.Memory.{fails_next, after_call}
 
 -- the octets that are left
 abbrev pub rest_of : MemSource → List ℕ
@@ -22,3 +22,7 @@ abbrev pub taken_next : MemSource → ℕ → Taken
 taken_next source size =
     if fails_next source.calls then Failed
     else (if length (rest_of source) == 0 then End else Got (min (min (length (rest_of source)) source.most) size))
+
+-- one more call is counted, and the most that a call gives stays
+abbrev pub IsNextCall : MemSource → MemSource → Type 0
+IsNextCall before now = (now.calls ≡ after_call before.calls) × (now.most ≡ before.most)

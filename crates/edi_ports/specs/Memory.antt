@@ -1,11 +1,8 @@
 -- Objects in memory: which of their calls fail, and what the others give.
-use Rattle.std.specs.Prelude.{◌+◌, ◌==◌, ℕ, Bool, min, if◌then◌else◌}
+use Rattle.std.specs.Prelude.{◌==◌, Bool, if◌then◌else◌}
 use Rattle.std.specs.List.{list_any}
 use Rattle.edi_ports.specs.declared.memory.calls.Calls.{Calls}
-
--- a count stands still at 2^64 - 1
-abbrev pub one_more : ℕ → ℕ
-one_more n = min (n + 1) 18446744073709551615
+use Rattle.edi_ports.specs.Faults.{one_more}
 
 -- the next call is one that fails
 abbrev pub fails_next : Calls → Bool

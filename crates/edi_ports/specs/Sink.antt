@@ -26,3 +26,8 @@ pub record HasPut (whole held : Option (List ℕ)) (part left : List ℕ) : Type
   pub shorter : length left ≤ length part
   pub suffix : left ≡ drop (length part - length left) part
   pub told : IfSome whole (λ before. held ≡ Some (before ++ take (length part - length left) part))
+
+-- a writer took these octets from the front of the part; at a fault it took so many as it took
+abbrev pub IsWritten : Option (List ℕ) → Option (List ℕ) → List ℕ → Put → Type 0
+IsWritten before now part (Took n) = IfSome before (λ held. now ≡ Some (held ++ take n part))
+IsWritten before now part Failed = IfSome before (λ held. (n : ℕ) × (n ≤ length part) × (now ≡ Some (held ++ take n part)))

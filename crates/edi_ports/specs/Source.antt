@@ -2,6 +2,7 @@
 use Rattle.std.specs.Prelude.{◌≡◌, ◌<◌, ◌≤◌, ℕ, List, [], length, take, drop, Option, Some, IfSome}
 use Rattle.edi_ports.specs.declared.source.Taken.{Taken}
 use Rattle.edi_ports.specs.declared.source.Taken.TheVariants.{Got, End, Failed}
+use Rattle.edi_ports.specs.Faults.{one_more}
 
 -- n octets moved from the front of the rest to the front of the buffer, which isn't left empty; at the end and at a fault the rest stays
 abbrev pub IsTake : Option (List ℕ) → Option (List ℕ) → List ℕ → Taken → Type 0
@@ -12,3 +13,9 @@ IsTake before now buffer Failed = IfSome before (λ rest. now ≡ Some rest)
 
 abbrev pub IsFailedTake : Taken → Type 0
 IsFailedTake taken = taken ≡ Failed
+
+-- a count of faults after a take: one more where it failed
+abbrev pub count_after : ℕ → Taken → ℕ
+count_after faults (Got n) = faults
+count_after faults End = faults
+count_after faults Failed = one_more faults

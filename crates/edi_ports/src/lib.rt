@@ -1,13 +1,17 @@
 //! What lies outside: sources that are read, sinks that are written, shelves of files, and objects that stand for them.
 #![tactic(auto)]
 
+mod adapters;
 mod memory;
 mod read;
 mod shelf;
 mod sink;
 mod source;
+#[cfg(test)]
+mod tests;
 
-pub use memory::{MemSink, MemSource};
+pub use adapters::{FolderShelf, StdSink, StdSource};
+pub use memory::{MemShelf, MemSink, MemSource};
 pub use read::{ReadStop, read_all, read_file};
 pub use shelf::{Opened, Shelf, ShelfFile};
 pub use sink::{Put, Sink, put_all};

@@ -52,7 +52,7 @@ impl MemSink {
 }
 
 impl Sink for MemSink {
-    ghost use Rattle.edi_ports.specs.MemSink.{held_of, faults_of, HasRoom, put_next};
+    ghost use Rattle.edi_ports.specs.MemSink.{held_of, faults_of, HasRoom, put_next, IsNextCall};
 
     ghost held = { λ s. Some (held_of s) };
 
@@ -67,6 +67,7 @@ impl Sink for MemSink {
         ensures cause { IsFailedPut result → HasRisen (faults_of self.old) (faults_of self.new) }
         ensures room { (n : ℕ) → HasRoom self.old n → length part.now ≤ n → KeepsRoom (HasRoom self.new) n result }
         ensures exact { result ≡ put_next self.old (length part.now) }
+        ensures next { IsNextCall self.old self.new (length part.now) }
     {
         if self.calls.next_fails() {
             return Put::Failed;

@@ -35,7 +35,7 @@ impl MemSource {
 }
 
 impl Source for MemSource {
-    ghost use Rattle.edi_ports.specs.MemSource.{rest_of, faults_of, IsSteady, taken_next};
+    ghost use Rattle.edi_ports.specs.MemSource.{rest_of, faults_of, IsSteady, taken_next, IsNextCall};
 
     ghost rest = { λ s. Some (rest_of s) };
 
@@ -50,6 +50,7 @@ impl Source for MemSource {
         ensures cause { IsFailedTake result → HasRisen (faults_of self.old) (faults_of self.new) }
         ensures steady { IsSteady self.old → (IsFailedTake result → ⊥) × IsSteady self.new }
         ensures exact { result ≡ taken_next self.old (length buffer.old) }
+        ensures next { IsNextCall self.old self.new }
     {
         if self.calls.next_fails() {
             return Taken::Failed;

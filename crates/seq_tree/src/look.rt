@@ -9,7 +9,7 @@ use std::sync::ledger::Ledger;
 use step_counter::Steps;
 
 impl<T: Measured> Tree<T> {
-    /// The item at this place, counted from 0.
+    /// The item at place `i`, counted from 0.
     pub(crate) fn at<L: Ledger>(&self, i: usize, visited: &mut Steps<L>) -> &T
         requires within { i < length self.now.0 }
         ensures is { slice_get self.now.0 i ≡ Some result.now }
@@ -40,7 +40,8 @@ impl<T: Measured> Tree<T> {
     {
         visited.tick();
         match &self.node {
-            Node::Leaf(item) => { if i == 0 { 0 } else { u64::from(item.weight()) } }
+            Node::Leaf(_) if i == 0 => 0,
+            Node::Leaf(item) => u64::from(item.weight()),
             Node::Fork(left, left_len, left_total, right) => {
                 if i < *left_len as usize {
                     left.before(i, visited)
@@ -51,7 +52,7 @@ impl<T: Measured> Tree<T> {
         }
     }
 
-    /// The place of the item that reaches past this weight.
+    /// The first place up to which, its own item included, the items weigh more than `bound`.
     #[tactic(auto, using(crate::proofs::Parts::sum_by_take_right))]
     pub(crate) fn find<L: Ledger>(&self, bound: u64, visited: &mut Steps<L>) -> usize
         requires below { bound < sum_by T.measure self.now.0 }

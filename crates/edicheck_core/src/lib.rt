@@ -12,3 +12,6 @@ mod status;
 pub use form::{Form, read_form};
 pub use program::run;
 pub use status::Status;
+
+#[cfg(test)]
+mod tests;

@@ -22,7 +22,10 @@ pub fn print_text(alloc: Global, form: Form, text: &[u8]) -> Result<Chunk, Alloc
 {
     let text = Flat { octets: text };
     let listing = list_segments::<Brand>(alloc, form, &text, Blank::new(1))?;
-    let mut out = Chunk::with_room(alloc, listing.lines.octets().len().saturating_add(COUNT_ROOM))?;
+    let mut out = Chunk::with_room(
+        alloc,
+        listing.lines.octets().len().saturating_add(COUNT_ROOM),
+    )?;
     put_count(&mut out, listing.count)?;
     out.add(listing.lines.octets())?;
     Ok(out)
@@ -111,7 +114,13 @@ fn put_segment(
     requires short { length text.now.octets.now ≤ 4194304 }
     ensures { OnOk result (lines.new ≡ lines.old ++ segment_lines form service.now text.now.octets.now number (start, end)) }
 {
-    put_segment_line(lines, number, start, end, read_tag(text, service, start, end))?;
+    put_segment_line(
+        lines,
+        number,
+        start,
+        end,
+        read_tag(text, service, start, end),
+    )?;
     match form {
         Form::Segments => Ok(()),
         Form::Values => put_values(lines, fields(text, service, start, end)),

@@ -17,7 +17,7 @@ loop-start-preserved g c =
       service = c.loop-start.invariant.service;
       boundary = lexed.1;
       few = omega arith;
-      lines = lines_next _ _ _ _ _ _ _ _ _ lexed.0 c.loop-start.invariant.lines c.in_ok-put_segment-in-Ended.ensures
+      lines = lines_next _ _ _ _ _ _ _ _ _ lexed.0 c.loop-start.invariant.lines c.in_ok-put_segment-in-Ended.ensures;
     }
 
 pub put_tail-requires : goal.put_tail-requires

@@ -1,0 +1,53 @@
+//! The program: its words, its input, its output and its folder, handed to the one call that does the work.
+#![tactic(auto)]
+
+use edi_ports::{FolderShelf, StdSink, StdSource, put_all};
+use edi_tables::Chunk;
+use edicheck_core::{Status, run};
+use std::alloc::{AllocError, Global};
+use std::env::FillError;
+use std::process::ExitCode;
+use std::rt::Env;
+
+// A longer word is of no form: the longest that counts is a file's name of 128 octets.
+const LONGEST_WORD: usize = 256;
+
+fn main(rt: HostRuntime) -> ExitCode {
+    let alloc = rt.alloc();
+    let mut input = StdSource::new(rt.stdin());
+    let mut out = StdSink::new(rt.stdout());
+    let status = match read_words(&rt, alloc) {
+        Ok(words) => {
+            let mut shelf = FolderShelf::new(&rt);
+            run(alloc, &words, &mut shelf, &mut input, &mut out)
+        }
+        Err(_) => {
+            put_all(&mut out, b"fault memory\n");
+            Status::Memory
+        }
+    };
+    ExitCode::from(status.number())
+}
+
+// The words behind the program's name. A word that isn't text, or is longer than any that counts, is an empty word,
+// which is of no form.
+fn read_words(rt: &impl Env, alloc: Global) -> Result<Vec<Chunk>, AllocError> {
+    let mut words = Vec::new(alloc);
+    let mut buffer = [0u8; LONGEST_WORD];
+    for i in 1..usize::MAX {
+        match rt.arg(i, &mut buffer) {
+            Ok(len) => words.push(read_word(alloc, &buffer[..len])?)?,
+            Err(FillError::TooLong) => words.push(Chunk::empty(alloc))?,
+            Err(FillError::NotPresent) => break,
+        }
+    }
+    Ok(words)
+}
+
+fn read_word(alloc: Global, word: &[u8]) -> Result<Chunk, AllocError> {
+    if str::from_utf8(word).is_ok() {
+        Chunk::of(alloc, word)
+    } else {
+        Ok(Chunk::empty(alloc))
+    }
+}

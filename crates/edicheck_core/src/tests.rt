@@ -1,4 +1,6 @@
 //! Runs over objects in memory: what no clause says, and that a run succeeds where memory is there.
+ghost use Rattle.std.specs.Prelude.{◌<◌};
+
 use crate::{Status, run};
 use edi_ports::{MemShelf, MemSink, MemSource};
 use edi_tables::Chunk;
@@ -116,24 +118,22 @@ fn a_failing_put_leaves_what_was_put_before(rt: HostRuntime) -> Result<(), Fail>
     Ok(())
 }
 
+// A text of so many letters, which is a tail.
+fn letters(alloc: Global, count: usize) -> Result<Vec<u8>, AllocError> {
+    vec![in alloc; b'A'; count]
+}
+
 #[test]
 fn a_text_at_the_limit_is_read_and_one_over_it_is_not(rt: HostRuntime) -> Result<(), Fail> {
     let alloc = rt.alloc();
-    let text = vec![in alloc; b'A'; LONGEST_TEXT + 1]?;
-    if text.len() <= LONGEST_TEXT {
-        return Ok(());
-    }
-    let within = run_in_memory(
-        alloc,
-        &[b"segments"],
-        &text[..LONGEST_TEXT],
-        Ways::steady(alloc, 5000),
-    )?;
+    let text = letters(alloc, LONGEST_TEXT)?;
+    let within = run_in_memory(alloc, &[b"segments"], &text, Ways::steady(alloc, 5000))?;
     assert_eq!(rt; within.0, Status::Done);
     assert_eq!(rt;
         within.1.as_slice(),
         b"segments 0\ntail 0 4194304\n".as_slice()
     );
+    let text = letters(alloc, LONGEST_TEXT + 1)?;
     let over = run_in_memory(alloc, &[b"segments"], &text, Ways::steady(alloc, 5000))?;
     assert_eq!(rt; over.0, Status::TooLarge);
     assert_eq!(rt; over.1.as_slice(), b"fault large -\n".as_slice());

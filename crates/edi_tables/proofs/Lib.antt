@@ -4,4 +4,6 @@ pub mod Faults
 pub mod Lawful
 pub mod Made
 pub mod Restored
+pub mod Stretches
 pub mod TableLaws
+pub mod Walking

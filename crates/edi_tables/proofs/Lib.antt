@@ -6,4 +6,5 @@ pub mod Made
 pub mod Restored
 pub mod Stretches
 pub mod TableLaws
+pub mod TestOrder
 pub mod Walking

@@ -40,6 +40,19 @@ are_siblings nodes i j = option_eq nat_eq (parent_at nodes i) (parent_at nodes j
 unfoldable pub later_siblings : List Node → ℕ → List ℕ
 later_siblings nodes i = filter (are_siblings nodes i) (range_with_len (i + 1) (length nodes - (i + 1)))
 
+-- where the siblings of a node end: with the group that holds them, or with the table
+abbrev pub level_end : List Node → ℕ → ℕ
+level_end nodes i = elim (parent_at nodes i) [ None ↦ length nodes | Some g ↦ end_at nodes g ]
+
+-- from a node on, each time to where the last one ends, while below a bound; no more than n of them
+abbrev pub by_end : List Node → ℕ → ℕ → ℕ → List ℕ
+by_end nodes bound zero j = []
+by_end nodes bound (suc n) j = if nat_lt j bound then j ∷ by_end nodes bound n (end_at nodes j) else []
+
+-- the later siblings of a node, found from end to end
+unfoldable pub siblings_by_end : List Node → ℕ → List ℕ
+siblings_by_end nodes i = by_end nodes (level_end nodes i) (length nodes) (end_at nodes i)
+
 -- the groups round a node, innermost first; no more than n of them
 abbrev pub groups_up : List Node → ℕ → Option ℕ → List ℕ
 groups_up nodes zero group = []

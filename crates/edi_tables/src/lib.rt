@@ -1,6 +1,7 @@
 //! The records of a directory: octets, tags, data elements, composites, segments and segment tables.
 #![tactic(auto)]
 
+mod build;
 mod chunk;
 mod element;
 mod list;
@@ -12,5 +13,5 @@ pub use chunk::Chunk;
 pub use element::{Class, Code, CodeList, CompositeDef, ElementDef, PartDef, Repr};
 pub use list::List;
 pub use segment::{ItemDef, MessageDef, SegmentDef, TableRow};
-pub use table::{Node, TableKind, TableStop};
+pub use table::{Node, Table, TableKind, TableStop};
 pub use tag::{Tag, is_tag};

@@ -1,6 +1,9 @@
 //! Segment tables.
-use crate::Tag;
-use std::alloc::AllocError;
+ghost use Rattle.std.specs.Prelude.{◌≡◌, ◌<◌, ◌≤◌, Some, length, slice_get};
+
+use crate::{TableRow, Tag, build};
+use std::alloc::{AllocError, Global};
+use std::marker::Model;
 use thiserror::Error;
 
 /// A node of a segment table: a segment with its tag, or a group, which has none. Nodes are numbered from 0.
@@ -46,3 +49,65 @@ impl From<AllocError> for TableStop {
         TableStop::Memory
     }
 }
+
+/// A segment table, seen as its list of nodes: those of rows that break no rule.
+#[derive(Debug, Drop)]
+pub struct Table {
+    nodes: Vec<Node>,
+}
+
+impl Model for Table {
+    ghost use Rattle.std.specs.Prelude.{List};
+    ghost use Rattle.edi_tables.specs.declared.table.Node.{Node};
+    ghost use Rattle.edi_tables.specs.Rows.{IsTable};
+
+    ghost Value = { List Node };
+
+    ghost view = { λ t. t.nodes.items };
+
+    ghost invariant = { λ t. ∥ IsTable t.nodes.items ∥₁ };
+}
+
+impl Table {
+    ghost use Rattle.edi_tables.specs.Rows.{Builds, IsTable, table_of};
+
+    /// The table of these rows where they break no rule, else the first row that breaks one and the first rule that it breaks.
+    pub fn build(alloc: Global, rows: &[TableRow]) -> Result<Table, TableStop>
+        ensures { Builds result (table_of rows.now) }
+    {
+        if let Some((at, kind)) = build::first_fault(rows) {
+            return Err(TableStop::Fault { at, kind });
+        }
+        Ok(Table {
+            nodes: build::nodes_of(alloc, rows)?,
+        })
+    }
+
+    /// How many nodes it has: from 2 to 2,000.
+    pub fn len(&self) -> usize
+        ensures value { result ≡ length self.now }
+        ensures some { 2 ≤ result }
+        ensures small { result ≤ 2000 }
+    {
+        self.nodes.len()
+    }
+
+    /// The node with this number.
+    pub fn node(&self, i: usize) -> &Node
+        requires { i < length self.now }
+        ensures { slice_get self.now i ≡ Some result.now }
+    {
+        &self.nodes[i]
+    }
+
+    /// All its nodes.
+    pub fn nodes(&self) -> &[Node]
+        ensures value { result.now ≡ self.now }
+        ensures lawful { IsTable self.now }
+    {
+        &self.nodes
+    }
+}
+
+#[cfg(test)]
+mod tests;

@@ -1,0 +1,10 @@
+pub mod Finding
+pub mod Depths
+pub mod Faults
+pub mod Lawful
+pub mod Made
+pub mod Restored
+pub mod Stretches
+pub mod TableLaws
+pub mod TestOrder
+pub mod Walking

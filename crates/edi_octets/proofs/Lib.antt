@@ -7,3 +7,4 @@ pub mod LineLemmas
 pub mod ProfileLemmas
 pub mod SplitLemmas
 pub mod TurnLemmas
+mod Worked

@@ -20,3 +20,6 @@ pub use octets::{Flat, Octets};
 pub use profile::{
     after_position, is_composite_code, is_element_code, is_lone_mark, read_repr, read_status,
 };
+
+#[cfg(test)]
+mod tests;

@@ -7,6 +7,9 @@ use crate::cells::{Cells, spaces_in_front};
 use crate::profile::{is_mark, is_rule};
 use memchr::memchr;
 
+/// The most marks in front of a line that are read as spaces.
+const MOST_MARKS: usize = 3;
+
 /// A line and its number, from 1.
 #[derive(Clone, Copy, Debug)]
 pub struct LineText<'a> {
@@ -152,7 +155,7 @@ fn behind_marks(line: &[u8]) -> &[u8]
     ensures { result.now ≡ (if is_marked line.now then drop (marks_of line.now) line.now else line.now) }
 {
     let marks = marks_in_front(line);
-    if marks <= 3 && (marks == line.len() || line[marks] == b' ') {
+    if marks <= MOST_MARKS && (marks == line.len() || line[marks] == b' ') {
         &line[marks..]
     } else {
         line

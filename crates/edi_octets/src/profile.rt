@@ -7,6 +7,12 @@ use crate::cells::Cells;
 use crate::decimal::{are_digits, read_decimal};
 use edi_tables::{Class, Repr};
 
+/// The fewest `-` of a separator.
+const LEAST_DASHES: usize = 10;
+
+/// The most digits of a length.
+const MOST_LENGTH_DIGITS: usize = 4;
+
 /// Whether an octet is a mark of the published files: `+`, `*`, `#`, `|` or `X`.
 pub(crate) fn is_mark(octet: u8) -> bool
     ensures { result ≡ profile.is_mark octet }
@@ -18,7 +24,7 @@ pub(crate) fn is_mark(octet: u8) -> bool
 pub(crate) fn is_rule(field: &[u8]) -> bool
     ensures { result ≡ profile.is_rule field.now }
 {
-    field.len() >= 10 && field.iter().all(|octet| *octet == b'-')
+    field.len() >= LEAST_DASHES && field.iter().all(|octet| *octet == b'-')
 }
 
 /// Whether a field is a single mark.
@@ -84,7 +90,7 @@ fn read_sized(class: Class, rest: &[u8]) -> Option<Repr>
 fn read_length(field: &[u8]) -> Option<u16>
     ensures { result ≡ profile.length_in field.now }
 {
-    if field.len() > 4 || begins_with_zero(field) {
+    if field.len() > MOST_LENGTH_DIGITS || begins_with_zero(field) {
         return None;
     }
     let length = read_decimal(field)?;

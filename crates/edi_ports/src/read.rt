@@ -40,12 +40,12 @@ pub fn read_all<I: Source>(alloc: Global, input: &mut I, limit: usize) -> Result
     ensures cause { IsErrOf result ReadStop.Fault → HasRisen (I.faults input.old) (I.faults input.new) }
     ensures steady { I.is_steady input.old → (IsErrOf result ReadStop.Fault → ⊥) × I.is_steady input.new }
 {
-    let mut octets = Vec::new(alloc);
+    let mut rest = Vec::new(alloc);
     let mut buffer = [0u8; BUFFER];
     loop {
         match input.take(&mut buffer) {
-            Taken::Got(n) => gather(&mut octets, &buffer[..n], limit)?,
-            Taken::End => return Ok(octets),
+            Taken::Got(n) => gather(&mut rest, &buffer[..n], limit)?,
+            Taken::End => return Ok(rest),
             Taken::Failed => return Err(ReadStop::Fault),
         }
     }

@@ -1,7 +1,7 @@
 -- Fields of a segment (ISO 9735): elements parted by unreleased element separators, and their components by unreleased component separators. All of it is said over a segment's own octets.
-use Rattle.std.specs.Prelude.{◌≤◌, ⊤, ℕ, ◌+◌, ◌-◌, ◌≢◌, Bool, not, ◌&&◌, ◌==◌, List, [], ◌∷◌, ◌++◌, length, map, filter, slice_index, slice_range, Option}
+use Rattle.std.specs.Prelude.{◌≤◌, ⊤, ℕ, ◌+◌, ◌-◌, ◌≢◌, Bool, not, ◌&&◌, ◌==◌, List, [], ◌∷◌, ◌++◌, length, map, filter, find, slice_index, slice_range, Option}
 use Rattle.std.specs.List.{enumerate_from, flat_map, range_with_len}
-use Rattle.std.specs.Option.{ForSome}
+use Rattle.std.specs.Option.{ForSome, option_map}
 use Rattle.seg_lexer.specs.Released.{is_release, is_released}
 
 -- the places from a up to b that pass a test
@@ -85,3 +85,7 @@ fields_from release separator inner xs element c a =
 abbrev pub IsInOrder : ℕ → List Entry → Type 0
 IsInOrder n [] = ⊤
 IsInOrder n (e ∷ es) = (n ≤ e.element) × IsInOrder e.element es
+
+-- the value of a component, where it is written
+abbrev pub octets_at : ℕ → ℕ → List Entry → Option (List ℕ)
+octets_at element component entries = option_map (λ e. e.octets) (find (λ e. e.element == element && e.component == component) entries)

@@ -1,6 +1,7 @@
 //! The reading of a text: service characters, segments, fields and values, context.
 #![tactic(auto)]
 
+mod context;
 mod parts;
 mod scan;
 mod segment;
@@ -8,6 +9,7 @@ mod service;
 mod tag;
 mod value;
 
+pub use context::{Context, Level, read_context};
 pub use parts::{Fields, Part};
 pub use segment::{Lexed, fields, next_segment};
 pub use service::{Service, read_service};

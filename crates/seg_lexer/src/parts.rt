@@ -64,7 +64,10 @@ impl<O: Octets> Copy for Fields<'_, O> {}
 impl<'a, O: Octets> Fields<'a, O> {
     ghost use Rattle.std.specs.Prelude.{map};
     ghost use Rattle.seg_lexer.specs.Fields.{fields_of, placed};
-    ghost use Rattle.seg_lexer.specs.Parts.{fields_left};
+    ghost use Rattle.std.specs.Option.{option_map};
+    ghost use Rattle.seg_lexer.specs.Fields.{octets_at};
+    ghost use Rattle.seg_lexer.specs.Parts.{entries_left, fields_left};
+    ghost use Rattle.seg_lexer.specs.Value.{octets_of};
 
     /// The components of the segment `start..end` of a text.
     pub fn new(text: &'a O, service: &Service, start: usize, end: usize) -> Fields<'a, O>
@@ -89,6 +92,18 @@ impl<'a, O: Octets> Fields<'a, O> {
             end,
             place: Some(first),
         }
+    }
+
+    /// The value of a component, if it is among those that are left.
+    pub fn value_at(self, element: u32, component: u32) -> Option<Value<'a, O>>
+        ensures { option_map octets_of result ≡ octets_at element component (entries_left self.entry) }
+    {
+        for part in self {
+            if part.element == element && part.component == component {
+                return Some(part.value);
+            }
+        }
+        None
     }
 
     /// Cuts off the component that is next.

@@ -1,13 +1,13 @@
 -- The context of a text, from what stands at its first boundary.
-use Rattle.std.proofs.Common.{◌≡◌, ℕ, ◌<◌, ◌≤◌, ◌⊎◌, ⊎_elim, List, [], ◌∷◌, length, Option, Some, None, refl, sym, ap, ◌∙◌, subst, arith}
+use Rattle.std.proofs.Common.{◌≡◌, ℕ, ◌⊎◌, ⊎_elim, List, [], length, Option, Some, None, sym, ap, ◌∙◌, subst, arith}
 use Rattle.std.specs.List.{slice_get}
 use Rattle.std.proofs.lemmas.Option.{slice_get_past}
-use Rattle.seg_lexer.specs.Context.{context_in, context_of, entries_at, opening_in, opening_of}
-use Rattle.seg_lexer.specs.Segments.{IsBoundary, IsLexed, boundaries_of, segments_of}
+use Rattle.seg_lexer.specs.Context.{context_in, context_of, opening_in, opening_of}
+use Rattle.seg_lexer.specs.Fields.{entries_at}
+use Rattle.seg_lexer.specs.Segments.{IsLexed, boundaries_of, segments_of}
 use Rattle.seg_lexer.specs.Service.{service_of}
-use Rattle.seg_lexer.specs.declared.context.Context.{Context}
 use Rattle.seg_lexer.specs.declared.segment.Lexed.{Lexed}
-use Rattle.seg_lexer.specs.declared.segment.Lexed.TheVariants.{Ended, Tail, Nothing}
+use Rattle.seg_lexer.specs.declared.segment.Lexed.TheVariants.{Tail, Nothing}
 use Rattle.seg_lexer.specs.declared.service.Service.{Service}
 use Rattle.seg_lexer.proofs.SegmentsLemmas.{boundary-zero}
 

@@ -181,7 +181,6 @@ module _ (s : Service) (text : List ℕ) (is : s ≡ service_of text) where
   pub boundary-high : (from : ℕ) → IsBoundary s text from → from ≤ length text
   boundary-high from boundary = (boundary-at s text is-usable boundary.0 from boundary.1).high
 
-
   module _ (from len start k : ℕ) (all : len ≡ length text) (h : slice_get (boundaries_of s text) k ≡ Some from) where
     -- what the first unreleased terminator from a boundary on shows, or that there is none
     pub ended-lexed : (end : ℕ) → IsFirst (IsFree s.release s.terminator s.terminator text from) from len (Some end) → start ≡ lead text from end → IsLexed s text k from (Ended start end)

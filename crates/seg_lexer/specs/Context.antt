@@ -1,8 +1,7 @@
 -- The context of a text: its service characters, and what its first segment settles for all, the level of its characters and the version of its syntax.
-use Rattle.std.specs.Prelude.{ℕ, Bool, false, ◌&&◌, ◌==◌, List, [], find, slice_get, slice_range, codes, Option, Some, None, if◌then◌else◌}
-use Rattle.std.specs.Option.{option_map}
+use Rattle.std.specs.Prelude.{ℕ, Bool, false, List, [], slice_get, codes, Option, Some, None, if◌then◌else◌}
 use Rattle.std.specs.Str.{bytes_eq}
-use Rattle.seg_lexer.specs.Fields.{Entry, entries_of, octets_at}
+use Rattle.seg_lexer.specs.Fields.{Entry, entries_at, octets_at}
 use Rattle.seg_lexer.specs.Segments.{segments_of}
 use Rattle.seg_lexer.specs.Service.{service_of}
 use Rattle.seg_lexer.specs.Tag.{tag_of}
@@ -10,10 +9,6 @@ use Rattle.seg_lexer.specs.declared.service.Service.{Service}
 use Rattle.seg_lexer.specs.declared.context.Context.{Context}
 use Rattle.seg_lexer.specs.declared.context.Level.{Level}
 use Rattle.seg_lexer.specs.declared.context.Level.TheVariants.{A, B, C, D, E, F}
-
--- all that the segment start..end says
-abbrev pub entries_at : Service → List ℕ → ℕ → ℕ → List Entry
-entries_at s text start end = entries_of s.release s.element s.component (slice_range text start end)
 
 -- a segment has this tag
 abbrev pub is_tagged : List ℕ → Option (List ℕ) → Bool

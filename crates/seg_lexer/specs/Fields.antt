@@ -3,6 +3,7 @@ use Rattle.std.specs.Prelude.{◌≤◌, ⊤, ℕ, ◌+◌, ◌-◌, ◌≢◌, 
 use Rattle.std.specs.List.{enumerate_from, flat_map, range_with_len}
 use Rattle.std.specs.Option.{ForSome, option_map}
 use Rattle.seg_lexer.specs.Released.{is_release, is_released}
+use Rattle.seg_lexer.specs.declared.service.Service.{Service}
 
 -- the places from a up to b that pass a test
 unfoldable pub places_that : (ℕ → Bool) → ℕ → ℕ → List ℕ
@@ -65,6 +66,14 @@ entries_of release separator inner xs = map entry (fields_of release separator i
 -- a component of a segment that begins at place `start` of the text
 abbrev pub placed : ℕ → Field → Field
 placed start f = record f { from = start + f.from; to = start + f.to }
+
+-- the components of the segment start..end of a text
+abbrev pub fields_at : Service → List ℕ → ℕ → ℕ → List Field
+fields_at s text start end = map (placed start) (fields_of s.release s.element s.component (slice_range text start end))
+
+-- the same without places
+abbrev pub entries_at : Service → List ℕ → ℕ → ℕ → List Entry
+entries_at s text start end = entries_of s.release s.element s.component (slice_range text start end)
 
 -- the release character is neither separator
 abbrev pub AreApart : Option ℕ → ℕ → ℕ → Type 0

@@ -2,7 +2,8 @@
 ghost use Rattle.std.specs.Prelude.{Some, None, [], ◌≡◌, ◌+◌, ◌≤◌, length, slice_range};
 ghost use Rattle.std.specs.Option.{option_map};
 ghost use Rattle.std.specs.Str.{bytes_eq};
-ghost use Rattle.seg_lexer.specs.Context.{context_in, context_of, entries_at, level_in, opening_in, version_in};
+ghost use Rattle.seg_lexer.specs.Context.{context_in, context_of, level_in, opening_in, version_in};
+ghost use Rattle.seg_lexer.specs.Fields.{entries_at};
 ghost use Rattle.seg_lexer.specs.Service.{service_of};
 ghost use Rattle.seg_lexer.specs.Value.{octets_of};
 

@@ -7,6 +7,8 @@ mod scan;
 mod segment;
 mod service;
 mod tag;
+#[cfg(test)]
+mod tests;
 mod value;
 
 pub use context::{Context, Level, read_context};

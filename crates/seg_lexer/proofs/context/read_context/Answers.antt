@@ -1,4 +1,4 @@
-use Rattle.std.proofs.Common.{◌≡◌, ◌≤◌, ◌<◌, refl, sym, ◌∙◌, arith}
+use Rattle.std.proofs.Common.{sym, ◌∙◌, arith}
 use Rattle.seg_lexer.proofs.ContextLemmas.{context-ended, context-left}
 use Rattle.seg_lexer.proofs.SegmentsLemmas.{boundary-zero, first-boundary}
 use Rattle.seg_lexer.proofs.context.read_context.Goals as goal

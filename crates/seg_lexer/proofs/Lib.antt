@@ -1,3 +1,4 @@
+mod ContextLemmas
 mod CountLemmas
 mod CutLemmas
 pub mod FieldsLemmas

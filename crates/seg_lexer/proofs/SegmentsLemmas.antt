@@ -165,17 +165,21 @@ module _ (s : Service) (text : List ℕ) (usable : IsUsable s text) where
         ap (λ (i : ℕ). cond (ltb (lead text i (length text)) (length text)) (Some (lead text i (length text))) None) last,
       )
 
+module _ (s : Service) (text : List ℕ) where
+  -- the body's start is the first boundary
+  pub boundary-zero : slice_get (boundaries_of s text) 0 ≡ Some s.body
+  unfolding boundaries_of
+  boundary-zero = refl
+
+  pub first-boundary : IsBoundary s text s.body
+  first-boundary = (0, boundary-zero)
+
 module _ (s : Service) (text : List ℕ) (is : s ≡ service_of text) where
   pub is-usable : IsUsable s text
   is-usable = subst (λ (t : Service). IsUsable t text) (sym is) (service_of-usable text)
 
   pub boundary-high : (from : ℕ) → IsBoundary s text from → from ≤ length text
   boundary-high from boundary = (boundary-at s text is-usable boundary.0 from boundary.1).high
-
-  -- the body's start is a boundary
-  pub first-boundary : IsBoundary s text s.body
-  unfolding boundaries_of
-  first-boundary = (0, refl)
 
   module _ (from len start k : ℕ) (all : len ≡ length text) (h : slice_get (boundaries_of s text) k ≡ Some from) where
     -- what the first unreleased terminator from a boundary on shows, or that there is none

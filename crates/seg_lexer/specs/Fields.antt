@@ -1,8 +1,9 @@
 -- Fields of a segment (ISO 9735): elements parted by unreleased element separators, and their components by unreleased component separators. All of it is said over a segment's own octets.
-use Rattle.std.specs.Prelude.{◌≤◌, ⊤, ℕ, ◌+◌, ◌-◌, ◌≢◌, Bool, not, ◌&&◌, ◌==◌, List, [], ◌∷◌, ◌++◌, length, map, filter, slice_index, slice_range, Option}
+use Rattle.std.specs.Prelude.{◌≤◌, ⊤, ℕ, ◌+◌, ◌-◌, ◌≢◌, Bool, not, ◌&&◌, ◌==◌, List, [], ◌∷◌, ◌++◌, length, map, filter, find, slice_index, slice_range, Option}
 use Rattle.std.specs.List.{enumerate_from, flat_map, range_with_len}
-use Rattle.std.specs.Option.{ForSome}
+use Rattle.std.specs.Option.{ForSome, option_map}
 use Rattle.seg_lexer.specs.Released.{is_release, is_released}
+use Rattle.seg_lexer.specs.declared.service.Service.{Service}
 
 -- the places from a up to b that pass a test
 unfoldable pub places_that : (ℕ → Bool) → ℕ → ℕ → List ℕ
@@ -66,6 +67,14 @@ entries_of release separator inner xs = map entry (fields_of release separator i
 abbrev pub placed : ℕ → Field → Field
 placed start f = record f { from = start + f.from; to = start + f.to }
 
+-- the components of the segment start..end of a text
+abbrev pub fields_at : Service → List ℕ → ℕ → ℕ → List Field
+fields_at s text start end = map (placed start) (fields_of s.release s.element s.component (slice_range text start end))
+
+-- the same without places
+abbrev pub entries_at : Service → List ℕ → ℕ → ℕ → List Entry
+entries_at s text start end = entries_of s.release s.element s.component (slice_range text start end)
+
 -- the release character is neither separator
 abbrev pub AreApart : Option ℕ → ℕ → ℕ → Type 0
 AreApart release separator inner = ForSome release (λ r. (separator ≢ r) × (inner ≢ r))
@@ -85,3 +94,7 @@ fields_from release separator inner xs element c a =
 abbrev pub IsInOrder : ℕ → List Entry → Type 0
 IsInOrder n [] = ⊤
 IsInOrder n (e ∷ es) = (n ≤ e.element) × IsInOrder e.element es
+
+-- the value of a component, where it is written
+abbrev pub octets_at : ℕ → ℕ → List Entry → Option (List ℕ)
+octets_at element component entries = option_map (λ e. e.octets) (find (λ e. e.element == element && e.component == component) entries)

@@ -6,3 +6,4 @@ pub mod Segments
 pub mod Service
 pub mod Value
 pub mod Tag
+pub mod Context

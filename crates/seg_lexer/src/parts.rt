@@ -28,6 +28,13 @@ struct Place {
     component: u32,
 }
 
+/// The first component of a tag field.
+const FIRST: Place = Place {
+    at: 0,
+    element: 0,
+    component: 1,
+};
+
 /// Where a component ends, and where the next one begins if there is one.
 #[derive(Clone, Copy)]
 struct Cut {
@@ -62,24 +69,19 @@ impl<O: Octets> Clone for Fields<'_, O> {
 impl<O: Octets> Copy for Fields<'_, O> {}
 
 impl<'a, O: Octets> Fields<'a, O> {
-    ghost use Rattle.std.specs.Prelude.{map};
-    ghost use Rattle.seg_lexer.specs.Fields.{fields_of, placed};
-    ghost use Rattle.seg_lexer.specs.Parts.{fields_left};
+    ghost use Rattle.std.specs.Option.{option_map};
+    ghost use Rattle.seg_lexer.specs.Fields.{fields_at, octets_at};
+    ghost use Rattle.seg_lexer.specs.Parts.{entries_left, fields_left};
+    ghost use Rattle.seg_lexer.specs.Value.{octets_of};
 
     /// The components of the segment `start..end` of a text.
-    pub fn new(text: &'a O, service: &Service, start: usize, end: usize) -> Fields<'a, O>
+    pub(crate) fn new(text: &'a O, service: &Service, start: usize, end: usize) -> Fields<'a, O>
         requires apart { AreApart service.now.release service.now.element service.now.component }
         requires ordered { start ≤ end }
         requires within { end ≤ length (O.octets text.now) }
         requires short { length (O.octets text.now) ≤ LONGEST_TEXT }
-        ensures { let segment = slice_range (O.octets text.now) start end in
-            fields_left result ≡ map (placed start) (fields_of service.now.release service.now.element service.now.component segment) }
+        ensures { fields_left result ≡ fields_at service.now (O.octets text.now) start end }
     {
-        let first = Place {
-            at: 0,
-            element: 0,
-            component: 1,
-        };
         Fields {
             text,
             release: service.release,
@@ -87,8 +89,20 @@ impl<'a, O: Octets> Fields<'a, O> {
             component_separator: service.component,
             start,
             end,
-            place: Some(first),
+            place: Some(FIRST),
         }
+    }
+
+    /// The value of a component, if it is among those that are left.
+    pub fn value_at(self, element: u32, component: u32) -> Option<Value<'a, O>>
+        ensures { option_map octets_of result ≡ octets_at element component (entries_left self.entry) }
+    {
+        for part in self {
+            if part.element == element && part.component == component {
+                return Some(part.value);
+            }
+        }
+        None
     }
 
     /// Cuts off the component that is next.
@@ -121,7 +135,7 @@ impl<'a, O: Octets> Fields<'a, O> {
                     let next = Place {
                         at: stop + 1,
                         element: place.element + 1,
-                        component: 1,
+                        component: FIRST.component,
                     };
                     return Cut {
                         stop,

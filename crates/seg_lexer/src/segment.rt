@@ -1,6 +1,6 @@
 //! Segments, one after another.
-ghost use Rattle.std.specs.Prelude.{◌≡◌, ◌+◌, ◌-◌, ◌≤◌, ℕ, Some, length, map, slice_get, slice_range};
-ghost use Rattle.seg_lexer.specs.Fields.{IsInOrder, entries_of, fields_of, placed};
+ghost use Rattle.std.specs.Prelude.{◌≡◌, ◌+◌, ◌-◌, ◌≤◌, ℕ, Some, length, slice_get};
+ghost use Rattle.seg_lexer.specs.Fields.{IsInOrder, entries_at, fields_at};
 ghost use Rattle.seg_lexer.specs.Parts.{entries_left, fields_left};
 ghost use Rattle.seg_lexer.specs.Segments.{IsBoundary, IsLexed, boundaries_of};
 ghost use Rattle.seg_lexer.specs.Service.{service_of};
@@ -70,10 +70,8 @@ pub fn fields<'a, O: Octets>(
     requires short { length (O.octets text.now) ≤ LONGEST_TEXT }
     requires ordered { start ≤ end }
     requires within { end ≤ length (O.octets text.now) }
-    ensures fields { let segment = slice_range (O.octets text.now) start end in
-        fields_left result ≡ map (placed start) (fields_of service.now.release service.now.element service.now.component segment) }
-    ensures entries { let segment = slice_range (O.octets text.now) start end in
-        entries_left result ≡ entries_of service.now.release service.now.element service.now.component segment }
+    ensures fields { fields_left result ≡ fields_at service.now (O.octets text.now) start end }
+    ensures entries { entries_left result ≡ entries_at service.now (O.octets text.now) start end }
     ensures in_order { IsInOrder 0 (entries_left result) }
     ensures few { length (fields_left result) ≤ end - start + 1 }
 {

@@ -1,9 +1,9 @@
 //! The tag of a segment.
-ghost use Rattle.std.specs.Prelude.{Some, None, ◌≡◌, ◌≤◌, ◌==◌, length, slice_range, if◌then◌else◌};
+ghost use Rattle.std.specs.Prelude.{Some, None, ◌≡◌, ◌≤◌, ◌==◌, length, if◌then◌else◌};
 ghost use Rattle.std.specs.List.{list_all};
 ghost use Rattle.std.specs.Option.{option_map};
 ghost use Rattle.edi_tables.specs.Tag.{is_tag_of};
-ghost use Rattle.seg_lexer.specs.Fields.{IsInOrder, entries_of};
+ghost use Rattle.seg_lexer.specs.Fields.{IsInOrder, entries_at};
 ghost use Rattle.seg_lexer.specs.Parts.{entries_left};
 ghost use Rattle.seg_lexer.specs.Service.{service_of};
 ghost use Rattle.seg_lexer.specs.Tag.{tag_field, tag_of};
@@ -24,8 +24,7 @@ pub fn read_tag<O: Octets>(text: &O, service: &Service, start: usize, end: usize
     requires short { length (O.octets text.now) ≤ LONGEST_TEXT }
     requires ordered { start ≤ end }
     requires within { end ≤ length (O.octets text.now) }
-    ensures { let segment = slice_range (O.octets text.now) start end in
-        option_map (λ t. t.octets) result ≡ tag_of (entries_of service.now.release service.now.element service.now.component segment) }
+    ensures { option_map (λ t. t.octets) result ≡ tag_of (entries_at service.now (O.octets text.now) start end) }
 {
     let mut parts = fields(text, service, start, end);
     let first = parts.next()?;

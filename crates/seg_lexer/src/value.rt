@@ -34,7 +34,7 @@ impl<'a, O: Octets> Value<'a, O> {
     ghost use Rattle.seg_lexer.specs.Value.{octets_of, span_of};
 
     /// The value of the component `from..to` of a text.
-    pub fn new(text: &'a O, release: Option<u8>, from: usize, to: usize) -> Value<'a, O>
+    pub(crate) fn new(text: &'a O, release: Option<u8>, from: usize, to: usize) -> Value<'a, O>
         requires ordered { from ≤ to }
         requires within { to ≤ length (O.octets text.now) }
         ensures octets { octets_of result ≡ value_of release (slice_range (O.octets text.now) from to) }
@@ -120,7 +120,9 @@ impl<'a, O: Octets> Value<'a, O> {
 
 /// The octets of a value, one after another: seen as the list of those that are left.
 #[derive(Drop)]
+#[derive_where(Debug)]
 pub struct ValueOctets<'a, O: Octets> {
+    #[derive_where(skip)]
     text: &'a O,
     release: Option<u8>,
     at: usize,

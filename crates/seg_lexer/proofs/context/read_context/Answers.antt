@@ -1,0 +1,23 @@
+use Rattle.std.proofs.Common.{sym, ◌∙◌, arith}
+use Rattle.seg_lexer.proofs.ContextLemmas.{context-ended, context-left}
+use Rattle.seg_lexer.proofs.SegmentsLemmas.{boundary-zero, first-boundary}
+use Rattle.seg_lexer.proofs.context.read_context.Goals as goal
+
+pub next_segment-requires-clause-boundary : goal.next_segment-requires-clause-boundary
+next_segment-requires-clause-boundary g c = first-boundary _ _
+
+pub opening_context-requires-clause-ordered : goal.opening_context-requires-clause-ordered
+opening_context-requires-clause-ordered g c = (c.in-Ended.ensures.lexed 0 (boundary-zero _ _)).3
+
+pub opening_context-requires-clause-within : goal.opening_context-requires-clause-within
+opening_context-requires-clause-within g c = let below = (c.in-Ended.ensures.lexed 0 (boundary-zero _ _)).4 in omega arith
+
+pub returns-in-Ended-clause-context : goal.returns-in-Ended-clause-context
+returns-in-Ended-clause-context g c =
+    c.opening_context.ensures ∙ sym (context-ended _ _ c.read_service-service.ensures _ _ (c.in-Ended.ensures.lexed 0 (boundary-zero _ _)).0)
+
+pub returns-in-Tail : goal.returns-in-Tail
+returns-in-Tail g c = record {
+  context = c.unopened_context.ensures ∙ sym (context-left _ _ c.read_service-service.ensures c.next_segment.result c.next_segment.ensures.lexed c.in-Tail.is);
+  counted = c.next_segment.ensures.counted;
+}

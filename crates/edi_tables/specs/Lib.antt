@@ -1,4 +1,6 @@
+pub mod Collisions
 pub mod Extents
+pub mod Placement
 pub mod Rows
 pub mod Tag
 pub mod Walk

@@ -3,6 +3,7 @@ pub mod Depths
 pub mod Faults
 pub mod Lawful
 pub mod Made
+pub mod NodeReads
 pub mod Restored
 pub mod Stretches
 pub mod TableLaws

@@ -4,3 +4,4 @@ pub mod ElementLemmas
 pub mod HeadLemmas
 pub mod LoopLemmas
 pub mod SeenLemmas
+mod Worked

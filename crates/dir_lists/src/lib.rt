@@ -5,6 +5,8 @@ mod codes;
 mod elements;
 mod head;
 mod seen;
+#[cfg(test)]
+mod tests;
 
 pub use codes::read_codes;
 pub use elements::read_elements;

@@ -1,0 +1,4 @@
+pub mod CountLemmas
+pub mod PartLemmas
+pub mod StatusLemmas
+pub mod TableLineLemmas

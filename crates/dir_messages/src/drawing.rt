@@ -1,5 +1,5 @@
 //! The rows that the table lines of a message file draw.
-ghost use Rattle.std.specs.Prelude.{◌≡◌, ◌<◌, ◌^◌, ◌∷◌, [], MatchResult};
+ghost use Rattle.std.specs.Prelude.{◌≡◌, ◌≤◌, ◌<◌, ◌^◌, ◌∷◌, [], MatchResult, IfOk, IsSome};
 ghost use Rattle.edi_octets.specs.Left.{cells_left};
 ghost use Rattle.dir_messages.specs.Form.{form_faults, row_tag, is_greater};
 
@@ -23,6 +23,7 @@ pub(crate) struct Drawing {
     pub groups: u64,
     pub open_groups: u64,
     pub last_position: Option<u64>,
+    ghost open_within: { open_groups ≤ groups },
 }
 
 /// The row of a table line, and how many groups end behind it; of a group line, how many `+` it has.
@@ -33,7 +34,7 @@ pub(crate) struct DrawnRow {
 }
 
 impl Drawing {
-    ghost use Rattle.std.specs.Prelude.{◌≡◌, ◌≤◌, ◌<◌, ◌^◌, ◌++◌, ◌∷◌, [], List, filter, true, MatchResult, OnOk, IsSome};
+    ghost use Rattle.std.specs.Prelude.{◌≡◌, ◌≤◌, ◌<◌, ◌^◌, ◌++◌, ◌∷◌, [], List, filter, true, MatchResult, IfOk, OnOk, IsSome};
     ghost use Rattle.edi_octets.specs.Lines.{Line};
     ghost use Rattle.edi_octets.specs.Left.{line_shown};
     ghost use Rattle.dir_messages.specs.Message.{is_table_line, position_of};
@@ -78,7 +79,8 @@ impl Drawing {
         requires few { self.now.groups < 2 ^ 63 }
         requires table_line { is_table_line (line_shown line.now) ≡ true }
         requires position { position_of (line_shown line.now) ≡ position }
-        ensures { (earlier : List Line) → IsDrawn earlier self.now
+        ensures closes { IfOk result (λ drawn. IsSome drawn.row.tag → drawn.ends ≤ self.now.open_groups) }
+        ensures judged { (earlier : List Line) → IsDrawn earlier self.now
             → MatchResult result
                 (λ drawn. DrawsRow earlier (line_shown line.now) drawn)
                 (λ kind. BeginsWith kind (kinds_broken earlier (line_shown line.now))) }
@@ -104,7 +106,6 @@ impl Drawing {
     /// Puts a row behind those drawn so far. Where memory is refused, the drawing is not to be used again.
     fn push(&mut self, number: u32, position: u64, drawn: DrawnRow) -> Result<(), AllocError>
         requires few { self.old.groups < 2 ^ 63 }
-        requires open_groups { self.old.open_groups ≤ self.old.groups }
         requires ends { IsSome drawn.row.tag → drawn.ends ≤ self.old.open_groups }
         ensures { OnOk result (Puts self.old number position drawn self.new) }
     {
@@ -142,10 +143,11 @@ fn is_behind(last: Option<u64>, position: u64) -> bool
 /// so many ends, behind so many groups of which some are open.
 fn judge_form(middle: Cells<'_>, ends: u64, groups: u64, open_groups: u64) -> Result<Option<Tag>, DirKind>
     requires { groups < 2 ^ 63 }
-    ensures { MatchResult result
+    ensures judged { MatchResult result
         (λ tag. (form_faults (cells_left middle.entry) ends groups open_groups ≡ [])
             × (tag ≡ row_tag (cells_left middle.entry)))
         (λ kind. form_faults (cells_left middle.entry) ends groups open_groups ≡ kind ∷ []) }
+    ensures closes { IfOk result (λ tag. IsSome tag → ends ≤ open_groups) }
 {
     match form_of(middle) {
         None => Err(DirKind::BadLine),

@@ -1,14 +1,15 @@
 -- What has been drawn behind some table lines, and what the next line does to it.
 use Rattle.std.specs.Prelude.{◌≡◌, ◌+◌, ◌-◌, ◌≤◌, ℕ, not, List, [], ◌∷◌, ◌++◌, map, filter, sum_by, Option, Some, Result, Ok, Err, is_some, IsSome, if◌then◌else◌}
-use Rattle.edi_tables.specs.Rows.{when}
+use Rattle.edi_tables.specs.Rows.{when, table_faults}
 use Rattle.edi_octets.specs.declared.fault.DirKind.{DirKind}
 use Rattle.edi_octets.specs.declared.fault.DirKind.TheVariants.{BadLine, BadPosition}
+use Rattle.edi_octets.specs.declared.fault.DirFault.{DirFault}
 use Rattle.edi_octets.specs.declared.fault.DirStop.{DirStop}
 use Rattle.edi_octets.specs.declared.fault.DirStop.TheVariants.{Fault, Memory}
 use Rattle.edi_octets.specs.Lines.{Line}
 use Rattle.dir_messages.specs.declared.drawing.Drawing.{Drawing}
 use Rattle.dir_messages.specs.declared.drawing.DrawnRow.{DrawnRow}
-use Rattle.dir_messages.specs.Message.{ends_drawn, is_group_line, is_table_line, groups_among, has_rest, is_in_order, last_position, drawing_faults, line_faults, rows_of, row_of}
+use Rattle.dir_messages.specs.Message.{ends_drawn, is_group_line, is_table_line, groups_among, has_rest, is_in_order, last_position, drawing_faults, line_faults, rows_of, row_of, row_fault}
 
 -- how many groups these table lines have closed
 abbrev pub ends_among : List Line → ℕ
@@ -50,3 +51,13 @@ abbrev pub Judges : List Line → Line → Result (Unit {0}) DirStop → Drawing
 Judges earlier line (Ok done) drawing = (line_faults earlier line ≡ []) × IsDrawn (filter is_table_line (earlier ++ (line ∷ []))) drawing
 Judges earlier line (Err (Fault fault)) drawing = BeginsWith fault (line_faults earlier line)
 Judges earlier line (Err Memory) drawing = Unit {0}
+
+-- what the rows break, each fault at its row's line
+abbrev pub rows_faults : Line → List Line → List DirFault
+rows_faults type lines = map (row_fault type lines) (table_faults (rows_of lines))
+
+-- nothing is wrong, or the first fault is answered, or memory runs out
+abbrev pub FirstOf : Result (Unit {0}) DirStop → List DirFault → Type 0
+FirstOf (Ok done) faults = faults ≡ []
+FirstOf (Err (Fault fault)) faults = BeginsWith fault faults
+FirstOf (Err Memory) faults = Unit {0}

@@ -1,13 +1,14 @@
 //! The rows that the table lines of a message file draw.
 ghost use Rattle.std.specs.Prelude.{◌≡◌, ◌≤◌, ◌<◌, ◌^◌, ◌∷◌, [], MatchResult, IfOk, IsSome};
 ghost use Rattle.edi_octets.specs.Left.{cells_left};
+ghost use Rattle.dir_messages.specs.Message as message;
 ghost use Rattle.dir_messages.specs.Form.{form_faults, row_tag, is_greater};
 
 use crate::form::{Form, form_of};
 use crate::table_line::read_table_line;
 use crate::words;
 use edi_octets::{Cells, DirFault, DirKind, DirStop, LineText};
-use edi_tables::{TableRow, Tag};
+use edi_tables::{Chunk, List, MessageDef, Table, TableKind, TableRow, TableStop, Tag};
 use std::alloc::{AllocError, Global};
 
 /// The greatest depth that a row can have; groups deeper than that count as so deep.
@@ -34,11 +35,12 @@ pub(crate) struct DrawnRow {
 }
 
 impl Drawing {
-    ghost use Rattle.std.specs.Prelude.{◌≡◌, ◌≤◌, ◌<◌, ◌^◌, ◌++◌, ◌∷◌, [], List, filter, true, MatchResult, IfOk, OnOk, IsSome};
+    ghost use Rattle.std.specs.Prelude.{◌≡◌, ◌≤◌, ◌<◌, ◌^◌, ◌++◌, ◌∷◌, [], List, filter, true, MatchOption, MatchResult, IfOk, OnOk, IsSome, unwrap_or, slice_get};
     ghost use Rattle.edi_octets.specs.Lines.{Line};
     ghost use Rattle.edi_octets.specs.Left.{line_shown};
-    ghost use Rattle.dir_messages.specs.Message.{is_table_line, position_of};
-    ghost use Rattle.dir_messages.specs.Drawing.{IsDrawn, Judges, DrawsRow, Puts, BeginsWith, kinds_broken};
+    ghost use Rattle.edi_octets.specs.DirStop.{Gives, unless_faulty};
+    ghost use Rattle.dir_messages.specs.Message.{is_table_line, position_of, open_faults, rows_of};
+    ghost use Rattle.dir_messages.specs.Drawing.{IsDrawn, Judges, FirstOf, rows_faults, DrawsRow, Puts, BeginsWith, kinds_broken};
 
     /// Nothing drawn yet. It takes no memory.
     pub(crate) fn new(alloc: Global) -> Drawing
@@ -71,6 +73,61 @@ impl Drawing {
                 Ok(())
             }
             Err(kind) => Err(stop_at(line.number, kind)),
+        }
+    }
+
+    /// The message that is drawn, with the name of its type line, or the first fault behind the last line:
+    /// groups that are still open, or what the rows break.
+    pub(crate) fn finish(self, alloc: Global, name: &[u8], type_line: u32) -> Result<MessageDef, DirStop>
+        ensures { (type : Line) (drawn : List Line) → type.number ≡ type_line → IsDrawn drawn self
+            → Gives (λ m. m) result
+                (unless_faulty (open_faults drawn ++ rows_faults type drawn) (record { name = name.now; rows = rows_of drawn })) }
+    {
+        if let Some(line) = self.unclosed_line() {
+            return Err(stop_at(line, DirKind::NotClosed));
+        }
+        if let Err(stop) = self.judge_rows(alloc, type_line) {
+            return Err(stop);
+        }
+        let name = Chunk::of(alloc, name)?;
+        Ok(MessageDef {
+            name,
+            rows: List::of(self.rows),
+        })
+    }
+
+    /// The last table line, where groups are still open behind it.
+    fn unclosed_line(&self) -> Option<u32>
+        ensures { (drawn : List Line) → IsDrawn drawn self.now
+            → MatchOption result
+                (open_faults drawn ≡ [])
+                (λ line. open_faults drawn ≡ record { line = line; kind = DirKind.NotClosed } ∷ []) }
+    {
+        match self.row_lines.last() {
+            Some(line) if self.open_groups > 0 => Some(*line),
+            _ => None,
+        }
+    }
+
+    /// Judges the rows as a segment table: the first fault stands at its row's line, or at the type line.
+    fn judge_rows(&self, alloc: Global, type_line: u32) -> Result<(), DirStop>
+        ensures { (type : Line) (drawn : List Line) → type.number ≡ type_line → IsDrawn drawn self.now
+            → FirstOf result (rows_faults type drawn) }
+    {
+        match Table::build(alloc, &self.rows) {
+            Ok(_) => Ok(()),
+            Err(TableStop::Fault { at, kind }) => Err(stop_at(self.line_of(at, type_line), kind_of(kind))),
+            Err(TableStop::Memory) => Err(DirStop::Memory),
+        }
+    }
+
+    /// The line of a row, or the type line where there is no such row.
+    fn line_of(&self, row: u16, type_line: u32) -> u32
+        ensures { result ≡ unwrap_or (slice_get self.now.row_lines.items row) type_line }
+    {
+        match self.row_lines.get(usize::from(row)) {
+            Some(line) => *line,
+            None => type_line,
         }
     }
 
@@ -127,6 +184,20 @@ pub(crate) fn stop_at(line: u32, kind: DirKind) -> DirStop
     ensures { result ≡ DirStop.Fault (record { line = line; kind = kind }) }
 {
     DirStop::Fault(DirFault { line, kind })
+}
+
+/// The word for a rule of segment tables.
+fn kind_of(kind: TableKind) -> DirKind
+    ensures { result ≡ message.kind_of kind }
+{
+    match kind {
+        TableKind::TooMany => DirKind::TooMany,
+        TableKind::NoUnhUnt => DirKind::NoUnhUnt,
+        TableKind::EnvelopeTag => DirKind::EnvelopeTag,
+        TableKind::BadMax => DirKind::BadMax,
+        TableKind::BadDepth | TableKind::TooDeep => DirKind::TooDeep,
+        TableKind::NoTrigger => DirKind::NoTrigger,
+    }
 }
 
 /// Whether a position is greater than the one before, if there is one.

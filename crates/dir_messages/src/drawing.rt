@@ -103,10 +103,10 @@ impl Drawing {
                 (open_faults drawn ≡ [])
                 (λ line. open_faults drawn ≡ record { line = line; kind = DirKind.NotClosed } ∷ []) }
     {
-        match self.row_lines.last() {
-            Some(line) if self.open_groups > 0 => Some(*line),
-            _ => None,
+        if self.open_groups == 0 {
+            return None;
         }
+        self.row_lines.last().copied()
     }
 
     /// Judges the rows as a segment table: the first fault stands at its row's line, or at the type line.

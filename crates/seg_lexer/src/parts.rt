@@ -170,6 +170,7 @@ impl<'a, O: Octets> Iterator for Fields<'a, O> {
 
     ghost remaining = { item_count fields_left };
 
+    #[tactic(auto, unfolding(crate::specs::Parts::fields_left))]
     fn next(&mut self) -> Option<Part<'a, O>> {
         let place = self.place?;
         let cut = self.cut(place);

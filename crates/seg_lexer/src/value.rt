@@ -114,7 +114,7 @@ impl<'a, O: Octets> Value<'a, O> {
 
     /// Its component's first place in the text, and the place past its last.
     pub fn span(&self) -> (usize, usize)
-        ensures { result ≡ (self.now.from, self.now.to) }
+        ensures { result ≡ span_of self.now }
     {
         (self.from, self.to)
     }

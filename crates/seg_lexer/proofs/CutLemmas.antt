@@ -5,7 +5,7 @@ use Rattle.std.proofs.lemmas.Bool.{and_from, and_left, and_parts, eq-eqb, eqb-tr
 use Rattle.std.proofs.lemmas.List.Edits.{length-between, get_or-between}
 use Rattle.memchr.specs.Find.{NoneBefore, Nowhere}
 use Rattle.seg_lexer.specs.Fields.{AreApart, field_of, fields_from, is_cut}
-use Rattle.seg_lexer.specs.Place.{IsPlace}
+use Rattle.seg_lexer.specs.Place.{IsPlace, rest_of}
 use Rattle.seg_lexer.specs.Released.{IsFree, is_release, is_released}
 use Rattle.seg_lexer.specs.declared.parts.Place.{Place}
 use Rattle.seg_lexer.proofs.FieldsLemmas.{fields_from-component, fields_from-element, fields_from-last}
@@ -110,21 +110,22 @@ module _ (release : Option ℕ) (separator inner : ℕ) (text : List ℕ) (start
     here : IsFree release separator inner text (start + a) (start + (found - start))
     here = subst (IsFree release separator inner text (start + a)) (sym stop-at.2) free
 
-    pub rest-element : get_or text found 0 ≡ separator
+    pub rest-element : (p : Place) → p ≡ place (found - start + 1) (element + 1) 1 → get_or text found 0 ≡ separator
         → fields_from release separator inner (between start end text) element c a
-        ≡ field_of release (between start end text) element (c, (a, found - start)) ∷ fields_from release separator inner (between start end text) (element + 1) 1 (found - start + 1)
-    rest-element same =
+        ≡ field_of release (between start end text) element (c, (a, found - start)) ∷ rest_of release separator inner (between start end text) (Some p)
+    rest-element p is same =
         let len : length (between start end text) ≡ end - start = length-between text start end s.within in
         let below = stop-at.1 in
         fields_from-element release separator inner (between start end text) element c a (found - start) stop-at.0 (omega arith)
         (no-element release separator inner text start end a s (found - start) stop-at.0 (omega arith) before)
         (no-component release separator inner text start end a s (found - start) stop-at.0 (omega arith) before)
         (at_element release separator inner text start end a s (found - start) stop-at.0 below here (ap (λ (k : ℕ). get_or text k 0) stop-at.2 ∙ same))
+        ∙ ap (λ (q : Place). field_of release (between start end text) element (c, (a, found - start)) ∷ rest_of release separator inner (between start end text) (Some q)) (sym is)
 
-    pub rest-component : get_or text found 0 ≢ separator
+    pub rest-component : (p : Place) → p ≡ place (found - start + 1) element (c + 1) → get_or text found 0 ≢ separator
         → fields_from release separator inner (between start end text) element c a
-        ≡ field_of release (between start end text) element (c, (a, found - start)) ∷ fields_from release separator inner (between start end text) element (c + 1) (found - start + 1)
-    rest-component other =
+        ≡ field_of release (between start end text) element (c, (a, found - start)) ∷ rest_of release separator inner (between start end text) (Some p)
+    rest-component p is other =
         let len : length (between start end text) ≡ end - start = length-between text start end s.within in
         let below = stop-at.1 in
         let other_here : get_or text (start + (found - start)) 0 ≢ separator = λ same. other (sym (ap (λ (k : ℕ). get_or text k 0) stop-at.2) ∙ same) in
@@ -133,15 +134,16 @@ module _ (release : Option ℕ) (separator inner : ℕ) (text : List ℕ) (start
         (no-separator release separator inner text start end a s (found - start) stop-at.0 below here other_here))
         (no-component release separator inner text start end a s (found - start) stop-at.0 (omega arith) before)
         (at_component release separator inner text start end a s (found - start) stop-at.0 below here other_here)
+        ∙ ap (λ (q : Place). field_of release (between start end text) element (c, (a, found - start)) ∷ rest_of release separator inner (between start end text) (Some q)) (sym is)
 
     -- where the next component begins
-    pub place-behind : AreApart release separator inner → (e n : ℕ) → e ≤ found - start + 1 → n ≤ found - start + 1 + 1
-        → (next : Place) → Some (place (found - start + 1) e n) ≡ Some next → IsPlace release (between start end text) next
-    place-behind apart e n few_elements few_components next is =
+    pub place-behind : AreApart release separator inner → (e n : ℕ) (p : Place) → p ≡ place (found - start + 1) e n → e ≤ found - start + 1 → n ≤ found - start + 1 + 1
+        → (next : Place) → Some p ≡ Some next → IsPlace release (between start end text) next
+    place-behind apart e n p is_place few_elements few_components next is =
         let len : length (between start end text) ≡ end - start = length-between text start end s.within in
         let below = stop-at.1 in
-        let same : place (found - start + 1) e n ≡ next = cc in
-        subst (IsPlace release (between start end text)) same (record {
+        let same : p ≡ next = cc in
+        subst (IsPlace release (between start end text)) (sym is_place ∙ same) (record {
           within = omega arith;
           element = few_elements;
           component = few_components;

@@ -50,6 +50,7 @@ pub fields_left-first : {O : Type 0} {o : Ghosts O} (f : Fields O o) (p : Place)
     → octets_of v ≡ value_of f.release (between (f.start + p.at) (f.start + stop) (o.octets f.text.now)) → span_of v ≡ (f.start + p.at, f.start + stop)
     → fields_left f ≡ field p.element p.component (span_of v) (octets_of v)
     ∷ map (placed f.start) (rest_of f.release f.element_separator f.component_separator (between f.start f.end (o.octets f.text.now)) next)
+unfolding fields_left
 fields_left-first {o = o} f p stop next v is bounds rest octets span =
     let xs : List ℕ = between f.start f.end (o.octets f.text.now) in
     let later : List Field = map (placed f.start) (rest_of f.release f.element_separator f.component_separator xs next) in

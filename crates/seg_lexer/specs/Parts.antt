@@ -12,7 +12,7 @@ abbrev pub field_in : {O : Type 0} {o : Ghosts O} → Part O o → Field
 field_in p = record { element = p.element; component = p.component; from = p.value.from; to = p.value.to; octets = octets_of p.value }
 
 -- the components that are left, in order
-abbrev pub fields_left : {O : Type 0} {o : Ghosts O} → Fields O o → List Field
+unfoldable pub fields_left : {O : Type 0} {o : Ghosts O} → Fields O o → List Field
 fields_left {o = o} f =
     map (placed f.start) (rest_of f.release f.element_separator f.component_separator (slice_range (o.octets f.text.now) f.start f.end) f.place)
 

@@ -5,7 +5,7 @@ use Rattle.seg_lexer.specs.Fields.{value_of}
 use Rattle.seg_lexer.specs.declared.value.Value.{Value}
 
 -- the octets of a value: those of its component without the unreleased release characters
-abbrev pub octets_of : {O : Type 0} {o : Ghosts O} → Value O o → List ℕ
+unfoldable pub octets_of : {O : Type 0} {o : Ghosts O} → Value O o → List ℕ
 octets_of {o = o} v = value_of v.release (slice_range (o.octets v.text.now) v.from v.to)
 
 -- its component's first place in the text, and the place past its last

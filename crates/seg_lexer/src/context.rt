@@ -1,5 +1,5 @@
 //! The context of a text: its service characters, and what its first segment settles for all of it.
-ghost use Rattle.std.specs.Prelude.{Some, None, [], ◌≡◌, ◌+◌, ◌≤◌, length, slice_range};
+ghost use Rattle.std.specs.Prelude.{[], ◌≡◌, ◌+◌, ◌≤◌, length};
 ghost use Rattle.std.specs.Option.{option_map};
 ghost use Rattle.std.specs.Str.{bytes_eq};
 ghost use Rattle.seg_lexer.specs.Context.{context_in, context_of, level_in, opening_in, version_in};

@@ -1,5 +1,5 @@
 //! The components of a segment, one after another.
-ghost use Rattle.std.specs.Prelude.{Some, ◌≡◌, ◌∷◌, ◌-◌, ◌≤◌, length, slice_range};
+ghost use Rattle.std.specs.Prelude.{Some, ◌≡◌, ◌∷◌, ◌+◌, ◌-◌, ◌^◌, ◌<◌, ◌≤◌, length, slice_range};
 ghost use Rattle.std.specs.Option.{ForSome};
 ghost use Rattle.seg_lexer.specs.Fields.{AreApart, field_of};
 ghost use Rattle.seg_lexer.specs.Place.{IsPlace, rest_of};
@@ -26,6 +26,32 @@ struct Place {
     at: usize,
     element: u32,
     component: u32,
+}
+
+impl Place {
+    /// The first component of the next element.
+    fn next_element(&self, at: usize) -> Place
+        requires { self.now.element + 1 < 2 ^ 32 }
+        ensures { result ≡ record { at = at; element = self.now.element + 1; component = 1 } }
+    {
+        Place {
+            at,
+            element: self.element + 1,
+            component: 1,
+        }
+    }
+
+    /// The next component of the same element.
+    fn next_component(&self, at: usize) -> Place
+        requires { self.now.component + 1 < 2 ^ 32 }
+        ensures { result ≡ record { at = at; element = self.now.element; component = self.now.component + 1 } }
+    {
+        Place {
+            at,
+            element: self.element,
+            component: self.component + 1,
+        }
+    }
 }
 
 /// The first component of a tag field.
@@ -116,42 +142,20 @@ impl<'a, O: Octets> Fields<'a, O> {
             ∷ rest_of self.now.release self.now.element_separator self.now.component_separator xs result.next }
     {
         let from = self.start + place.at;
-        let separators = (self.element_separator, self.component_separator);
-        match find_free(
-            self.text,
-            self.release,
-            separators.0,
-            separators.1,
-            from,
-            self.end,
-        ) {
+        let (element, component) = (self.element_separator, self.component_separator);
+        match find_free(self.text, self.release, element, component, from, self.end) {
             None => Cut {
                 stop: self.end - self.start,
                 next: None,
             },
-            Some(found) => {
-                let stop = found - self.start;
-                if self.text.octet(found) == self.element_separator {
-                    let next = Place {
-                        at: stop + 1,
-                        element: place.element + 1,
-                        component: FIRST.component,
-                    };
-                    return Cut {
-                        stop,
-                        next: Some(next),
-                    };
-                }
-                let next = Place {
-                    at: stop + 1,
-                    element: place.element,
-                    component: place.component + 1,
-                };
-                Cut {
-                    stop,
-                    next: Some(next),
-                }
-            }
+            Some(found) if self.text.octet(found) == element => Cut {
+                stop: found - self.start,
+                next: Some(place.next_element(found - self.start + 1)),
+            },
+            Some(found) => Cut {
+                stop: found - self.start,
+                next: Some(place.next_component(found - self.start + 1)),
+            },
         }
     }
 }
@@ -166,6 +170,7 @@ impl<'a, O: Octets> Iterator for Fields<'a, O> {
 
     ghost remaining = { item_count fields_left };
 
+    #[tactic(auto, unfolding(crate::specs::Parts::fields_left))]
     fn next(&mut self) -> Option<Part<'a, O>> {
         let place = self.place?;
         let cut = self.cut(place);

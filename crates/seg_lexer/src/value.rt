@@ -34,6 +34,7 @@ impl<'a, O: Octets> Value<'a, O> {
     ghost use Rattle.seg_lexer.specs.Value.{octets_of, span_of};
 
     /// The value of the component `from..to` of a text.
+    #[tactic(auto, unfolding(crate::specs::Value::octets_of))]
     pub(crate) fn new(text: &'a O, release: Option<u8>, from: usize, to: usize) -> Value<'a, O>
         requires ordered { from ≤ to }
         requires within { to ≤ length (O.octets text.now) }
@@ -49,6 +50,7 @@ impl<'a, O: Octets> Value<'a, O> {
     }
 
     /// Its octets, one after another.
+    #[tactic(auto, unfolding(crate::specs::Value::octets_of))]
     pub fn octets(&self) -> ValueOctets<'a, O>
         ensures value { result ≡ octets_of self.now }
         ensures few { length result < 2 ^ 64 }
@@ -112,7 +114,7 @@ impl<'a, O: Octets> Value<'a, O> {
 
     /// Its component's first place in the text, and the place past its last.
     pub fn span(&self) -> (usize, usize)
-        ensures { result ≡ (self.now.from, self.now.to) }
+        ensures { result ≡ span_of self.now }
     {
         (self.from, self.to)
     }

@@ -3,6 +3,7 @@ use Rattle.std.specs.Prelude.{map}
 use Rattle.std.specs.List.{between}
 use Rattle.seg_lexer.specs.Fields.{placed}
 use Rattle.seg_lexer.proofs.FieldsLemmas.{fields_of-from}
+use Rattle.seg_lexer.specs.Parts.{fields_left}
 use Rattle.seg_lexer.proofs.PartsLemmas.{IsPlace-first}
 use Rattle.seg_lexer.proofs.parts.Fields.new.Goals as goal
 
@@ -16,6 +17,7 @@ invariant_of-result g c = record {
 }
 
 pub returns : goal.returns
+unfolding fields_left
 returns g c =
     ap (map (placed c.args.start))
     (fields_of-from c.args.service.now.release c.args.service.now.element c.args.service.now.component (between c.args.start c.args.end (g.O.Octets.octets c.args.text.now)))

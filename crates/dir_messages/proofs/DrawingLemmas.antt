@@ -142,7 +142,7 @@ closed_within (Some tag) ends open_groups sound =
 judged : Option ℕ → Option Tag → ℕ → ℕ → ℕ → List DirKind
 judged number tag ends groups open_groups =
     elim number [
-      Some n ↦ when (not (ends == 1 && n == groups + 1)) BadGroup
+      | Some n ↦ when (not (ends == 1 && n == groups + 1)) BadGroup
       | None ↦ if is_some tag then when (nat_lt open_groups ends) CloseWithoutOpen else BadLine ∷ []
     ]
 

@@ -95,9 +95,10 @@ module _ (drawn : List Line) (drawing : Drawing) (is : IsDrawn drawn drawing) wh
       let line : option_map (λ (l : Line). l.number) (slice_get drawn at) ≡ slice_get drawing.row_lines.items at =
       sym (slice_get-map (λ (l : Line). l.number) drawn at) ∙ ap (λ (xs : List ℕ). slice_get xs at) (sym is.numbers) in
       let here : row_fault type drawn (at, kind) ≡ record { line = unwrap_or (slice_get drawing.row_lines.items at) number; kind = kind_of kind } =
-      row_fault-is type drawn at kind ∙ fault_at-number type (kind_of kind) (slice_get drawn at) ∙ ap (λ n. record { line = n; kind = kind_of kind }) (ap (λ o. unwrap_or o type.number) line ∙ ap (unwrap_or (slice_get drawing.row_lines.items at)) same) in
-      (map (row_fault type drawn) first.0,
-        ap (λ rows. map (row_fault type drawn) (table_faults rows)) (sym is.rows) ∙ ap (map (row_fault type drawn)) first.1 ∙ ap (λ fault. fault ∷ map (row_fault type drawn) first.0) here)
+      row_fault-is type drawn at kind ∙ fault_at-number type (kind_of kind) (slice_get drawn at) ∙ ap (λ n. record { line = n; kind = kind_of kind }) (ap (λ o. unwrap_or o type.number) line ∙ ap (unwrap_or (slice_get drawing.row_lines.items at)) same) in (
+        map (row_fault type drawn) first.0,
+        ap (λ rows. map (row_fault type drawn) (table_faults rows)) (sym is.rows) ∙ ap (map (row_fault type drawn)) first.1 ∙ ap (λ fault. fault ∷ map (row_fault type drawn) first.0) here,
+      )
 
 -- what is answered for faults of which those in front are no groups left open
 pub finish-rows : (stop : DirStop) (front faults : List DirFault) (message : MessageDef) → front ≡ [] → FirstOf (Err stop) faults → Gives (λ (m : MessageDef). m) (Err stop) (unless_faulty (front ++ faults) message)

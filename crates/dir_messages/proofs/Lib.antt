@@ -5,3 +5,4 @@ pub mod PartLemmas
 pub mod ReaderLemmas
 pub mod StatusLemmas
 pub mod TableLineLemmas
+mod Worked

@@ -83,16 +83,16 @@ module _ {A : Type 0} (p : A → Bool) (front : List A) (x : A) (behind : List A
   suffix_len-last = rw turned (prefix_len-behind p (reverse behind) (x ∷ reverse front) (list_any-reverse p behind none) ∙ rw passes (omega (arith, length-reverse behind)))
 
   pub after_last-last : after_last p (front ++ (x ∷ behind)) ≡ behind
-  after_last-last = 
-    let joined : front ++ (x ∷ behind) ≡ (front ++ (x ∷ [])) ++ behind = sym (append_assoc front (x ∷ []) behind) in
-    let place : length (front ++ (x ∷ [])) ≡ length (front ++ (x ∷ behind)) - length behind =
-    omega (arith, length-append front (x ∷ []), length-append front (x ∷ behind)) in
-    rw suffix_len-last (ap (drop (length (front ++ (x ∷ behind)) - length behind)) joined ∙ drop_at (front ++ (x ∷ [])) behind (length (front ++ (x ∷ behind)) - length behind) place)
+  after_last-last =
+      let joined : front ++ (x ∷ behind) ≡ (front ++ (x ∷ [])) ++ behind = sym (append_assoc front (x ∷ []) behind) in
+      let place : length (front ++ (x ∷ [])) ≡ length (front ++ (x ∷ behind)) - length behind =
+      omega (arith, length-append front (x ∷ []), length-append front (x ∷ behind)) in
+      rw suffix_len-last (ap (drop (length (front ++ (x ∷ behind)) - length behind)) joined ∙ drop_at (front ++ (x ∷ [])) behind (length (front ++ (x ∷ behind)) - length behind) place)
 
   pub before_last-last : before_last p (front ++ (x ∷ behind)) ≡ front
-  before_last-last = 
-    let place : length front ≡ length (front ++ (x ∷ behind)) - length behind - 1 = omega (arith, length-append front (x ∷ behind)) in
-    rw suffix_len-last (take_at front (x ∷ behind) (length (front ++ (x ∷ behind)) - length behind - 1) place)
+  before_last-last =
+      let place : length front ≡ length (front ++ (x ∷ behind)) - length behind - 1 = omega (arith, length-append front (x ∷ behind)) in
+      rw suffix_len-last (take_at front (x ∷ behind) (length (front ++ (x ∷ behind)) - length behind - 1) place)
 
 pub find_none : {A : Type 0} (p : A → Bool) (xs : List A) → list_any p xs ≡ false → find p (reverse xs) ≡ None
 find_none p xs none = ap (find p) (sym (append-nil (reverse xs))) ∙ find-behind p (reverse xs) [] (list_any-reverse p xs none)

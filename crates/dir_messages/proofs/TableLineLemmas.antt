@@ -75,7 +75,7 @@ first_field-cut text k is within =
     record {
       more = [];
       parts =
-      slice_split_none is_space text (All-from_get_or (λ x. is_space x ≡ false) text 0 (λ i lt. fails_before_first is_space text i 0 (omega arith))) ∙ ap (λ part. part ∷ []) (sym (take_all k text ge));
+          slice_split_none is_space text (All-from_get_or (λ x. is_space x ≡ false) text 0 (λ i lt. fails_before_first is_space text i 0 (omega arith))) ∙ ap (λ part. part ∷ []) (sym (take_all k text ge));
       behind = ap parts_in (drop_all k text ge);
     })
     (cases_lt k (length text))

@@ -10,7 +10,7 @@ use Rattle.dir_messages.specs.Message.{number_drawn, tag_drawn}
 abbrev pub form_faults : List (List ℕ) → ℕ → ℕ → ℕ → List DirKind
 form_faults middle ends groups open_groups =
     elim (number_drawn middle) [
-      Some number ↦ when (not (ends == 1 && number == groups + 1)) BadGroup
+      | Some number ↦ when (not (ends == 1 && number == groups + 1)) BadGroup
       | None ↦ if is_some (tag_drawn middle) then when (nat_lt open_groups ends) CloseWithoutOpen else BadLine ∷ []
     ]
 

@@ -126,7 +126,7 @@ is_in_order earlier line = elim (last_position earlier) [ None ↦ true | Some p
 abbrev pub drawing_faults : List Line → Line → List DirKind
 drawing_faults earlier line =
     elim (number_drawn (middle_of line)) [
-      Some number ↦ when (not (ends_drawn line == 1 && number == groups_among earlier + 1)) BadGroup
+      | Some number ↦ when (not (ends_drawn line == 1 && number == groups_among earlier + 1)) BadGroup
       | None ↦ if is_some (tag_drawn (middle_of line)) then when (nat_lt (open_after earlier) (ends_drawn line)) CloseWithoutOpen else BadLine ∷ []
     ]
 

@@ -78,10 +78,15 @@ impl Drawing {
 
     /// The message that is drawn, with the name of its type line, or the first fault behind the last line:
     /// groups that are still open, or what the rows break.
-    pub(crate) fn finish(self, alloc: Global, name: &[u8], type_line: u32) -> Result<MessageDef, DirStop>
+    pub(crate) fn finish(
+        self,
+        alloc: Global,
+        name: &[u8],
+        type_line: u32,
+    ) -> Result<MessageDef, DirStop>
         ensures { (type : Line) (drawn : List Line) → type.number ≡ type_line → IsDrawn drawn self
             → Gives (λ m. m) result
-                (unless_faulty (open_faults drawn ++ rows_faults type drawn) (record { name = name.now; rows = rows_of drawn })) }
+            (unless_faulty (open_faults drawn ++ rows_faults type drawn) (record { name = name.now; rows = rows_of drawn })) }
     {
         if let Some(line) = self.unclosed_line() {
             return Err(stop_at(line, DirKind::NotClosed));
@@ -100,8 +105,8 @@ impl Drawing {
     fn unclosed_line(&self) -> Option<u32>
         ensures { (drawn : List Line) → IsDrawn drawn self.now
             → MatchOption result
-                (open_faults drawn ≡ [])
-                (λ line. open_faults drawn ≡ record { line = line; kind = DirKind.NotClosed } ∷ []) }
+            (open_faults drawn ≡ [])
+            (λ line. open_faults drawn ≡ record { line = line; kind = DirKind.NotClosed } ∷ []) }
     {
         if self.open_groups == 0 {
             return None;
@@ -116,7 +121,10 @@ impl Drawing {
     {
         match Table::build(alloc, &self.rows) {
             Ok(_) => Ok(()),
-            Err(TableStop::Fault { at, kind }) => Err(stop_at(self.line_of(at, type_line), kind_of(kind))),
+            Err(TableStop::Fault { at, kind }) => Err(stop_at(
+                self.line_of(at, type_line),
+                kind_of(kind),
+            )),
             Err(TableStop::Memory) => Err(DirStop::Memory),
         }
     }
@@ -139,8 +147,8 @@ impl Drawing {
         ensures closes { IfOk result (λ drawn. IsSome drawn.row.tag → drawn.ends ≤ self.now.open_groups) }
         ensures judged { (earlier : List Line) → IsDrawn earlier self.now
             → MatchResult result
-                (λ drawn. DrawsRow earlier (line_shown line.now) drawn)
-                (λ kind. BeginsWith kind (kinds_broken earlier (line_shown line.now))) }
+            (λ drawn. DrawsRow earlier (line_shown line.now) drawn)
+            (λ kind. BeginsWith kind (kinds_broken earlier (line_shown line.now))) }
     {
         let Some(read) = read_table_line(line) else {
             return Err(DirKind::BadLine);
@@ -212,11 +220,16 @@ fn is_behind(last: Option<u64>, position: u64) -> bool
 
 /// The tag of the row of a table line, which a group has not; or the rule that the line breaks, with
 /// so many ends, behind so many groups of which some are open.
-fn judge_form(middle: Cells<'_>, ends: u64, groups: u64, open_groups: u64) -> Result<Option<Tag>, DirKind>
+fn judge_form(
+    middle: Cells<'_>,
+    ends: u64,
+    groups: u64,
+    open_groups: u64,
+) -> Result<Option<Tag>, DirKind>
     requires { groups < 2 ^ 63 }
     ensures judged { MatchResult result
         (λ tag. (form_faults (cells_left middle.entry) ends groups open_groups ≡ [])
-            × (tag ≡ row_tag (cells_left middle.entry)))
+        × (tag ≡ row_tag (cells_left middle.entry)))
         (λ kind. form_faults (cells_left middle.entry) ends groups open_groups ≡ kind ∷ []) }
     ensures closes { IfOk result (λ tag. IsSome tag → ends ≤ open_groups) }
 {

@@ -80,5 +80,8 @@ fn are_all_dashes(mut fields: Cells<'_>) -> bool
 fn begins_group(dashes: &[u8], segment: &[u8], group: &[u8]) -> bool
     ensures { result ≡ begins_group_line dashes.now segment.now group.now }
 {
-    dashes.len() >= 2 && are_dashes(dashes) && is_word(segment, b"Segment") && is_word(group, b"group")
+    dashes.len() >= 2
+        && are_dashes(dashes)
+        && is_word(segment, b"Segment")
+        && is_word(group, b"group")
 }

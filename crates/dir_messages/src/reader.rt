@@ -31,7 +31,12 @@ pub fn read_message(alloc: Global, file: &[u8]) -> Result<MessageDef, DirStop>
 }
 
 /// Reads the lines behind the type line, which has this name and number.
-fn read_drawing(alloc: Global, name: &[u8], type_line: u32, lines: Lines<'_>) -> Result<MessageDef, DirStop>
+fn read_drawing(
+    alloc: Global,
+    name: &[u8],
+    type_line: u32,
+    lines: Lines<'_>,
+) -> Result<MessageDef, DirStop>
     requires { length (lines_left lines) ≤ 4194304 }
     ensures { (type : Line) → type.number ≡ type_line → name_on (fields_of type.octets) ≡ Some name.now
         → Gives (λ m. m) result (message_behind type (lines_left lines.entry)) }

@@ -38,10 +38,10 @@ pub(crate) fn read_table_line<'a>(line: &LineText<'a>) -> Option<TableLine<'a>>
     ensures { MatchOption result
         (message.has_rest (line_shown line.now) ≡ false)
         (λ table_line. (message.has_rest (line_shown line.now) ≡ true)
-            × (message.middle_of (line_shown line.now) ≡ cells_left table_line.middle)
-            × (message.status_of (line_shown line.now) ≡ Some table_line.must)
-            × (message.max_of (line_shown line.now) ≡ table_line.max)
-            × (message.ends_drawn (line_shown line.now) ≡ table_line.ends)) }
+        × (message.middle_of (line_shown line.now) ≡ cells_left table_line.middle)
+        × (message.status_of (line_shown line.now) ≡ Some table_line.must)
+        × (message.max_of (line_shown line.now) ≡ table_line.max)
+        × (message.ends_drawn (line_shown line.now) ≡ table_line.ends)) }
 {
     let behind = behind_position(line);
     let cut = cut_at_status(behind)?;
@@ -94,7 +94,8 @@ fn read_count(digits: &[u8]) -> Option<u32>
 fn is_tail(tail: &[u8]) -> bool
     ensures { result ≡ list_all message.is_tail_octet tail.now }
 {
-    tail.iter().all(|octet| matches!(octet, b' ' | b'-' | b'|' | b'+'))
+    tail.iter()
+        .all(|octet| matches!(octet, b' ' | b'-' | b'|' | b'+'))
 }
 
 /// How many `+` stand in a tail.
@@ -124,5 +125,7 @@ fn digits_in_front(text: &[u8]) -> usize
     ensures front { result ≡ prefix_len is_digit text.now }
     ensures within { result ≤ length text.now }
 {
-    text.iter().take_while(|octet| octet.is_ascii_digit()).count()
+    text.iter()
+        .take_while(|octet| octet.is_ascii_digit())
+        .count()
 }

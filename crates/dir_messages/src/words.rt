@@ -43,17 +43,14 @@ fn is_type(message: &[u8], kind: &[u8], colon: &[u8]) -> bool
 fn is_message_name(name: &[u8]) -> bool
     ensures { result ≡ message.is_message_name name.now }
 {
-    name.len() == 6
-        && name[0].is_ascii_uppercase()
-        && are_name_octets(name)
+    name.len() == 6 && name[0].is_ascii_uppercase() && are_name_octets(name)
 }
 
 /// Whether each octet is one of `A` to `Z` and `0` to `9`.
 fn are_name_octets(name: &[u8]) -> bool
     ensures { result ≡ list_all is_tag_octet_of name.now }
 {
-    name.iter()
-        .all(|octet| octet.is_ascii_uppercase() || octet.is_ascii_digit())
+    name.iter().all(|octet| octet.is_ascii_uppercase() || octet.is_ascii_digit())
 }
 
 /// The position of a table line; `None` for any other line.
@@ -61,7 +58,7 @@ pub(crate) fn position_of(line: &LineText<'_>) -> Option<u64>
     ensures { MatchOption result
         (message.is_table_line (line_shown line.now) ≡ false)
         (λ position. (message.is_table_line (line_shown line.now) ≡ true)
-            × (message.position_of (line_shown line.now) ≡ position)) }
+        × (message.position_of (line_shown line.now) ≡ position)) }
 {
     if line.indentation() > MOST_INDENTATION {
         return None;

@@ -1,0 +1,7 @@
+//! A directory from a shelf: its manifest, and the files that this names.
+#![tactic(auto)]
+
+mod manifest;
+mod words;
+
+pub use manifest::{FileKind, FileLine, Labels, Manifest};

@@ -1,0 +1,86 @@
+//! Element files.
+ghost use Rattle.std.specs.Prelude.{◌≡◌, ◌≤◌, Option, List, [], ◌∷◌, ◌++◌, length, map, is_some, OnOk};
+ghost use Rattle.std.specs.List.{list_any, flat_map};
+ghost use Rattle.edi_octets.specs.DirStop.{Gives, unless_faulty};
+ghost use Rattle.edi_octets.specs.Head.{head_field};
+ghost use Rattle.edi_octets.specs.Left.{line_shown, cells_left, body_left, entry_shown};
+ghost use Rattle.edi_octets.specs.Lines.{Line};
+ghost use Rattle.edi_octets.specs.Profile.{with_earlier, fields_of};
+ghost use Rattle.dir_lists.specs.Elements.{elements_in, element_faults, element_of, body_faults, end_faults, is_repr_line, repr_behind_word, repr_of_entry};
+
+use crate::head::{read_head, stop_at};
+use crate::seen::Seen;
+use edi_octets::{Cells, DirKind, DirStop, Entries, Entry, LineText, read_repr};
+use edi_tables::{ElementDef, Repr};
+use std::alloc::{AllocError, Global};
+
+/// Reads an element file of at most 4,194,304 octets: one data element an entry, in order. Else the
+/// first fault in judging order: `bad-code` and `twice` at a head, `bad-line` at a second `Repr:` line,
+/// `bad-repr` at a `Repr:` line without a representation, `no-repr` at the head of an entry without one.
+pub fn read_elements(alloc: Global, file: &[u8]) -> Result<Vec<ElementDef>, DirStop>
+    requires { length file.now ≤ 4194304 }
+    ensures { Gives (λ elements. elements.items) result (elements_in file.now) }
+{
+    let mut elements = Vec::new(alloc);
+    let mut seen = Seen::new(alloc);
+    for entry in Entries::of(file) {
+        let element = read_element(&entry, &mut seen)?;
+        elements.push(element).map_err(AllocError::from)?;
+    }
+    Ok(elements)
+}
+
+/// Reads an entry behind others, whose codes are seen.
+fn read_element<'a>(entry: &Entry<'a>, seen: &mut Seen<'a>) -> Result<ElementDef, DirStop>
+    ensures judged { (earlier : List (List Line)) → seen.old ≡ map head_field earlier
+        → Gives (λ element. Option.Some element) result (unless_faulty (element_faults earlier (entry_shown entry.now))
+        (element_of (entry_shown entry.now))) }
+    ensures joins { OnOk result (seen.new ≡ seen.old ++ head_field (entry_shown entry.now) ∷ []) }
+{
+    let code = read_head(&entry.head, seen)?;
+    let repr = read_body(entry)?;
+    Ok(ElementDef { code, repr })
+}
+
+/// Reads the lines of an entry behind its head, and judges its end.
+fn read_body(entry: &Entry<'_>) -> Result<Repr, DirStop>
+    ensures { let body = body_left entry.now.body in
+        Gives (λ repr. Option.Some repr) result
+        (unless_faulty (flat_map (λ p. body_faults p.0 p.1) (with_earlier body) ++ end_faults (line_shown entry.now.head) body)
+        (repr_of_entry body)) }
+{
+    let mut found = None;
+    for line in entry.body {
+        found = read_line(&line, found)?;
+    }
+    found.ok_or(stop_at(DirKind::NoRepr, &entry.head))
+}
+
+/// Reads a line of an entry behind others, in which this representation was found: what is found with it.
+fn read_line(line: &LineText<'_>, found: Option<Repr>) -> Result<Option<Repr>, DirStop>
+    ensures { (earlier : List Line) → found ≡ repr_of_entry earlier → is_some found ≡ list_any is_repr_line earlier
+        → Gives (λ found. found) result (unless_faulty (body_faults earlier (line_shown line.now))
+        (repr_of_entry (earlier ++ line_shown line.now ∷ []))) }
+{
+    if !line.begins_with(b"Repr:") {
+        return Ok(found);
+    }
+    if found.is_some() {
+        return Err(stop_at(DirKind::BadLine, line));
+    }
+    match read_behind_word(line.fields()) {
+        Some(repr) => Ok(Some(repr)),
+        None => Err(stop_at(DirKind::BadRepr, line)),
+    }
+}
+
+/// The representation that the one field behind a line's first word is.
+fn read_behind_word(fields: Cells<'_>) -> Option<Repr>
+    ensures { result ≡ repr_behind_word (cells_left fields.entry) }
+{
+    let mut fields = fields;
+    match (fields.next(), fields.next(), fields.next()) {
+        (Some(_), Some(field), None) => read_repr(field),
+        _ => None,
+    }
+}

@@ -1,0 +1,53 @@
+//! The head of an entry.
+ghost use Rattle.std.specs.Prelude.{◌≡◌, List, [], ◌∷◌, ◌++◌, map, Some, None, OnOk, if◌then◌else◌};
+ghost use Rattle.edi_octets.specs.DirStop.{Gives, at_line, unless_faulty};
+ghost use Rattle.edi_octets.specs.Head.{head_faults, head_field};
+ghost use Rattle.edi_octets.specs.Left.{line_shown};
+ghost use Rattle.edi_octets.specs.Lines.{Line};
+ghost use Rattle.edi_octets.specs.Profile as profile;
+
+use crate::seen::Seen;
+use edi_octets::{DirFault, DirKind, DirStop, LineText, is_element_code};
+use edi_tables::Code;
+
+/// Reads the head of an entry: a code and a name. The code is none of those seen, and joins them.
+pub(crate) fn read_head<'a>(head: &LineText<'a>, seen: &mut Seen<'a>) -> Result<Code, DirStop>
+    ensures judged { (earlier : List (List Line)) → seen.old ≡ map head_field earlier
+        → Gives (λ code. code) result (unless_faulty (head_faults profile.is_element_code earlier (line_shown head.now))
+        (record { octets = head_field (line_shown head.now ∷ []) })) }
+    ensures joins { OnOk result (seen.new ≡ seen.old ++ head_field (line_shown head.now ∷ []) ∷ []) }
+{
+    let field = head.first_field();
+    let Some(code) = read_code(field) else {
+        return Err(stop_at(DirKind::BadCode, head));
+    };
+    if !head.has_name() {
+        return Err(stop_at(DirKind::BadCode, head));
+    }
+    if !seen.add(field)? {
+        return Err(stop_at(DirKind::Twice, head));
+    }
+    Ok(code)
+}
+
+/// The code of a data element that a field is.
+fn read_code(field: &[u8]) -> Option<Code>
+    ensures { result ≡ (if profile.is_element_code field.now then Some (record { octets = field.now }) else None) }
+{
+    match field {
+        [a, b, c, d] if is_element_code(field) => Some(Code {
+            octets: [*a, *b, *c, *d],
+        }),
+        _ => None,
+    }
+}
+
+/// The stop for a fault of this kind at a line.
+pub(crate) fn stop_at(kind: DirKind, line: &LineText<'_>) -> DirStop
+    ensures { result ≡ DirStop.Fault (at_line kind (line_shown line.now)) }
+{
+    DirStop::Fault(DirFault {
+        line: line.number,
+        kind,
+    })
+}

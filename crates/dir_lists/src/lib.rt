@@ -1,0 +1,12 @@
+//! Element and code files of a directory.
+#![tactic(auto)]
+
+mod codes;
+mod elements;
+mod head;
+mod seen;
+#[cfg(test)]
+mod tests;
+
+pub use codes::read_codes;
+pub use elements::read_elements;

@@ -1,1 +1,2 @@
+pub mod ManifestLemmas
 pub mod WordLemmas

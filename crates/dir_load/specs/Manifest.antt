@@ -1,10 +1,9 @@
 -- What a manifest is.
-use Rattle.std.specs.Prelude.{◌≡◌, ◌-◌, ℕ, Bool, true, false, not, ◌==◌, ◌&&◌, nat_le, nat_lt, List, [], ◌∷◌, ◌++◌, length, filter, slice_get, Option, Some, None, is_some, option_and_then, Result, codes, if◌then◌else◌}
+use Rattle.std.specs.Prelude.{◌-◌, ℕ, Bool, true, not, ◌==◌, ◌&&◌, nat_le, List, [], ◌∷◌, length, filter, slice_get, Option, Some, None, option_and_then, Result, codes, if◌then◌else◌}
 use Rattle.std.specs.List.{slice_split, list_all, filter_map, flat_map}
 use Rattle.std.specs.Str.{bytes_eq}
 use Rattle.edi_tables.specs.Tag.{is_tag_octet_of}
 use Rattle.edi_octets.specs.declared.fault.DirFault.{DirFault}
-use Rattle.edi_octets.specs.declared.fault.DirKind.{DirKind}
 use Rattle.edi_octets.specs.declared.fault.DirKind.TheVariants.{BadLine, TooMany}
 use Rattle.edi_octets.specs.Lines.{Line, lines_of}
 use Rattle.edi_octets.specs.Name.{is_name_of}

@@ -1,7 +1,8 @@
 //! A directory from a shelf: its manifest, and the files that this names.
 #![tactic(auto)]
 
+mod counted;
 mod manifest;
 mod words;
 
-pub use manifest::{FileKind, FileLine, Labels, Manifest};
+pub use manifest::{FileKind, FileLine, Labels, Manifest, read_manifest};

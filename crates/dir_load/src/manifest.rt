@@ -1,13 +1,16 @@
 //! Manifests: the labels of a directory, and the files that it is made of.
 ghost use Rattle.std.specs.Prelude.{◌≡◌, ◌≤◌, ◌+◌, ◌++◌, ◌∷◌, [], List, ℕ, length, IfOk, OnOk, option_and_then};
-ghost use Rattle.std.specs.List.{list_all};
+ghost use Rattle.std.specs.List.{flat_map, list_all};
+ghost use Rattle.edi_octets.specs.Profile.{with_earlier};
+ghost use Rattle.dir_load.specs.Counted.{counted_left};
 ghost use Rattle.edi_tables.specs.Tag.{is_tag_octet_of};
-ghost use Rattle.dir_load.specs.Manifest.{is_label as is_label_of, is_in_turn as is_in_turn_of, kind_named, place_of, labels_on, file_on, file_faults, files_on, words_in};
+ghost use Rattle.dir_load.specs.Manifest.{is_label as is_label_of, is_in_turn as is_in_turn_of, kind_named, place_of, labels_on, file_on, file_faults, files_on, manifest_in, words_in};
 ghost use Rattle.edi_octets.specs.DirStop.{Gives, unless_faulty};
 ghost use Rattle.edi_octets.specs.Left.{line_shown};
 ghost use Rattle.edi_octets.specs.Lines.{Line};
 ghost use Rattle.edi_octets.specs.declared.fault.DirStop.TheVariants.{Fault};
 
+use crate::counted::CountedLines;
 use crate::words::{four_words, two_words};
 use edi_octets::{DirFault, DirKind, DirStop, LineText, is_name};
 use edi_tables::{Chunk, List};
@@ -43,6 +46,40 @@ pub struct Labels {
 pub struct Manifest {
     pub labels: Labels,
     pub files: List<FileLine>,
+}
+
+/// Reads a manifest of at most 4,194,304 octets: a line `directory VERSION RELEASE AGENCY`, and then one line a file,
+/// its kind and its name, parted by one space; lines of spaces alone are skipped. Else the first fault in judging order:
+/// `bad-line`, at line 0 where there is no line, or `too-many` at the 401st file.
+#[tactic(auto, unfolding(crate::specs::Manifest::manifest_in))]
+pub fn read_manifest(alloc: Global, octets: &[u8]) -> Result<Manifest, DirStop>
+    requires { length octets.now ≤ 4194304 }
+    ensures { Gives (λ manifest. manifest) result (manifest_in octets.now) }
+{
+    let mut lines = CountedLines::of(octets);
+    let Some(head) = lines.next() else {
+        return Err(stop_at(DirKind::BadLine, 0));
+    };
+    let Some(labels) = read_labels(alloc, head.octets)? else {
+        return Err(stop_at(DirKind::BadLine, head.number));
+    };
+    let files = read_files(alloc, lines)?;
+    Ok(Manifest {
+        labels,
+        files: List::of(files),
+    })
+}
+
+// The files of a manifest's later lines.
+fn read_files(alloc: Global, lines: CountedLines<'_>) -> Result<Vec<FileLine>, DirStop>
+    ensures { Gives (λ files. files.items) result
+        (unless_faulty (flat_map (λ p. file_faults p.0 p.1) (with_earlier (counted_left lines.entry))) (files_on (counted_left lines.entry))) }
+{
+    let mut files = Vec::new(alloc);
+    for line in lines {
+        read_line(alloc, &line, &mut files)?;
+    }
+    Ok(files)
 }
 
 // The labels of a manifest's first line.

@@ -28,25 +28,21 @@ some_where : (test : Bool) (v code : Code) → Some code ≡ cond test (Some v) 
 some_where true v code is = (refl, cc)
 some_where false v code is = (cc, cc)
 
--- a code was read, and there is a name
-pub good_head : (fields : List (List ℕ)) (field : List ℕ) (code : Code) → is_code_and_name (λ _. true) fields ≡ true → field ≡ first_field fields → Some code ≡ cond (is_element_code field) (Some (record { octets = field })) None → (is_code_and_name is_element_code fields ≡ true) × (code ≡ record { octets = first_field fields })
-good_head fields field code named same read =
-    let is = some_where (is_element_code field) (record { octets = field }) code read in
-    let digits : is_element_code (first_field fields) ≡ true = rw (← same) is.0 in
-    (is_code_and_name-parts is_element_code fields ∙ rw (named, digits) refl, rw (← same) is.1)
+-- for the reader of a code
+pub ruleset heads = (is_code_and_name-parts)
 
 -- the head after a code was read, where the codes seen are those of the entries before
-module _ (seen : List (List ℕ)) (earlier : List (List Line)) (head : Line) (field : List ℕ) (code : Code) (named : is_code_and_name (λ _. true) (fields_of head.octets) ≡ true) (same : field ≡ first_field (fields_of head.octets)) (read : Some code ≡ cond (is_element_code field) (Some (record { octets = field })) None) (codes : seen ≡ map head_field earlier) where
-  pub head-twice : (new : Bool) → new ≡ not (list_any (bytes_eq field) seen) → new ≡ false → head_faults is_element_code earlier head ≡ at_line Twice head ∷ []
+module _ (seen : List (List ℕ)) (earlier : List (List Line)) (head : Line) (code : Code) (read : Some code ≡ cond (is_code_and_name is_element_code (fields_of head.octets)) (Some (record { octets = first_field (fields_of head.octets) })) None) (codes : seen ≡ map head_field earlier) where
+  pub head-twice : (new : Bool) → new ≡ not (list_any (bytes_eq (first_field (fields_of head.octets))) seen) → new ≡ false → head_faults is_element_code earlier head ≡ at_line Twice head ∷ []
   head-twice new tells old =
-      let good = (good_head (fields_of head.octets) field code named same read).0 in
+      let good = some_where (is_code_and_name is_element_code (fields_of head.octets)) (record { octets = first_field (fields_of head.octets) }) code read in
       let there : list_any (bytes_eq (first_field (fields_of head.octets))) (map head_field earlier) ≡ true =
-      rw (← same, ← codes) (true_from_not _ (sym tells ∙ old)) in
-      rw (good, any_head (first_field (fields_of head.octets)) earlier, there) refl
+      rw (← codes) (true_from_not _ (sym tells ∙ old)) in
+      rw (good.0, any_head (first_field (fields_of head.octets)) earlier, there) refl
 
-  pub head-good : (new : Bool) → new ≡ not (list_any (bytes_eq field) seen) → new ≡ true → (head_faults is_element_code earlier head ≡ []) × (code ≡ record { octets = first_field (fields_of head.octets) })
+  pub head-good : (new : Bool) → new ≡ not (list_any (bytes_eq (first_field (fields_of head.octets))) seen) → new ≡ true → (head_faults is_element_code earlier head ≡ []) × (code ≡ record { octets = first_field (fields_of head.octets) })
   head-good new tells fresh =
-      let good = good_head (fields_of head.octets) field code named same read in
+      let good = some_where (is_code_and_name is_element_code (fields_of head.octets)) (record { octets = first_field (fields_of head.octets) }) code read in
       let absent : list_any (bytes_eq (first_field (fields_of head.octets))) (map head_field earlier) ≡ false =
-      rw (← same, ← codes) (false_from_not _ (sym tells ∙ fresh)) in
+      rw (← codes) (false_from_not _ (sym tells ∙ fresh)) in
       (rw (good.0, any_head (first_field (fields_of head.octets)) earlier, absent) refl, good.1)

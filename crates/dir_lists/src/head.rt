@@ -1,7 +1,7 @@
 //! The head of an entry.
 ghost use Rattle.std.specs.Prelude.{◌≡◌, List, [], ◌∷◌, ◌++◌, map, Some, None, OnOk, if◌then◌else◌};
 ghost use Rattle.edi_octets.specs.DirStop.{Gives, at_line, unless_faulty};
-ghost use Rattle.edi_octets.specs.Head.{head_faults, head_field};
+ghost use Rattle.edi_octets.specs.Head.{head_faults, head_field, is_code_and_name};
 ghost use Rattle.edi_octets.specs.Left.{line_shown};
 ghost use Rattle.edi_octets.specs.Lines.{Line};
 ghost use Rattle.edi_octets.specs.Profile as profile;
@@ -17,25 +17,24 @@ pub(crate) fn read_head<'a>(head: &LineText<'a>, seen: &mut Seen<'a>) -> Result<
         (record { octets = head_field (line_shown head.now ∷ []) })) }
     ensures joins { OnOk result (seen.new ≡ seen.old ++ head_field (line_shown head.now ∷ []) ∷ []) }
 {
-    let field = head.first_field();
-    let Some(code) = read_code(field) else {
+    let Some(code) = read_code(head) else {
         return Err(stop_at(DirKind::BadCode, head));
     };
-    if !head.has_name() {
-        return Err(stop_at(DirKind::BadCode, head));
-    }
-    if !seen.add(field)? {
+    if !seen.add(head.first_field())? {
         return Err(stop_at(DirKind::Twice, head));
     }
     Ok(code)
 }
 
-/// The code of a data element that a field is.
-fn read_code(field: &[u8]) -> Option<Code>
-    ensures { result ≡ (if profile.is_element_code field.now then Some (record { octets = field.now }) else None) }
+/// The code of a data element that a head has; `None` where the head isn't a code and a name.
+#[tactic(auto, using(crate::proofs::HeadLemmas::heads))]
+fn read_code(head: &LineText<'_>) -> Option<Code>
+    ensures { let fields = profile.fields_of head.now.octets.now in
+        result ≡ (if is_code_and_name profile.is_element_code fields then Some (record { octets = profile.first_field fields }) else None) }
 {
+    let field = head.first_field();
     match field {
-        [a, b, c, d] if is_element_code(field) => Some(Code {
+        [a, b, c, d] if is_element_code(field) && head.has_name() => Some(Code {
             octets: [*a, *b, *c, *d],
         }),
         _ => None,

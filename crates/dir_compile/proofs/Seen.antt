@@ -1,0 +1,62 @@
+-- A step of a set of the names before a place.
+use Rattle.std.proofs.Common.{◌≡◌, ℕ, ◌+◌, ◌<◌, Bool, true, false, not, ◌||◌, List, [], ◌∷◌, ◌++◌, length, get_or, take, map, Some, sym, ap, ◌∙◌, refl, subst, arith, if◌then◌else◌, true≢false}
+use Rattle.std.specs.List.{list_any}
+use Rattle.std.specs.Str.{bytes_eq}
+use Rattle.std.proofs.lemmas.List.{take_more, map_push}
+use Rattle.dir_compile.specs.declared.stop.CompileStop.{CompileStop}
+use Rattle.dir_compile.specs.declared.stop.CompileKind.TheVariants.{Twice}
+use Rattle.dir_compile.specs.Compile.{twice_in, value_name}
+use Rattle.dir_compile.specs.Judges.{IsFirstFault, first_of}
+use Rattle.dir_compile.specs.Stop.{IsStopAt}
+use Rattle.dir_compile.proofs.Faults.{first-stop}
+use Rattle.dir_compile.proofs.Twice.{twice_in-more, first_of-twice_in, list_any-flip}
+
+-- a test of names that are seen by a view
+list_any-view : {K : Type 0} (view : K → List ℕ) (test : List ℕ → Bool) (keys : List K) → list_any (λ k. test (view k)) keys ≡ list_any test (map view keys)
+list_any-view view test [] = refl
+list_any-view view test (k ∷ keys) = ap (λ b. test (view k) || b) (list_any-view view test keys)
+
+-- `not` gives its argument back
+not-true : (b : Bool) → true ≡ not b → b ≡ false
+not-true true e = absurd (true≢false e)
+not-true false e = refl
+
+not-false : (b : Bool) → false ≡ not b → b ≡ true
+not-false true e = refl
+not-false false e = absurd (true≢false (sym e))
+
+-- what a set answers and keeps, where it has the names before the place i and is given the one there
+pub record IsSeenAt {K : Type 0} (view : K → List ℕ) (names : List (List ℕ)) (i : ℕ) (keys : List K) (k : K) : Type 0 where
+  pub within : i < length names
+  pub here : view k ≡ get_or names i (view k)
+  pub placed : map view keys ≡ take i names
+  pub apart : twice_in value_name (take i names) ≡ []
+
+module _ {K : Type 0} (view : K → List ℕ) (names : List (List ℕ)) (i : ℕ) (keys : List K) (k : K) (seen : IsSeenAt view names i keys k) where
+  -- what the set tests is whether the name stands before
+  tested : list_any (λ y. bytes_eq (view k) (view y)) keys ≡ list_any (λ x. bytes_eq x (view k)) (take i names)
+  tested = list_any-view view (bytes_eq (view k)) keys ∙ ap (list_any (bytes_eq (view k))) seen.placed ∙ list_any-flip (take i names) (view k)
+
+  -- a name that isn't added is the first that stands twice
+  pub first-seen : (stop : CompileStop) (added : Bool) → added ≡ not (list_any (λ y. bytes_eq (view k) (view y)) keys) → added ≡ false → IsStopAt Twice (view k) stop → IsFirstFault stop (twice_in value_name names)
+  first-seen stop added answers old at =
+      let there : list_any (λ x. bytes_eq x (view k)) (take i names) ≡ true = sym tested ∙ not-false _ (sym old ∙ answers) in
+      let there' : list_any (λ x. bytes_eq x (get_or names i (view k))) (take i names) ≡ true = subst (λ n. list_any (λ x. bytes_eq x n) (take i names) ≡ true) seen.here there in
+      let first : first_of (twice_in value_name names) ≡ Some (Twice, get_or names i (view k)) = first_of-twice_in value_name names i (view k) seen.within seen.apart there' in
+      first-stop stop Twice (view k) (twice_in value_name names) at (first ∙ ap (λ n. Some (Twice, n)) (sym seen.here))
+
+  -- a name that is added stands behind those before it
+  pub placed-seen : (added : Bool) (new : List K) → added ≡ not (list_any (λ y. bytes_eq (view k) (view y)) keys) → added ≡ true → new ≡ (if list_any (λ y. bytes_eq (view k) (view y)) keys then keys else keys ++ k ∷ []) → map view new ≡ take (i + 1) names
+  placed-seen added new answers fresh kept =
+      let absent : list_any (λ y. bytes_eq (view k) (view y)) keys ≡ false = not-true _ (sym fresh ∙ answers) in
+      ap (map view) (kept ∙ ap (λ b. if b then keys else keys ++ k ∷ []) absent)
+      ∙ map_push view keys k ∙ ap (λ l. l ++ view k ∷ []) seen.placed
+      ∙ ap (λ n. take i names ++ n ∷ []) seen.here
+      ∙ sym (take_more names i (view k) seen.within)
+
+  -- and no name stands twice up to the next place
+  pub apart-seen : (added : Bool) → added ≡ not (list_any (λ y. bytes_eq (view k) (view y)) keys) → added ≡ true → twice_in value_name (take (i + 1) names) ≡ []
+  apart-seen added answers fresh =
+      let absent : list_any (λ x. bytes_eq x (view k)) (take i names) ≡ false = sym tested ∙ not-true _ (sym fresh ∙ answers) in
+      let absent' : list_any (λ x. bytes_eq x (get_or names i (view k))) (take i names) ≡ false = subst (λ n. list_any (λ x. bytes_eq x n) (take i names) ≡ false) seen.here absent in
+      twice_in-more value_name names i (view k) seen.within seen.apart absent'

@@ -1,0 +1,16 @@
+-- What the fields of a directory keep.
+use Rattle.std.specs.Prelude.{◌≡◌, ◌<◌, All, length, map}
+use Rattle.dir_compile.specs.declared.directory.Directory.TheInside.{Inside}
+use Rattle.dir_compile.specs.Compile.{list_name, composite_name, segment_name, message_name}
+use Rattle.dir_compile.specs.Directory.{IsDirectory, tables_of}
+
+-- its parts are a directory's, each name stands at the place of its definition, and the tables are the parts'
+pub record IsIndexed (d : Inside) : Type 0 where
+  pub lawful : IsDirectory d.parts
+  pub few : length d.parts.messages < 4000000000
+  pub named : All (λ m. length m.name ≡ 6) d.parts.messages
+  pub lists : d.lists.keys ≡ map list_name d.parts.lists
+  pub composites : d.composites.keys ≡ map composite_name d.parts.composites
+  pub segments : d.segments.keys ≡ map segment_name d.parts.segments
+  pub messages : d.messages.keys ≡ map message_name d.parts.messages
+  pub tables : d.tables.items ≡ tables_of d.parts

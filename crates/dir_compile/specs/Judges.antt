@@ -1,0 +1,20 @@
+-- What a judge of parts answers.
+use Rattle.std.specs.Prelude.{◌≡◌, ℕ, List, [], ◌∷◌, Option, Some, None, Result, Ok, Err}
+use Rattle.dir_compile.specs.declared.stop.CompileKind.{CompileKind}
+use Rattle.dir_compile.specs.declared.stop.CompileStop.{CompileStop}
+use Rattle.dir_compile.specs.declared.stop.CompileStop.TheVariants.{Fault, Memory}
+
+-- the first of a list, if there is one
+abbrev pub first_of : {A : Type 0} → List A → Option A
+first_of [] = None
+first_of (x ∷ xs) = Some x
+
+-- a stop tells the first of these faults, unless memory ran out
+abbrev pub IsFirstFault : CompileStop → List (CompileKind × List ℕ) → Type 0
+IsFirstFault (Fault kind name) faults = first_of faults ≡ Some (kind, name)
+IsFirstFault Memory faults = Unit {0}
+
+-- what was answered is Ok exactly where there is no fault, else the first one, unless memory ran out
+abbrev pub Judges : {A : Type 0} → Result A CompileStop → List (CompileKind × List ℕ) → Type 0
+Judges (Ok x) faults = faults ≡ []
+Judges (Err stop) faults = IsFirstFault stop faults

@@ -1,0 +1,207 @@
+//! A directory and what it has under a name.
+ghost use Rattle.std.specs.Str.{bytes_eq};
+ghost use Rattle.std.specs.Prelude.{[], ◌&&◌, ◌∷◌, ◌≡◌, ◌<◌, All, IfOk, IfErr, IfSome, Some, length, map, position, slice_get};
+ghost use Rattle.std.specs.Option.{option_copied, option_map};
+ghost use Rattle.edi_tables.specs.Rows.{nodes_of, table_faults};
+ghost use Rattle.service_tables.specs.ServiceTables.{contrl_table_rows};
+ghost use Rattle.dir_compile.specs.Stop.{IsMemory};
+ghost use Rattle.dir_compile.specs.Compile.{composite_name, list_name, message_name, named_in, segment_name};
+ghost use Rattle.dir_compile.specs.Directory.{
+  IsDirectory,
+  contrl_name,
+  is_table_named,
+  table_named,
+  table_names,
+  tables_of,
+};
+
+use crate::names::{index_composites, index_lists, index_messages, index_segments, six_octets};
+use crate::{CompileStop, Parts};
+use edi_tables::{Code, CodeList, CompositeDef, MessageDef, SegmentDef, Table, TableRow, Tag};
+use indexmap::IndexSet;
+use service_tables::contrl_rows;
+use std::alloc::Global;
+use std::marker::Model;
+
+/// A directory without fault, seen as its parts in ascending order of names.
+#[derive(Drop)]
+pub struct Directory {
+    parts: Parts,
+    lists: IndexSet<[u8; 4]>,
+    composites: IndexSet<[u8; 4]>,
+    segments: IndexSet<[u8; 3]>,
+    messages: IndexSet<[u8; 6]>,
+    tables: Vec<Table>,
+}
+
+impl Model for Directory {
+    ghost use Rattle.dir_compile.specs.declared.parts.Parts.{Parts};
+
+    ghost Value = { Parts };
+
+    ghost use Rattle.dir_compile.specs.Indexed.{IsIndexed};
+
+    ghost view = { λ d. d.parts };
+
+    ghost invariant = { IsIndexed };
+}
+
+impl Directory {
+    /// The directory of parts that have no fault and stand in order.
+    pub fn of(alloc: Global, parts: Parts) -> Result<Directory, CompileStop>
+        requires lawful { IsDirectory parts }
+        requires few { length parts.messages < 4000000000 }
+        requires named { All (λ m. length m.name ≡ 6) parts.messages }
+        ensures ok { IfOk result (λ directory. directory ≡ parts) }
+        ensures err { IfErr result IsMemory }
+    {
+        let lists = index_lists(alloc, parts.lists.items())?;
+        let composites = index_composites(alloc, parts.composites.items())?;
+        let segments = index_segments(alloc, parts.segments.items())?;
+        let messages = index_messages(alloc, parts.messages.items())?;
+        let tables = build_tables(alloc, parts.messages.items())?;
+        Ok(Directory {
+            parts,
+            lists,
+            composites,
+            segments,
+            messages,
+            tables,
+        })
+    }
+
+    /// Its parts, in ascending order.
+    pub fn parts(&self) -> &Parts
+        ensures { result.now ≡ self.now }
+    {
+        &self.parts
+    }
+
+    /// The number of the segment table with this name, version, release and agency, if there is one.
+    pub fn find_table(
+        &self,
+        name: &[u8],
+        version: &[u8],
+        release: &[u8],
+        agency: &[u8],
+    ) -> Option<usize>
+        ensures { result ≡ table_named self.now name.now version.now release.now agency.now }
+    {
+        if is_contrl(name, version, release, agency) {
+            return Some(0);
+        }
+        if !self.is_of(version, release, agency) {
+            return None;
+        }
+        let place = self.place_of_message(name)?;
+        Some(place + 1)
+    }
+
+    /// The place of the message of that name among the messages.
+    fn place_of_message(&self, name: &[u8]) -> Option<usize>
+        ensures place { result ≡ position (λ m. bytes_eq (message_name m) name.now) self.now.messages }
+        ensures few { IfSome result (λ place. place < 4000000000) }
+    {
+        let messages = &self.messages;
+        if name.len() != 6 {
+            return None;
+        }
+        messages.get_index_of(&six_octets(name))
+    }
+
+    /// Whether its messages are of this version, release and agency.
+    fn is_of(&self, version: &[u8], release: &[u8], agency: &[u8]) -> bool
+        ensures { result ≡ (bytes_eq self.now.version version.now
+            && bytes_eq self.now.release release.now
+            && bytes_eq self.now.agency agency.now) }
+    {
+        self.parts.version.octets() == version
+            && self.parts.release.octets() == release
+            && self.parts.agency.octets() == agency
+    }
+
+    /// How many segment tables it has: CONTRL's, which is number 0, and one a message.
+    pub fn table_count(&self) -> usize
+        ensures { result ≡ length (tables_of self.now) }
+    {
+        self.tables.len()
+    }
+
+    /// The segment table of that number.
+    pub fn table(&self, i: usize) -> &Table
+        requires { i < length (tables_of self.now) }
+        ensures { slice_get (tables_of self.now) i ≡ Some result.now }
+    {
+        &self.tables[i]
+    }
+
+    /// The name of the message of that table.
+    pub fn table_name(&self, i: usize) -> &[u8]
+        requires { i < length (tables_of self.now) }
+        ensures { option_map (λ table. table.name) (slice_get (table_names self.now) i) ≡ Some result.now }
+    {
+        if i == 0 {
+            b"CONTRL"
+        } else {
+            self.parts.messages.items()[i - 1].name.octets()
+        }
+    }
+
+    /// The segment of that tag, if it defines one.
+    pub fn segment(&self, tag: Tag) -> Option<&SegmentDef>
+        ensures { option_copied result ≡ named_in segment_name self.now.segments tag.octets }
+    {
+        let place = self.segments.get_index_of(&tag.octets)?;
+        self.parts.segments.items().get(place)
+    }
+
+    /// The composite of that code, if it defines one.
+    pub fn composite(&self, code: Code) -> Option<&CompositeDef>
+        ensures { option_copied result ≡ named_in composite_name self.now.composites code.octets }
+    {
+        let place = self.composites.get_index_of(&code.octets)?;
+        self.parts.composites.items().get(place)
+    }
+
+    /// The code list of that data element, if it has one.
+    pub fn list(&self, element: Code) -> Option<&CodeList>
+        ensures { option_copied result ≡ named_in list_name self.now.lists element.octets }
+    {
+        let place = self.lists.get_index_of(&element.octets)?;
+        self.parts.lists.items().get(place)
+    }
+}
+
+/// Whether these four are CONTRL's.
+fn is_contrl(name: &[u8], version: &[u8], release: &[u8], agency: &[u8]) -> bool
+    ensures { result ≡ is_table_named name.now version.now release.now agency.now contrl_name }
+{
+    b"CONTRL".as_slice() == name
+        && b"D".as_slice() == version
+        && b"3".as_slice() == release
+        && b"UN".as_slice() == agency
+}
+
+/// The table of CONTRL, and one a message.
+fn build_tables(alloc: Global, messages: &[MessageDef]) -> Result<Vec<Table>, CompileStop>
+    requires few { length messages.now < 4000000000 }
+    requires lawful { All (λ m. table_faults m.rows ≡ []) messages.now }
+    ensures ok { IfOk result (λ tables. tables.items
+        ≡ nodes_of contrl_table_rows ∷ map (λ m. nodes_of m.rows) messages.now) }
+    ensures err { IfErr result IsMemory }
+{
+    let mut tables = Vec::with_capacity(alloc, messages.len() + 1)?;
+    tables.push(build_table(alloc, contrl_rows())?)?;
+    for message in messages {
+        tables.push(build_table(alloc, message.rows.items())?)?;
+    }
+    Ok(tables)
+}
+
+fn build_table(alloc: Global, rows: &[TableRow]) -> Result<Table, CompileStop>
+    requires { table_faults rows.now ≡ [] }
+    ensures ok { IfOk result (λ table. table ≡ nodes_of rows.now) }
+    ensures err { IfErr result IsMemory }
+{
+    Table::build(alloc, rows).map_err(|_| CompileStop::Memory)
+}

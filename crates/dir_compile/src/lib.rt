@@ -1,0 +1,17 @@
+//! A directory from its parts.
+#![tactic(auto)]
+
+mod build;
+mod directory;
+mod judge;
+mod names;
+mod order;
+mod parts;
+mod stop;
+#[cfg(test)]
+mod tests;
+
+pub use build::compile;
+pub use directory::Directory;
+pub use parts::Parts;
+pub use stop::{CompileKind, CompileStop};

@@ -1,0 +1,7 @@
+pub mod CountLemmas
+pub mod DrawingLemmas
+pub mod FinishLemmas
+pub mod PartLemmas
+pub mod ReaderLemmas
+pub mod StatusLemmas
+pub mod TableLineLemmas

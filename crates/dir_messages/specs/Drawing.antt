@@ -1,0 +1,63 @@
+-- What has been drawn behind some table lines, and what the next line does to it.
+use Rattle.std.specs.Prelude.{◌≡◌, ◌+◌, ◌-◌, ◌≤◌, ℕ, not, List, [], ◌∷◌, ◌++◌, map, filter, sum_by, Option, Some, Result, Ok, Err, is_some, IsSome, if◌then◌else◌}
+use Rattle.edi_tables.specs.Rows.{when, table_faults}
+use Rattle.edi_octets.specs.declared.fault.DirKind.{DirKind}
+use Rattle.edi_octets.specs.declared.fault.DirKind.TheVariants.{BadLine, BadPosition}
+use Rattle.edi_octets.specs.declared.fault.DirFault.{DirFault}
+use Rattle.edi_octets.specs.declared.fault.DirStop.{DirStop}
+use Rattle.edi_octets.specs.declared.fault.DirStop.TheVariants.{Fault, Memory}
+use Rattle.edi_octets.specs.Lines.{Line}
+use Rattle.dir_messages.specs.declared.drawing.Drawing.{Drawing}
+use Rattle.dir_messages.specs.declared.drawing.DrawnRow.{DrawnRow}
+use Rattle.dir_messages.specs.Message.{ends_drawn, is_group_line, is_table_line, groups_among, has_rest, is_in_order, last_position, drawing_faults, line_faults, rows_of, row_of, row_fault}
+
+-- how many groups these table lines have closed
+abbrev pub ends_among : List Line → ℕ
+ends_among lines = sum_by ends_drawn (filter (λ line. not (is_group_line line)) lines)
+
+-- the drawing of these table lines, of which none closes a group that isn't open
+pub record IsDrawn (lines : List Line) (drawing : Drawing) : Type 0 where
+  pub rows : drawing.rows.items ≡ rows_of lines
+  pub numbers : drawing.row_lines.items ≡ map (λ line. line.number) lines
+  pub groups : drawing.groups ≡ groups_among lines
+  pub open_groups : drawing.open_groups + ends_among lines ≡ groups_among lines
+  pub position : drawing.last_position ≡ last_position lines
+
+-- what a table line breaks behind these, in judging order
+abbrev pub kinds_broken : List Line → Line → List DirKind
+kinds_broken earlier line =
+    when (not (has_rest line)) BadLine ++ when (not (is_in_order earlier line)) BadPosition ++ drawing_faults earlier line
+
+-- a list begins with this member
+abbrev pub BeginsWith : {A : Type 0} → A → List A → Type 0
+BeginsWith {A} x xs = (more : List A) × (xs ≡ x ∷ more)
+
+-- a table line breaks no rule behind these, and this is its row; on a segment line so many groups end
+pub record DrawsRow (earlier : List Line) (line : Line) (drawn : DrawnRow) : Type 0 where
+  pub sound : kinds_broken earlier line ≡ []
+  pub row : drawn.row ≡ row_of earlier line
+  pub ends : drawn.ends ≡ ends_drawn line
+
+-- a drawing with one more row behind it: a group is opened, or groups are closed
+pub record Puts (old : Drawing) (number position : ℕ) (drawn : DrawnRow) (new : Drawing) : Type 0 where
+  pub rows : new.rows.items ≡ old.rows.items ++ (drawn.row ∷ [])
+  pub numbers : new.row_lines.items ≡ old.row_lines.items ++ (number ∷ [])
+  pub groups : new.groups ≡ (if is_some drawn.row.tag then old.groups else old.groups + 1)
+  pub open_groups : new.open_groups ≡ (if is_some drawn.row.tag then old.open_groups - drawn.ends else old.open_groups + 1)
+  pub last_position : new.last_position ≡ Some position
+
+-- what a line behind these does: it breaks no rule and is drawn, or its first fault is answered, or memory runs out
+abbrev pub Judges : List Line → Line → Result (Unit {0}) DirStop → Drawing → Type 0
+Judges earlier line (Ok done) drawing = (line_faults earlier line ≡ []) × IsDrawn (filter is_table_line (earlier ++ (line ∷ []))) drawing
+Judges earlier line (Err (Fault fault)) drawing = BeginsWith fault (line_faults earlier line)
+Judges earlier line (Err Memory) drawing = Unit {0}
+
+-- what the rows break, each fault at its row's line
+abbrev pub rows_faults : Line → List Line → List DirFault
+rows_faults type lines = map (row_fault type lines) (table_faults (rows_of lines))
+
+-- nothing is wrong, or the first fault is answered, or memory runs out
+abbrev pub FirstOf : Result (Unit {0}) DirStop → List DirFault → Type 0
+FirstOf (Ok done) faults = faults ≡ []
+FirstOf (Err (Fault fault)) faults = BeginsWith fault faults
+FirstOf (Err Memory) faults = Unit {0}

@@ -1,0 +1,4 @@
+pub mod Drawing
+pub mod Form
+pub mod Message
+pub mod Parts

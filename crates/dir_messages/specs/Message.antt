@@ -1,0 +1,195 @@
+-- What a drawn message file is.
+use Rattle.std.specs.Prelude.{◌-◌, ◌+◌, ℕ, Bool, true, false, not, ◌==◌, ◌&&◌, ◌||◌, nat_le, nat_lt, min, List, [], ◌∷◌, ◌++◌, length, map, filter, find, take, drop, reverse, sum_by, count_by, slice_get, slice_index, Option, Some, None, is_some, unwrap_or, option_and_then, Result, Ok, Err, codes, if◌then◌else◌}
+use Rattle.std.specs.List.{slice_split, list_all, list_any, filter_map, flat_map, before_last, after_last, prefix_len, join_with_byte}
+use Rattle.std.specs.Str.{all_ascii_digits, bytes_eq, str_eq_ignore_ascii_case}
+use Rattle.std.specs.Str.Parse.{digits_value}
+use Rattle.edi_tables.specs.Tag.{is_capital, is_digit, is_tag_octet_of, is_tag_of}
+use Rattle.edi_tables.specs.declared.tag.Tag.{Tag}
+use Rattle.edi_tables.specs.declared.segment.TableRow.{TableRow}
+use Rattle.edi_tables.specs.declared.segment.MessageDef.{MessageDef}
+use Rattle.edi_tables.specs.declared.table.TableKind.{TableKind}
+use Rattle.edi_tables.specs.declared.table.TableKind.TheVariants as table
+use Rattle.edi_tables.specs.Rows.{table_faults, when}
+use Rattle.edi_octets.specs.declared.fault.DirKind.{DirKind}
+use Rattle.edi_octets.specs.declared.fault.DirKind.TheVariants.{BadLine, BadPosition, NoType, BadGroup, CloseWithoutOpen, NotClosed, TooMany, NoUnhUnt, EnvelopeTag, BadMax, TooDeep, NoTrigger}
+use Rattle.edi_octets.specs.declared.fault.DirFault.{DirFault}
+use Rattle.edi_octets.specs.Lines.{Line, is_filled, lines_of}
+use Rattle.edi_octets.specs.Profile.{unmarked, fields_of, indentation_of, first_field, has_digits, status_in, after_position, with_earlier}
+use Rattle.edi_octets.specs.DirStop.{at_line, unless_faulty}
+
+-- a message's name has six octets of `A` to `Z` and `0` to `9`, the first a letter
+abbrev pub is_message_name : List ℕ → Bool
+is_message_name name = length name == 6 && is_capital (slice_index name 0) && list_all is_tag_octet_of name
+
+-- the name on a type line: a line with exactly the fields `Message`, `Type`, `:` and a message's name
+abbrev pub name_on : List (List ℕ) → Option (List ℕ)
+name_on (message ∷ type ∷ colon ∷ name ∷ []) =
+    if bytes_eq message (codes "Message") && bytes_eq type (codes "Type") && bytes_eq colon (codes ":") && is_message_name name then Some name else None
+name_on fields = None
+
+abbrev pub is_type_line : Line → Bool
+is_type_line line = is_some (name_on (fields_of line.octets))
+
+-- a table line: indented by at most 4, and its first field, the position, is four digits
+abbrev pub is_table_line : Line → Bool
+is_table_line line = nat_le (indentation_of line.octets) 4 && has_digits 4 (first_field (fields_of line.octets))
+
+-- the parts of a line between single spaces; a cell is a part that isn't empty
+abbrev pub parts_of : Line → List (List ℕ)
+parts_of line = slice_split (λ x. x == 32) (unmarked line.octets)
+
+abbrev pub is_status : List ℕ → Bool
+is_status part = is_some (status_in part)
+
+-- the status of a table line is its last field that is `M` or `C`
+abbrev pub status_of : Line → Option Bool
+status_of line = option_and_then status_in (find is_status (reverse (parts_of line)))
+
+-- what follows the status on the line, without the spaces in front
+abbrev pub rest_of : Line → List ℕ
+rest_of line =
+    let rest = join_with_byte 32 (after_last is_status (parts_of line)) in drop (prefix_len (λ x. x == 32) rest) rest
+
+-- how many digits stand there: the greatest count
+abbrev pub max_digits_of : Line → ℕ
+max_digits_of line = prefix_len is_digit (rest_of line)
+
+-- the greatest count of a table line
+abbrev pub max_of : Line → ℕ
+max_of line = digits_value 10 (take (max_digits_of line) (rest_of line))
+
+-- the tail behind it, in which the groups are drawn
+abbrev pub tail_of : Line → List ℕ
+tail_of line = drop (max_digits_of line) (rest_of line)
+
+-- a tail has spaces, `-`, `|` and `+`
+abbrev pub is_tail_octet : ℕ → Bool
+is_tail_octet x = x == 32 || x == 45 || x == 124 || x == 43
+
+-- how many `+` a tail has
+abbrev pub ends_drawn : Line → ℕ
+ends_drawn line = count_by (λ x. x == 43) (tail_of line)
+
+-- a status, one to six digits, and a tail
+abbrev pub has_rest : Line → Bool
+has_rest line =
+    is_some (status_of line) && nat_le 1 (max_digits_of line) && nat_le (max_digits_of line) 6 && list_all is_tail_octet (tail_of line)
+
+-- the fields between the position and the status
+abbrev pub middle_of : Line → List (List ℕ)
+middle_of line = after_position (drop 1 (filter is_filled (before_last is_status (parts_of line))))
+
+-- a segment line has a tag and a name there
+abbrev pub tag_drawn : List (List ℕ) → Option Tag
+tag_drawn (tag ∷ name ∷ more) = if is_tag_of tag then Some (record { octets = tag }) else None
+tag_drawn fields = None
+
+-- two or more `-`; any number of them
+abbrev pub is_dashes : List ℕ → Bool
+is_dashes field = list_all (λ x. x == 45) field
+
+-- a number without leading zero
+abbrev pub is_plain_number : List ℕ → Bool
+is_plain_number field =
+    is_filled field && all_ascii_digits field && (length field == 1 || not (slice_index field 0 == 48))
+
+-- a group line has there two or more `-`, the words `Segment` and `group` in any case, a number, and fields of `-` alone
+abbrev pub number_drawn : List (List ℕ) → Option ℕ
+number_drawn (dashes ∷ segment ∷ group ∷ number ∷ more) =
+    if nat_le 2 (length dashes) && is_dashes dashes && str_eq_ignore_ascii_case segment (codes "Segment") && str_eq_ignore_ascii_case group (codes "group") && is_plain_number number && list_all is_dashes more
+    then Some (digits_value 10 number) else None
+number_drawn fields = None
+
+abbrev pub is_group_line : Line → Bool
+is_group_line line = is_some (number_drawn (middle_of line))
+
+-- how many groups table lines have opened, and how many of these they have closed
+abbrev pub groups_among : List Line → ℕ
+groups_among lines = count_by is_group_line lines
+
+abbrev pub open_after : List Line → ℕ
+open_after lines = groups_among lines - sum_by ends_drawn (filter (λ line. not (is_group_line line)) lines)
+
+-- the position of a table line; 0 where there is no line
+abbrev pub position_of : Line → ℕ
+position_of line = digits_value 10 (first_field (fields_of line.octets))
+
+-- the position of the last of these lines, if there is one
+abbrev pub last_position : List Line → Option ℕ
+last_position lines = elim (reverse lines) [ [] ↦ None | line ∷ more ↦ Some (position_of line) ]
+
+-- a position is greater than that of the table line before
+abbrev pub is_in_order : List Line → Line → Bool
+is_in_order earlier line = elim (last_position earlier) [ None ↦ true | Some position ↦ nat_lt position (position_of line) ]
+
+-- what a group line or a segment line breaks, after these table lines
+abbrev pub drawing_faults : List Line → Line → List DirKind
+drawing_faults earlier line =
+    elim (number_drawn (middle_of line)) [
+      Some number ↦ when (not (ends_drawn line == 1 && number == groups_among earlier + 1)) BadGroup
+      | None ↦ if is_some (tag_drawn (middle_of line)) then when (nat_lt (open_after earlier) (ends_drawn line)) CloseWithoutOpen else BadLine ∷ []
+    ]
+
+-- a table line after these: its status and rest, its position, its form, its groups, in this order
+abbrev pub table_line_faults : List Line → Line → List DirFault
+table_line_faults earlier line =
+    map (λ kind. at_line kind line) (when (not (has_rest line)) BadLine ++ when (not (is_in_order earlier line)) BadPosition ++ drawing_faults earlier line)
+
+-- a line behind the type line: no second type line; a table line; else text
+abbrev pub line_faults : List Line → Line → List DirFault
+line_faults earlier line =
+    if is_type_line line then at_line BadLine line ∷ []
+    else (if is_table_line line then table_line_faults (filter is_table_line earlier) line else [])
+
+-- the row of a table line after these; groups deeper than 255 count as 255 deep
+abbrev pub row_of : List Line → Line → TableRow
+row_of earlier line =
+    record {
+      tag = if is_group_line line then None else tag_drawn (middle_of line);
+      must = elim (status_of line) [ None ↦ false | Some must ↦ must ];
+      max = max_of line;
+      depth = min (open_after earlier) 255;
+    }
+
+abbrev pub rows_of : List Line → List TableRow
+rows_of lines = map (λ p. row_of p.0 p.1) (with_earlier lines)
+
+-- groups are still open behind the last table line
+abbrev pub open_faults : List Line → List DirFault
+open_faults lines =
+    elim (reverse lines) [ [] ↦ [] | last ∷ more ↦ when (nat_lt 0 (open_after lines)) (at_line NotClosed last) ]
+
+-- the word for a rule of segment tables; a drawn row is never too deep for the row before
+abbrev pub kind_of : TableKind → DirKind
+kind_of table.TooMany = TooMany
+kind_of table.NoUnhUnt = NoUnhUnt
+kind_of table.EnvelopeTag = EnvelopeTag
+kind_of table.BadMax = BadMax
+kind_of table.BadDepth = TooDeep
+kind_of table.TooDeep = TooDeep
+kind_of table.NoTrigger = NoTrigger
+
+-- a fault of the rows stands at its row's line, or at the type line where there is no such row
+abbrev pub row_fault : Line → List Line → ℕ × TableKind → DirFault
+row_fault type lines p = elim (slice_get lines p.0) [ None ↦ at_line (kind_of p.1) type | Some line ↦ at_line (kind_of p.1) line ]
+
+-- the faults behind the type line, in judging order: each line, groups left open, the rows
+abbrev pub table_part_faults : Line → List Line → List DirFault
+table_part_faults type lines =
+    let drawn = filter is_table_line lines in
+    flat_map (λ p. line_faults p.0 p.1) (with_earlier lines) ++ open_faults drawn ++ map (row_fault type drawn) (table_faults (rows_of drawn))
+
+-- the message of a type line's name and the lines behind it
+abbrev pub message_behind : Line → List Line → Result MessageDef DirFault
+message_behind type lines =
+    unless_faulty (table_part_faults type lines)
+    (record { name = unwrap_or (name_on (fields_of type.octets)) []; rows = rows_of (filter is_table_line lines) })
+
+-- lines are text up to the type line; a file without one is `no-type` at the number of its lines
+abbrev pub message_from : ℕ → List Line → Result MessageDef DirFault
+message_from count [] = Err (record { line = count; kind = NoType })
+message_from count (line ∷ lines) = if is_type_line line then message_behind line lines else message_from count lines
+
+-- a message file stands for its message, or for its first fault
+unfoldable pub message_in : List ℕ → Result MessageDef DirFault
+message_in file = let lines = lines_of file in message_from (length lines) lines

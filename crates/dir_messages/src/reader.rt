@@ -1,0 +1,44 @@
+//! Reading a drawn message file.
+ghost use Rattle.std.specs.Prelude.{◌≡◌, ◌≤◌, Some, length};
+ghost use Rattle.edi_octets.specs.DirStop.{Gives};
+ghost use Rattle.edi_octets.specs.Left.{lines_left};
+ghost use Rattle.edi_octets.specs.Lines.{Line};
+ghost use Rattle.edi_octets.specs.Profile.{fields_of};
+ghost use Rattle.dir_messages.specs.Message.{message_in, message_behind, name_on};
+
+use crate::drawing::{Drawing, stop_at};
+use crate::words::type_name;
+use edi_octets::{DirKind, DirStop, Lines};
+use edi_tables::MessageDef;
+use std::alloc::Global;
+
+/// Reads a drawn message file of at most 4,194,304 octets: its message's name and the rows of its segment
+/// table, or its first fault in the order of judging. Lines are text up to the type line; behind it the table
+/// lines draw the rows, which have to be a segment table. Memory is taken for the rows alone.
+pub fn read_message(alloc: Global, file: &[u8]) -> Result<MessageDef, DirStop>
+    requires { length file.now ≤ 4194304 }
+    ensures { Gives (λ m. m) result (message_in file.now) }
+{
+    let mut lines = Lines::of(file);
+    let mut count = 0;
+    while let Some(line) = lines.next() {
+        if let Some(name) = type_name(&line) {
+            return read_drawing(alloc, name, line.number, lines);
+        }
+        count += 1;
+    }
+    Err(stop_at(count, DirKind::NoType))
+}
+
+/// Reads the lines behind the type line, which has this name and number.
+fn read_drawing(alloc: Global, name: &[u8], type_line: u32, lines: Lines<'_>) -> Result<MessageDef, DirStop>
+    requires { length (lines_left lines) ≤ 4194304 }
+    ensures { (type : Line) → type.number ≡ type_line → name_on (fields_of type.octets) ≡ Some name.now
+        → Gives (λ m. m) result (message_behind type (lines_left lines.entry)) }
+{
+    let mut drawing = Drawing::new(alloc);
+    for line in lines {
+        drawing.judge(&line)?;
+    }
+    drawing.finish(alloc, name, type_line)
+}

@@ -1,0 +1,136 @@
+-- Items of an entry's lines, and their detail lines.
+use Rattle.std.proofs.Common.{◌≡◌, ◌+◌, ◌-◌, ℕ, Bool, true, false, not, List, [], ◌∷◌, ◌++◌, length, filter, Some, None, Ok, Err, refl, ap, ◌∙◌, sym, append_assoc, append-nil, ⊎_elim}
+use Rattle.std.specs.Prelude.{Option}
+use Rattle.std.specs.List.{flat_map, filter_map, cons_option}
+use Rattle.std.proofs.lemmas.List.Concat.{flat_map-append}
+use Rattle.std.proofs.lemmas.List.Elements.{filter-append, filter_map-append}
+use Rattle.std.proofs.lemmas.List.Sums.{take_while-cons}
+use Rattle.std.proofs.lemmas.Bool.{cases_Bool}
+use Rattle.edi_tables.specs.declared.element.Code.{Code}
+use Rattle.edi_tables.specs.declared.element.PartDef.{PartDef}
+use Rattle.edi_tables.specs.declared.segment.ItemDef.{ItemDef}
+use Rattle.edi_tables.specs.declared.segment.ItemDef.TheVariants.{Alone, Composite}
+use Rattle.edi_octets.specs.declared.fault.DirFault.{DirFault}
+use Rattle.edi_octets.specs.declared.fault.DirStop.{DirStop}
+use Rattle.edi_octets.specs.DirStop.{Gives, unless_faulty}
+use Rattle.edi_octets.specs.Lines.{Line}
+use Rattle.edi_octets.specs.Profile.{fields_of, first_field}
+use Rattle.dir_segments.specs.Parts.{is_item_line, part_in, has_position, fields_behind, is_element_form, is_composite_form, composite_status, element_fault, composite_fault, fault_list}
+use Rattle.dir_segments.specs.Composites.{part_lines}
+use Rattle.dir_segments.specs.Segments.{Item, item_at, items_of, details_of, is_part_line, detail_faults, repeated_parts, line_faults, alone_item, composite_item, item_in}
+use Rattle.dir_segments.proofs.StopLemmas.{stops}
+use Rattle.dir_segments.proofs.FrontLemmas.{goes_on, goes_at, goes_all}
+
+pub part_lines-item : (line : Line) (lines : List Line) → is_item_line line ≡ true → part_lines (line ∷ lines) ≡ line ∷ part_lines lines
+part_lines-item line lines item = rw item refl
+
+pub part_lines-text : (line : Line) (lines : List Line) → is_item_line line ≡ false → part_lines (line ∷ lines) ≡ part_lines lines
+part_lines-text line lines text = rw text refl
+
+pub items_of-item : (line : Line) (lines : List Line) → is_item_line line ≡ true → items_of (line ∷ lines) ≡ item_at line lines ∷ items_of lines
+items_of-item line lines item = rw item refl
+
+pub items_of-text : (line : Line) (lines : List Line) → is_item_line line ≡ false → items_of (line ∷ lines) ≡ items_of lines
+items_of-text line lines text = rw text refl
+
+pub details_of-item : (line : Line) (lines : List Line) → is_item_line line ≡ true → details_of (line ∷ lines) ≡ []
+details_of-item line lines item =
+    take_while-cons (λ l. not (is_item_line l)) line lines ∙ rw item refl
+
+pub details_of-detail : (line : Line) (lines : List Line) → is_item_line line ≡ false → details_of (line ∷ lines) ≡ line ∷ details_of lines
+details_of-detail line lines detail =
+    take_while-cons (λ l. not (is_item_line l)) line lines ∙ rw detail refl
+
+pub repeated_parts-part : (front : List Line) (line : Line) (part : PartDef) → is_part_line line ≡ true → part_in (fields_of line.octets) ≡ Some part → repeated_parts (front ++ line ∷ []) ≡ repeated_parts front ++ part ∷ []
+repeated_parts-part front line part is found =
+    ap (filter_map (λ l. part_in (fields_of l.octets))) (filter-append is_part_line front (line ∷ [])) ∙ filter_map-append (λ l. part_in (fields_of l.octets)) (filter is_part_line front) (filter is_part_line (line ∷ [])) ∙ rw (is, found) refl
+
+pub repeated_parts-text : (front : List Line) (line : Line) → is_part_line line ≡ false → repeated_parts (front ++ line ∷ []) ≡ repeated_parts front
+repeated_parts-text front line text =
+    ap (filter_map (λ l. part_in (fields_of l.octets))) (filter-append is_part_line front (line ∷ [])) ∙ rw (text, append-nil) refl
+
+module _ (below_composite : Bool) where
+  -- a front of an item's detail lines has been read, in which nothing is broken: the parts that it repeats
+  pub record AreDetails (all rest : List Line) (parts : List PartDef) : Type 0 where
+    pub front : List Line
+    pub splits : all ≡ front ++ rest
+    pub clean : flat_map (detail_faults below_composite) front ≡ []
+    pub found : parts ≡ repeated_parts front
+
+  pub details_none : (all rest : List Line) → all ≡ rest → AreDetails all rest []
+  details_none all rest same = record { front = []; splits = same; clean = refl; found = refl }
+
+  clean-push : (front : List Line) (line : Line) → flat_map (detail_faults below_composite) front ≡ [] → detail_faults below_composite line ≡ [] → flat_map (detail_faults below_composite) (front ++ line ∷ []) ≡ []
+  clean-push front line clean none =
+      flat_map-append (detail_faults below_composite) front (line ∷ []) ∙ rw (clean, append-nil) none
+
+  -- text has come
+  pub details_text : (all rest : List Line) (line : Line) (later : List Line) (parts : List PartDef) → AreDetails all rest parts → rest ≡ line ∷ later → is_part_line line ≡ false → AreDetails all later parts
+  details_text all rest line later parts read here text =
+      let none : detail_faults below_composite line ≡ [] = rw text refl in
+      record {
+        front = read.front ++ line ∷ [];
+        splits = goes_on all read.front line rest later read.splits here;
+        clean = clean-push read.front line read.clean none;
+        found = read.found ∙ sym (repeated_parts-text read.front line text);
+      }
+
+  -- a part line has come
+  pub details_part : (all rest : List Line) (line : Line) (later : List Line) (parts : List PartDef) (part : PartDef) → AreDetails all rest parts → rest ≡ line ∷ later → is_part_line line ≡ true → detail_faults below_composite line ≡ [] → part_in (fields_of line.octets) ≡ Some part → AreDetails all later (parts ++ part ∷ [])
+  details_part all rest line later parts part read here is none found =
+      record {
+        front = read.front ++ line ∷ [];
+        splits = goes_on all read.front line rest later read.splits here;
+        clean = clean-push read.front line read.clean none;
+        found = ap (λ l. l ++ part ∷ []) read.found ∙ sym (repeated_parts-part read.front line part is found);
+      }
+
+  -- a line has come, and stops
+  pub details_stop : {X Y X' Y' : Type 0} (view : X → Y) (outer : X' → Y') (stop : DirStop) (all rest : List Line) (line : Line) (later : List Line) (parts : List PartDef) (v : Y) (w : Y') → AreDetails all rest parts → rest ≡ line ∷ later → Gives view (Err stop) (unless_faulty (detail_faults below_composite line) v) → Gives outer (Err stop) (unless_faulty (flat_map (detail_faults below_composite) all) w)
+  details_stop view outer stop all rest line later parts v w read here given =
+      let judge = detail_faults below_composite in
+      let is : flat_map judge all ≡ flat_map judge read.front ++ (judge line ++ flat_map judge later) =
+      ap (flat_map judge) (goes_at all read.front line rest later read.splits here) ∙ flat_map-append judge read.front (line ∷ later) in
+      stops view outer stop (flat_map judge read.front) (judge line) (flat_map judge later) (flat_map judge all) v w read.clean is given
+
+  -- nothing more comes
+  pub details_all : (all rest : List Line) (parts : List PartDef) → AreDetails all rest parts → rest ≡ [] → (flat_map (detail_faults below_composite) all ≡ []) × (repeated_parts all ≡ parts)
+  details_all all rest parts read ended =
+      let whole = goes_all all read.front rest read.splits ended in
+      (ap (flat_map (detail_faults below_composite)) whole ∙ read.clean, ap repeated_parts whole ∙ sym read.found)
+
+pub line_faults-element : (before : Option ℕ) (line : Line) → has_position line ≡ true → is_element_form (fields_behind line) ≡ true → line_faults before line ≡ fault_list line (element_fault before line)
+line_faults-element before line position form = rw (position, form) refl
+
+pub line_faults-composite : (before : Option ℕ) (line : Line) → has_position line ≡ true → is_element_form (fields_behind line) ≡ false → is_composite_form (fields_behind line) ≡ true → line_faults before line ≡ fault_list line (composite_fault before line)
+line_faults-composite before line position other form = rw (position, other, form) refl
+
+-- an item that names a composite has a composite's form, and others don't
+some_of : (o : Option PartDef) (item : ItemDef) → alone_item o ≡ Some item → (part : PartDef) × (item ≡ Alone part)
+some_of None item is = cc
+some_of (Some part) item is = (part, cc)
+
+some_named : (fields : List (List ℕ)) (o : Option Bool) (item : ItemDef) → composite_item fields o ≡ Some item → (must : Bool) × (item ≡ Composite (record { octets = first_field fields }) must)
+some_named fields None item is = cc
+some_named fields (Some must) item is = (must, cc)
+
+pub composite_parts : (fields : List (List ℕ)) (code : Code) (must : Bool) → item_in fields ≡ Some (Composite code must) → (is_composite_form fields ≡ true) × (code.octets ≡ first_field fields)
+composite_parts fields code must is =
+    ⊎_elim
+    (λ (form : is_composite_form fields ≡ true).
+    let named = some_named fields (composite_status fields) (Composite code must) (rw form at is) in
+    let same : code ≡ record { octets = first_field fields } = cc in
+    (form, ap (λ (k : Code). k.octets) same))
+    (λ (form : is_composite_form fields ≡ false).
+    let alone = some_of (part_in fields) (Composite code must) (rw form at is) in
+    absurd (let e = alone.1 in cc))
+    (cases_Bool (is_composite_form fields))
+
+pub alone_form : (fields : List (List ℕ)) (part : PartDef) → item_in fields ≡ Some (Alone part) → is_composite_form fields ≡ false
+alone_form fields part is =
+    ⊎_elim
+    (λ (form : is_composite_form fields ≡ true).
+    let named = some_named fields (composite_status fields) (Alone part) (rw form at is) in
+    let e = named.1 in cc)
+    (λ (form : is_composite_form fields ≡ false). form)
+    (cases_Bool (is_composite_form fields))

@@ -1,0 +1,5 @@
+pub mod FieldLemmas
+pub mod FrontLemmas
+pub mod ItemLemmas
+pub mod KnownLemmas
+pub mod StopLemmas

@@ -1,0 +1,4 @@
+pub mod Composites
+pub mod Heads
+pub mod Parts
+pub mod Segments

@@ -1,0 +1,152 @@
+-- What a segment file is, read with known composites.
+use Rattle.std.specs.Prelude.{ℕ, Bool, true, false, not, ◌&&◌, ◌==◌, List, [], ◌∷◌, ◌++◌, length, map, filter, find, take_while, Option, Some, None, is_some, Result, unwrap_or, if◌then◌else◌}
+use Rattle.std.specs.Cmp.Lexicographic.{pointwise}
+use Rattle.std.specs.List.{filter_map, flat_map, position}
+use Rattle.std.specs.Str.{bytes_eq}
+use Rattle.edi_tables.specs.Tag.{is_tag_of}
+use Rattle.edi_tables.specs.declared.element.Class.{Class}
+use Rattle.edi_tables.specs.declared.element.Class.TheVariants.{A, N, An}
+use Rattle.edi_tables.specs.declared.element.Code.{Code}
+use Rattle.edi_tables.specs.declared.element.Repr.{Repr}
+use Rattle.edi_tables.specs.declared.element.PartDef.{PartDef}
+use Rattle.edi_tables.specs.declared.element.CompositeDef.{CompositeDef}
+use Rattle.edi_tables.specs.declared.segment.ItemDef.{ItemDef}
+use Rattle.edi_tables.specs.declared.segment.ItemDef.TheVariants.{Alone, Composite}
+use Rattle.edi_tables.specs.declared.segment.SegmentDef.{SegmentDef}
+use Rattle.edi_octets.specs.declared.fault.DirFault.{DirFault}
+use Rattle.edi_octets.specs.declared.fault.DirKind.TheVariants.{BadLine, PartsDiffer}
+use Rattle.edi_octets.specs.Lines.{Line, is_filled, lines_of}
+use Rattle.edi_octets.specs.Profile.{fields_of, first_field, entries_of, is_element_code, with_earlier}
+use Rattle.edi_octets.specs.DirStop.{at_line, unless_faulty}
+use Rattle.edi_octets.specs.Head.{head_faults, head_field}
+use Rattle.dir_segments.specs.Parts.{is_item_line, fields_behind, has_position, position_of, last_of, count_faults, is_element_form, is_composite_form, part_in, composite_status, element_fault, composite_fault, fault_list}
+
+-- an item: its line, and the detail lines behind it, up to the next item line
+pub record Item : Type 0 where
+  pub line : Line
+  pub details : List Line
+
+-- the lines up to the next item line
+abbrev pub details_of : List Line → List Line
+details_of lines = take_while (λ l. not (is_item_line l)) lines
+
+-- an item line, and its detail lines among those behind it
+abbrev pub item_at : Line → List Line → Item
+item_at line lines = record { line = line; details = details_of lines }
+
+-- the items of an entry's lines; lines before the first item line are text
+abbrev pub items_of : List Line → List Item
+items_of [] = []
+items_of (line ∷ lines) =
+    if is_item_line line then item_at line lines ∷ items_of lines else items_of lines
+
+-- what an item line breaks, behind the position before: a position, and a data element or a composite
+abbrev pub line_faults : Option ℕ → Line → List DirFault
+line_faults before line =
+    let fields = fields_behind line in
+    fault_list line
+    (if not (has_position line) then Some BadLine
+    else (if is_element_form fields then element_fault before line else (if is_composite_form fields then composite_fault before line else Some BadLine)))
+
+-- a part line: a detail line whose first field is an element code; other detail lines are text
+abbrev pub is_part_line : Line → Bool
+is_part_line line = is_element_code (first_field (fields_of line.octets))
+
+-- a part line has a code, a name, a status and a representation, and stands below a composite
+abbrev pub detail_faults : Bool → Line → List DirFault
+detail_faults below_composite line =
+    if not (is_part_line line) then []
+    else (if below_composite && is_some (part_in (fields_of line.octets)) then [] else at_line BadLine line ∷ [])
+
+-- the parts that the part lines among an item's detail lines repeat
+abbrev pub repeated_parts : List Line → List PartDef
+repeated_parts details = filter_map (λ line. part_in (fields_of line.octets)) (filter is_part_line details)
+
+abbrev pub is_same_class : Class → Class → Bool
+is_same_class A A = true
+is_same_class N N = true
+is_same_class An An = true
+is_same_class A N = false
+is_same_class A An = false
+is_same_class N A = false
+is_same_class N An = false
+is_same_class An A = false
+is_same_class An N = false
+
+abbrev pub is_same_bool : Bool → Bool → Bool
+is_same_bool true b = b
+is_same_bool false b = not b
+
+-- two parts with the same code, status and representation
+abbrev pub is_same_part : PartDef → PartDef → Bool
+is_same_part p q =
+    bytes_eq p.code.octets q.code.octets && is_same_bool p.must q.must && is_same_class p.repr.class q.repr.class && is_same_bool p.repr.exact q.repr.exact && p.repr.max == q.repr.max
+
+-- the first known composite of that code, if there is one
+abbrev pub known_composite : List CompositeDef → List ℕ → Option CompositeDef
+known_composite known code = find (λ c. bytes_eq c.code.octets code) known
+
+-- where it stands
+abbrev pub known_place : List CompositeDef → List ℕ → Option ℕ
+known_place known code = position (λ c. bytes_eq c.code.octets code) known
+
+-- part lines below a known composite are exactly its parts, in order; this is judged where the item ends
+abbrev pub differs : List PartDef → Option CompositeDef → Bool
+differs parts None = false
+differs parts (Some composite) = is_filled parts && not (pointwise is_same_part parts composite.parts)
+
+abbrev pub item_end_faults : List CompositeDef → Line → List PartDef → List DirFault
+item_end_faults known line parts =
+    let fields = fields_behind line in
+    if is_composite_form fields && differs parts (known_composite known (first_field fields)) then at_line PartsDiffer line ∷ [] else []
+
+-- an item behind the position before: its line, its detail lines in order, its end
+abbrev pub item_faults : List CompositeDef → Option ℕ → Item → List DirFault
+item_faults known before item =
+    line_faults before item.line ++ (flat_map (detail_faults (is_composite_form (fields_behind item.line))) item.details ++ item_end_faults known item.line (repeated_parts item.details))
+
+-- the position of an item
+abbrev pub place_of : Item → ℕ
+place_of item = position_of item.line
+
+-- the items of an entry's lines, in order
+abbrev pub items_faults : List CompositeDef → List Line → List DirFault
+items_faults known body =
+    flat_map (λ p. item_faults known (last_of (map place_of p.0)) p.1) (with_earlier (items_of body))
+
+-- an entry after these: its head, its items in order, its end, where it has 1 to 99 items
+abbrev pub segment_faults : List CompositeDef → List (List Line) → List Line → List DirFault
+segment_faults known earlier [] = []
+segment_faults known earlier (head ∷ body) =
+    head_faults is_tag_of earlier head ++ (items_faults known body ++ count_faults head (length (items_of body)))
+
+-- the definition of an item
+abbrev pub composite_item : List (List ℕ) → Option Bool → Option ItemDef
+composite_item fields None = None
+composite_item fields (Some must) = Some (Composite (record { octets = first_field fields }) must)
+
+abbrev pub alone_item : Option PartDef → Option ItemDef
+alone_item None = None
+alone_item (Some part) = Some (Alone part)
+
+abbrev pub item_in : List (List ℕ) → Option ItemDef
+item_in fields =
+    if is_composite_form fields then composite_item fields (composite_status fields) else alone_item (part_in fields)
+
+abbrev pub item_of : Item → Option ItemDef
+item_of item = item_in (fields_behind item.line)
+
+-- the items that an entry's lines define
+abbrev pub items_in : List Line → List ItemDef
+items_in body = filter_map item_of (items_of body)
+
+-- the segment of an entry
+abbrev pub segment_of : List Line → SegmentDef
+segment_of [] = record { tag = record { octets = [] }; items = [] }
+segment_of (head ∷ body) = record { tag = record { octets = head_field (head ∷ body) }; items = items_in body }
+
+-- a segment file stands for one segment an entry, or for its first fault
+unfoldable pub segments_in : List CompositeDef → List ℕ → Result (List SegmentDef) DirFault
+segments_in known file =
+    let entries = entries_of (lines_of file) in
+    unless_faulty (flat_map (λ p. segment_faults known p.0 p.1) (with_earlier entries)) (map segment_of entries)

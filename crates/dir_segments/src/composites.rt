@@ -1,0 +1,77 @@
+//! Composite files.
+ghost use Rattle.std.specs.Prelude.{◌≡◌, ◌≤◌, List, [], ◌∷◌, ◌++◌, length, map, OnOk};
+ghost use Rattle.std.specs.List.{flat_map};
+ghost use Rattle.std.specs.HashSet.{contains};
+ghost use Rattle.std.specs.Str.{bytes_eq};
+ghost use Rattle.edi_octets.specs.DirStop.{Gives, unless_faulty};
+ghost use Rattle.edi_octets.specs.Left.{line_shown, body_left, entry_shown};
+ghost use Rattle.edi_octets.specs.Lines.{Line};
+ghost use Rattle.edi_octets.specs.Profile.{with_earlier};
+ghost use Rattle.dir_segments.specs.Composites as composites;
+ghost use Rattle.dir_segments.specs.Heads.{HasHeads};
+ghost use Rattle.dir_segments.specs.Parts.{count_faults};
+
+use crate::add::add;
+use crate::fields::is_item_line;
+use crate::head::read_code_head;
+use crate::part_line::{judge_count, read_part};
+use edi_octets::{DirStop, Entries, Entry};
+use edi_tables::{CompositeDef, List, PartDef};
+use std::alloc::Global;
+use std::collections::HashSet;
+
+/// Reads a composite file of at most 4,194,304 octets: one composite an entry, in order. Else the first
+/// fault in judging order: `bad-code` and `twice` at a head, `bad-line`, `bad-position`, `bad-status` and
+/// `bad-repr` at a part line, `bad-line` at the head of an entry with no part or more than 99.
+pub fn read_composites(alloc: Global, file: &[u8]) -> Result<Vec<CompositeDef>, DirStop>
+    requires { length file.now ≤ 4194304 }
+    ensures { Gives (λ found. found.items) result (composites.composites_in file.now) }
+{
+    let mut found = Vec::new(alloc);
+    let mut seen = HashSet::new(alloc);
+    for entry in Entries::of(file) {
+        let composite = read_entry(alloc, &mut seen, &entry)?;
+        add(&mut found, composite)?;
+    }
+    Ok(found)
+}
+
+/// Reads an entry behind others, whose codes are seen.
+fn read_entry(
+    alloc: Global,
+    seen: &mut HashSet<[u8; 4]>,
+    entry: &Entry<'_>,
+) -> Result<CompositeDef, DirStop>
+    ensures judged { (earlier : List (List Line)) → HasHeads (contains bytes_eq seen.old) earlier
+        → Gives (λ composite. composite) result
+        (unless_faulty (composites.composite_faults earlier (entry_shown entry.now)) (composites.composite_of (entry_shown entry.now))) }
+    ensures joins { (earlier : List (List Line)) → HasHeads (contains bytes_eq seen.old) earlier
+        → OnOk result (HasHeads (contains bytes_eq seen.new) (earlier ++ entry_shown entry.now ∷ [])) }
+{
+    let code = read_code_head(seen, &entry.head)?;
+    let parts = read_parts(alloc, entry)?;
+    Ok(CompositeDef {
+        code,
+        parts: List::of(parts),
+    })
+}
+
+/// Reads the part lines of an entry, and judges its end.
+fn read_parts(alloc: Global, entry: &Entry<'_>) -> Result<Vec<PartDef>, DirStop>
+    ensures { let body = body_left entry.now.body in
+        Gives (λ parts. parts.items) result
+        (unless_faulty (composites.parts_faults body ++ count_faults (line_shown entry.now.head) (length (composites.part_lines body))) (composites.parts_in body)) }
+{
+    let mut parts = Vec::new(alloc);
+    let mut before = None;
+    for line in entry.body {
+        if !is_item_line(&line) {
+            continue;
+        }
+        let (position, part) = read_part(before, &line)?;
+        add(&mut parts, part)?;
+        before = Some(position);
+    }
+    judge_count(&entry.head, parts.len())?;
+    Ok(parts)
+}

@@ -1,0 +1,14 @@
+//! Composite and segment files of a directory.
+#![tactic(auto)]
+
+mod add;
+mod composites;
+mod details;
+mod fields;
+mod head;
+mod known;
+mod part_line;
+mod segments;
+
+pub use composites::read_composites;
+pub use segments::read_segments;

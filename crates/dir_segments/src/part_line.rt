@@ -1,0 +1,134 @@
+//! Lines of parts and items, judged behind the position before them.
+ghost use Rattle.std.specs.Prelude.{◌≡◌, Some, IsTrue};
+ghost use Rattle.edi_octets.specs.DirStop.{Gives, at_line, unless_faulty};
+ghost use Rattle.edi_octets.specs.declared.fault.DirStop.TheVariants.{Fault};
+ghost use Rattle.edi_octets.specs.Left.{line_shown};
+ghost use Rattle.dir_segments.specs.Parts as parts;
+ghost use Rattle.dir_segments.specs.Segments as segments;
+
+use crate::fields::{
+    CompositeFields, ElementFields, fields_behind, read_composite, read_element, read_position,
+};
+use edi_octets::{DirFault, DirKind, DirStop, LineText};
+use edi_tables::{ItemDef, PartDef};
+
+/// The answer that a line breaks a rule.
+pub(crate) fn stop_at(line: &LineText<'_>, kind: DirKind) -> DirStop
+    ensures { result ≡ Fault (at_line kind (line_shown line.now)) }
+{
+    DirStop::Fault(DirFault {
+        line: line.number,
+        kind,
+    })
+}
+
+/// Reads a part line behind the position before: its position and its part.
+pub(crate) fn read_part(before: Option<u16>, line: &LineText<'_>) -> Result<(u16, PartDef), DirStop>
+    ensures { let shown = line_shown line.now in
+        parts.GivesPlaced result (parts.part_faults before shown) (parts.position_of shown) (parts.part_in (parts.fields_behind shown)) }
+{
+    let Some(position) = read_position(line) else {
+        return Err(stop_at(line, DirKind::BadLine));
+    };
+    let Some(element) = read_element(fields_behind(line)) else {
+        return Err(stop_at(line, DirKind::BadLine));
+    };
+    let part = judge_element(before, position, line, &element)?;
+    Ok((position, part))
+}
+
+/// Reads an item line behind the position before: its position and its item.
+pub(crate) fn read_item(before: Option<u16>, line: &LineText<'_>) -> Result<(u16, ItemDef), DirStop>
+    ensures { let shown = line_shown line.now in
+        parts.GivesPlaced result (segments.line_faults before shown) (parts.position_of shown) (segments.item_in (parts.fields_behind shown)) }
+{
+    let Some(position) = read_position(line) else {
+        return Err(stop_at(line, DirKind::BadLine));
+    };
+    let fields = fields_behind(line);
+    if let Some(element) = read_element(fields) {
+        let part = judge_element(before, position, line, &element)?;
+        return Ok((position, ItemDef::Alone { part }));
+    }
+    let Some(composite) = read_composite(fields) else {
+        return Err(stop_at(line, DirKind::BadLine));
+    };
+    let item = judge_composite(before, position, line, &composite)?;
+    Ok((position, item))
+}
+
+/// Judges the data element of a line with this position: its part.
+fn judge_element(
+    before: Option<u16>,
+    position: u16,
+    line: &LineText<'_>,
+    element: &ElementFields,
+) -> Result<PartDef, DirStop>
+    requires position { position ≡ parts.position_of (line_shown line.now) }
+    requires form { IsTrue (parts.is_element_form (parts.fields_behind (line_shown line.now))) }
+    requires element { parts.IsElement element.now (parts.fields_behind (line_shown line.now)) }
+    ensures { let shown = line_shown line.now in
+        Gives (λ part. Some part) result
+        (unless_faulty (parts.fault_list shown (parts.element_fault before shown)) (parts.part_in (parts.fields_behind shown))) }
+{
+    if !is_behind(before, position) {
+        return Err(stop_at(line, DirKind::BadPosition));
+    }
+    let Some(must) = element.must else {
+        return Err(stop_at(line, DirKind::BadStatus));
+    };
+    let Some(repr) = element.repr else {
+        return Err(stop_at(line, DirKind::BadRepr));
+    };
+    Ok(PartDef {
+        code: element.code,
+        must,
+        repr,
+    })
+}
+
+/// Judges the composite of a line with this position: its item.
+fn judge_composite(
+    before: Option<u16>,
+    position: u16,
+    line: &LineText<'_>,
+    composite: &CompositeFields,
+) -> Result<ItemDef, DirStop>
+    requires position { position ≡ parts.position_of (line_shown line.now) }
+    requires form { IsTrue (parts.is_composite_form (parts.fields_behind (line_shown line.now))) }
+    requires composite { parts.IsComposite composite.now (parts.fields_behind (line_shown line.now)) }
+    ensures { let shown = line_shown line.now in
+        Gives (λ item. Some item) result
+        (unless_faulty (parts.fault_list shown (parts.composite_fault before shown)) (segments.item_in (parts.fields_behind shown))) }
+{
+    if !is_behind(before, position) {
+        return Err(stop_at(line, DirKind::BadPosition));
+    }
+    let Some(must) = composite.must else {
+        return Err(stop_at(line, DirKind::BadStatus));
+    };
+    Ok(ItemDef::Composite {
+        code: composite.code,
+        must,
+    })
+}
+
+/// Judges how many parts or items an entry with this head has: 1 to 99.
+pub(crate) fn judge_count(head: &LineText<'_>, count: usize) -> Result<(), DirStop>
+    ensures { parts.Passes result (parts.count_faults (line_shown head.now) count) }
+{
+    if count == 0 || count > 99 {
+        return Err(stop_at(head, DirKind::BadLine));
+    }
+    Ok(())
+}
+
+/// Whether a position is greater than the one before.
+fn is_behind(before: Option<u16>, position: u16) -> bool
+    ensures { result ≡ parts.is_greater before position }
+{
+    match before {
+        Some(before) => before < position,
+        None => true,
+    }
+}

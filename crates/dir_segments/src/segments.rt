@@ -1,0 +1,107 @@
+//! Segment files.
+ghost use Rattle.std.specs.Prelude.{◌≡◌, ◌≤◌, List, [], ◌∷◌, ◌++◌, length, map, OnOk};
+ghost use Rattle.std.specs.HashSet.{contains};
+ghost use Rattle.std.specs.Str.{bytes_eq};
+ghost use Rattle.edi_octets.specs.DirStop.{Gives, unless_faulty};
+ghost use Rattle.edi_octets.specs.Left.{line_shown, body_left, entry_shown};
+ghost use Rattle.edi_octets.specs.Lines.{Line};
+ghost use Rattle.dir_segments.specs.Heads.{HasHeads};
+ghost use Rattle.dir_segments.specs.Parts as parts;
+ghost use Rattle.dir_segments.specs.Segments as segments;
+
+use crate::add::add;
+use crate::details::{is_composite_item, judge_end, read_details};
+use crate::fields::is_item_line;
+use crate::head::read_tag_head;
+use crate::known::KnownComposites;
+use crate::part_line::{judge_count, read_item};
+use edi_octets::{Body, DirStop, Entries, Entry, LineText};
+use edi_tables::{CompositeDef, ItemDef, List, SegmentDef};
+use std::alloc::Global;
+use std::collections::HashSet;
+
+/// Reads a segment file of at most 4,194,304 octets with known composites: one segment an entry, in order.
+/// Else the first fault in judging order: `bad-code` and `twice` at a head, `bad-line`, `bad-position`,
+/// `bad-status` and `bad-repr` at an item line, `bad-line` at a part line out of its form or below an
+/// element, `parts-differ` at the line of an item whose part lines aren't the parts of the first known
+/// composite of its code, `bad-line` at the head of an entry with no item or more than 99.
+pub fn read_segments(
+    alloc: Global,
+    file: &[u8],
+    known: &[CompositeDef],
+) -> Result<Vec<SegmentDef>, DirStop>
+    requires { length file.now ≤ 4194304 }
+    ensures { Gives (λ found. found.items) result (segments.segments_in known.now file.now) }
+{
+    let composites = KnownComposites::new(alloc, known)?;
+    let mut found = Vec::new(alloc);
+    let mut seen = HashSet::new(alloc);
+    for entry in Entries::of(file) {
+        let segment = read_entry(alloc, &composites, &mut seen, &entry)?;
+        add(&mut found, segment)?;
+    }
+    Ok(found)
+}
+
+/// Reads an entry behind others, whose tags are seen.
+fn read_entry(
+    alloc: Global,
+    known: &KnownComposites<'_>,
+    seen: &mut HashSet<[u8; 3]>,
+    entry: &Entry<'_>,
+) -> Result<SegmentDef, DirStop>
+    ensures judged { (earlier : List (List Line)) → HasHeads (contains bytes_eq seen.old) earlier
+        → Gives (λ segment. segment) result
+        (unless_faulty (segments.segment_faults known.now.composites.now earlier (entry_shown entry.now)) (segments.segment_of (entry_shown entry.now))) }
+    ensures joins { (earlier : List (List Line)) → HasHeads (contains bytes_eq seen.old) earlier
+        → OnOk result (HasHeads (contains bytes_eq seen.new) (earlier ++ entry_shown entry.now ∷ [])) }
+{
+    let tag = read_tag_head(seen, &entry.head)?;
+    let items = read_items(alloc, known, entry)?;
+    Ok(SegmentDef {
+        tag,
+        items: List::of(items),
+    })
+}
+
+/// Reads the items of an entry, and judges its end.
+fn read_items(
+    alloc: Global,
+    known: &KnownComposites<'_>,
+    entry: &Entry<'_>,
+) -> Result<Vec<ItemDef>, DirStop>
+    ensures { let body = body_left entry.now.body in
+        Gives (λ items. items.items) result
+        (unless_faulty (segments.items_faults known.now.composites.now body ++ parts.count_faults (line_shown entry.now.head) (length (segments.items_of body))) (segments.items_in body)) }
+{
+    let mut items = Vec::new(alloc);
+    let mut before = None;
+    let mut lines = entry.body;
+    while let Some(line) = lines.next() {
+        if !is_item_line(&line) {
+            continue;
+        }
+        let (position, item) = read_whole_item(alloc, known, before, &line, lines)?;
+        add(&mut items, item)?;
+        before = Some(position);
+    }
+    judge_count(&entry.head, items.len())?;
+    Ok(items)
+}
+
+/// Reads an item with its detail lines, the first of the lines behind it, and judges its end.
+fn read_whole_item(
+    alloc: Global,
+    known: &KnownComposites<'_>,
+    before: Option<u16>,
+    line: &LineText<'_>,
+    behind: Body<'_>,
+) -> Result<(u16, ItemDef), DirStop>
+    ensures { let item = segments.item_at (line_shown line.now) (body_left behind.entry) in
+        parts.GivesPlaced result (segments.item_faults known.now.composites.now before item) (segments.place_of item) (segments.item_of item) }
+{
+    let (position, item) = read_item(before, line)?;
+    let repeated = read_details(alloc, is_composite_item(&item), behind)?;
+    judge_end(known, line, &item, &repeated)?;
+    Ok((position, item))
+}

@@ -1,0 +1,5 @@
+use Rattle.service_tables.proofs.Tables.{table_faults-contrl}
+use Rattle.service_tables.proofs.contrl.contrl_rows.Goals as goal
+
+pub returns-clause-lawful : goal.returns-clause-lawful
+returns-clause-lawful c = table_faults-contrl

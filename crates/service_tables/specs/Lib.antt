@@ -1,0 +1,2 @@
+pub mod ServiceTables
+pub mod Sound

@@ -1,0 +1,66 @@
+//! The segment table of CONTRL.
+ghost use Rattle.std.specs.Prelude.{◌≡◌, []};
+ghost use Rattle.edi_tables.specs.Rows.{table_faults};
+ghost use Rattle.service_tables.specs.ServiceTables.{contrl_table_rows};
+
+use crate::macros::{C, M};
+use edi_tables::{TableRow, Tag};
+
+/// A row: the segment's tag or `group`, its status, its greatest count and the number of groups round it.
+macro_rules! row {
+    (group $status:ident $max:literal depth $depth:literal) => {
+        TableRow {
+            tag: None,
+            must: $status,
+            max: $max,
+            depth: $depth,
+        }
+    };
+    ($tag:literal $status:ident $max:literal depth $depth:literal) => {
+        TableRow {
+            tag: Some(Tag { octets: *$tag }),
+            must: $status,
+            max: $max,
+            depth: $depth,
+        }
+    };
+}
+
+const CONTRL: &[TableRow] = &[
+    row!(b"UNH" M 1 depth 0),
+    row!(b"UCI" M 1 depth 0),
+    row!(group C 999999 depth 0),
+    row!(b"UCM" M 1 depth 1),
+    row!(group C 999 depth 1),
+    row!(b"UCS" M 1 depth 2),
+    row!(b"UCD" C 99 depth 2),
+    row!(group C 999999 depth 0),
+    row!(b"UCF" M 1 depth 1),
+    row!(group C 999999 depth 1),
+    row!(b"UCM" M 1 depth 2),
+    row!(group C 999 depth 2),
+    row!(b"UCS" M 1 depth 3),
+    row!(b"UCD" C 99 depth 3),
+    row!(b"UNT" M 1 depth 0),
+];
+
+/// The rows of the segment table of CONTRL, version `D`, release `3`, agency `UN`.
+pub fn contrl_rows() -> &'static [TableRow]
+    ensures rows { result.now ≡ contrl_table_rows }
+    ensures lawful { table_faults result.now ≡ [] }
+{
+    CONTRL
+}
+
+#[cfg(test)]
+mod tests {
+    use super::*;
+
+    #[test]
+    fn the_rows_of_contrl_begin_and_end_with_the_message(rt: HostRuntime) {
+        let rows = contrl_rows();
+        assert_eq!(rt; rows.len(), 15);
+        assert_eq!(rt; rows[0].tag, Some(Tag { octets: *b"UNH" }));
+        assert_eq!(rt; rows[14].tag, Some(Tag { octets: *b"UNT" }));
+    }
+}

@@ -1,0 +1,102 @@
+//! The service segments.
+ghost use Rattle.std.specs.Prelude.{◌≡◌};
+ghost use Rattle.std.specs.Option.{option_copied};
+ghost use Rattle.service_tables.specs.ServiceTables.{service_items_of};
+
+use crate::macros::{C, M, alone, composite, part};
+use edi_tables::{Class, Code, ItemDef, PartDef, Repr, Tag};
+
+const UNB: &[ItemDef] = &[
+    composite!(b"S001" M),
+    composite!(b"S002" M),
+    composite!(b"S003" M),
+    composite!(b"S004" M),
+    alone!(b"0020" An..14 M),
+    composite!(b"S005" C),
+    alone!(b"0026" An..14 C),
+    alone!(b"0029" A 1 C),
+    alone!(b"0031" N 1 C),
+    alone!(b"0032" An..35 C),
+    alone!(b"0035" N 1 C),
+];
+
+const UNG: &[ItemDef] = &[
+    alone!(b"0038" An..6 M),
+    composite!(b"S006" M),
+    composite!(b"S007" M),
+    composite!(b"S004" M),
+    alone!(b"0048" An..14 M),
+    alone!(b"0051" An..2 M),
+    composite!(b"S008" M),
+    alone!(b"0058" An..14 C),
+];
+
+const UNH: &[ItemDef] = &[
+    alone!(b"0062" An..14 M),
+    composite!(b"S009" M),
+    alone!(b"0068" An..35 C),
+    composite!(b"S010" C),
+];
+
+const UNT: &[ItemDef] = &[alone!(b"0074" N..6 M), alone!(b"0062" An..14 M)];
+
+const UNE: &[ItemDef] = &[alone!(b"0060" N..6 M), alone!(b"0048" An..14 M)];
+
+const UNZ: &[ItemDef] = &[alone!(b"0036" N..6 M), alone!(b"0020" An..14 M)];
+
+const UNS: &[ItemDef] = &[alone!(b"0081" A 1 M)];
+
+const UCI: &[ItemDef] = &[
+    alone!(b"0020" An..14 M),
+    composite!(b"S002" M),
+    composite!(b"S003" M),
+    alone!(b"0083" An..3 M),
+    alone!(b"0085" An..3 C),
+    alone!(b"0013" An 3 C),
+    composite!(b"S011" C),
+];
+
+const UCF: &[ItemDef] = &[
+    alone!(b"0048" An..14 M),
+    composite!(b"S006" M),
+    composite!(b"S007" M),
+    alone!(b"0083" An..3 M),
+    alone!(b"0085" An..3 C),
+    alone!(b"0013" An 3 C),
+    composite!(b"S011" C),
+];
+
+const UCM: &[ItemDef] = &[
+    alone!(b"0062" An..14 M),
+    composite!(b"S009" M),
+    alone!(b"0083" An..3 M),
+    alone!(b"0085" An..3 C),
+    alone!(b"0013" An 3 C),
+    composite!(b"S011" C),
+];
+
+const UCS: &[ItemDef] = &[alone!(b"0096" N..6 M), alone!(b"0085" An..3 C)];
+
+const UCD: &[ItemDef] = &[alone!(b"0085" An..3 M), composite!(b"S011" M)];
+
+/// The data elements of a service segment in order, if there is one of that tag.
+#[tactic(auto, unfolding(crate::specs::ServiceTables::service_items_of))]
+pub fn service_segment(tag: Tag) -> Option<&'static [ItemDef]>
+    ensures { option_copied result ≡ service_items_of tag.octets }
+{
+    match &tag.octets {
+        b"UNB" => Some(UNB),
+        b"UNG" => Some(UNG),
+        b"UNH" => Some(UNH),
+        b"UNT" => Some(UNT),
+        b"UNE" => Some(UNE),
+        b"UNZ" => Some(UNZ),
+        b"UNS" => Some(UNS),
+        b"UCI" => Some(UCI),
+        b"UCF" => Some(UCF),
+        b"UCM" => Some(UCM),
+        b"UCS" => Some(UCS),
+        b"UCD" => Some(UCD),
+        _ => None,
+    }
+}

@@ -3,6 +3,8 @@
 
 mod counted;
 mod manifest;
+#[cfg(test)]
+mod tests;
 mod words;
 
 pub use manifest::{FileKind, FileLine, Labels, Manifest, read_manifest};

@@ -1,0 +1,5 @@
+pub mod Outward
+pub mod Following
+pub mod Pairs
+pub mod Made
+pub mod Within

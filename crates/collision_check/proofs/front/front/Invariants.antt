@@ -1,0 +1,8 @@
+use Rattle.std.proofs.Common.{◌≡◌}
+use Rattle.std.specs.Prelude.{filter}
+use Rattle.std.specs.List.{range_with_len}
+use Rattle.edi_tables.specs.Collisions.{is_in_front}
+use Rattle.collision_check.proofs.front.front.Given as goal
+
+abbrev pub invariant-loop-before : goal.invariant-loop-before
+invariant-loop-before l = l.front.items ≡ filter (is_in_front l.nodes l.entry) (range_with_len 0 l.before)

@@ -1,0 +1,17 @@
+use Rattle.std.proofs.Common.{◌≡◌, ℕ, map, length, ap, ◌∙◌, arith}
+use Rattle.std.specs.List.{flat_map, range_with_len}
+use Rattle.edi_tables.specs.Collisions.{collisions_of}
+use Rattle.collision_check.specs.Listed.{collision_seen, collisions_at}
+use Rattle.collision_check.proofs.Made.{made_step}
+use Rattle.collision_check.proofs.list.list_collisions.Goals as goal
+
+pub loop-entry-preserved : goal.loop-entry-preserved
+loop-entry-preserved c =
+    c.in_ok-push_collisions.ensures
+    ∙ made_step c.nodes-nodes.result.now c.args.table.now c.loop-entry.entry (map collision_seen c.loop-entry.collisions.items) c.nodes-nodes.ensures.value c.loop-entry.invariant
+
+pub returns : goal.returns
+unfolding collisions_of
+returns c =
+    let all : c.loop-entry.entry ≡ length c.args.table.now = omega (arith, c.loop-entry-test.false, c.loop-entry.auto.entry-end, c.len-entry-end.ensures.value) in
+    record { listed = c.loop-entry.invariant ∙ ap (λ (n : ℕ). flat_map (collisions_at c.args.table.now) (range_with_len 0 n)) all }

@@ -1,5 +1,5 @@
 -- A run answers what it came to.
-use Rattle.std.proofs.Common.{◌≡◌, ◌≢◌, ◌⊎◌, ◌<◌, ◌≤◌, ℕ, List, length, Option, Some, None, refl, sym, ap, ◌∙◌, subst, inl, inr, arith}
+use Rattle.std.proofs.Common.{◌≡◌, ◌≢◌, ◌⊎◌, ◌<◌, ◌≤◌, ℕ, List, length, Option, Some, None, refl, sym, subst, inl, inr, arith}
 use Rattle.edi_ports.specs.Read.{TakesFront}
 use Rattle.edicheck_core.specs.declared.form.Form.{Form}
 use Rattle.edicheck_core.specs.declared.status.Status.{Status}

@@ -1,12 +1,11 @@
 -- What each status says of a run.
-use Rattle.std.specs.Prelude.{◌≡◌, ◌⊎◌, ◌<◌, ◌≤◌, ◌+◌, ◌++◌, ℕ, List, [], ◌∷◌, length, Option, Some, None, IfSome, codes}
+use Rattle.std.specs.Prelude.{◌≡◌, ◌⊎◌, ◌<◌, ◌≤◌, ◌++◌, ℕ, List, [], ◌∷◌, length, Option, Some, None, IfSome, codes}
 use Rattle.edi_ports.specs.Faults.{HasRisen}
 use Rattle.edi_ports.specs.Sink.{IsCut}
 use Rattle.edi_ports.specs.Read.{TakesFront}
 use Rattle.edicheck_core.specs.declared.form.Form.{Form}
 use Rattle.edicheck_core.specs.declared.status.Status.{Status}
 use Rattle.edicheck_core.specs.declared.status.Status.TheVariants.{Done, Found, Words, BadDirectory, ReadFault, WriteFault, BadScript, TooLarge, Memory, Absent}
-use Rattle.edicheck_core.specs.Form.{form_of}
 use Rattle.edicheck_core.specs.Inputs.{Inputs}
 use Rattle.edicheck_core.specs.Printing.{printed}
 

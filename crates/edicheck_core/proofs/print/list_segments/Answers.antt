@@ -1,6 +1,6 @@
-use Rattle.std.proofs.Common.{◌≡◌, ◌<◌, ◌≤◌, refl, sym, ap, ◌∙◌, arith, rules}
+use Rattle.std.proofs.Common.{refl, arith}
 use Rattle.seg_lexer.specs.Segments.{boundaries_of}
-use Rattle.edicheck_core.proofs.LinesLemmas.{lines_next, lines_last, tail_within}
+use Rattle.edicheck_core.proofs.LinesLemmas.{lines_next, tail_within}
 use Rattle.edicheck_core.proofs.print.list_segments.Goals as goal
 
 pub loop-start-init : goal.loop-start-init

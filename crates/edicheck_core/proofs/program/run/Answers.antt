@@ -1,4 +1,4 @@
-use Rattle.std.proofs.Common.{◌≡◌, ◌≤◌, length, Some, sym, ap, ◌∙◌, subst}
+use Rattle.std.proofs.Common.{subst}
 use Rattle.edicheck_core.specs.Form.{form_of}
 use Rattle.edicheck_core.specs.Inputs.{Inputs}
 use Rattle.edicheck_core.specs.Answer.{IsDue}

@@ -1,12 +1,11 @@
 -- Names that stand once.
-use Rattle.std.proofs.Common.{◌≡◌, ℕ, ◌⊎◌, inl, inr, Bool, true, false, ◌||◌, List, [], ◌∷◌, ◌++◌, sym, ap, ◌∙◌, refl, subst, cond, Option, Some, None, true≢false}
+use Rattle.std.proofs.Common.{◌≡◌, ℕ, ◌⊎◌, inl, inr, Bool, true, false, ◌||◌, List, [], ◌∷◌, ◌++◌, sym, ap, ◌∙◌, refl, cond, Option, Some, None, true≢false}
 use Rattle.std.specs.List.{flat_map, list_any}
 use Rattle.std.specs.Str.{bytes_eq}
 use Rattle.std.proofs.lemmas.Cmp.{nat_list_eq_equiv}
 use Rattle.std.proofs.lemmas.Option.{same_Some}
 use Rattle.edi_octets.specs.Profile.{with_earlier_from}
 use Rattle.edi_tables.specs.Rows.{when}
-use Rattle.dir_compile.specs.declared.stop.CompileKind.{CompileKind}
 use Rattle.dir_compile.specs.declared.stop.CompileKind.TheVariants.{Twice}
 use Rattle.dir_compile.specs.Compile.{twice_in, named_in}
 use Rattle.dir_compile.proofs.Faults.{nil-left, nil-right, nil-both, when-nil}

@@ -1,5 +1,5 @@
 -- The groups of faults of parts, one by one.
-use Rattle.std.proofs.Common.{◌≡◌, List, [], ◌++◌}
+use Rattle.std.proofs.Common.{◌≡◌, []}
 use Rattle.std.specs.List.{flat_map}
 use Rattle.dir_compile.specs.declared.parts.Parts.{Parts}
 use Rattle.dir_compile.specs.Compile.{twice_in, twice_faults, list_faults, composite_faults, segment_faults, message_faults, compile_faults, value_name, element_name, list_name, composite_name, segment_name, message_name}

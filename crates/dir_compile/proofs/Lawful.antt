@@ -1,23 +1,19 @@
 -- Parts without fault, put in order, are a directory.
-use Rattle.std.proofs.Common.{◌≡◌, ℕ, ◌⊎◌, inl, inr, Bool, true, not, ◌&&◌, List, [], ◌∷◌, ◌++◌, Option, Some, None, map, is_some, sym, ap, ◌∙◌, refl, subst, codes}
+use Rattle.std.proofs.Common.{◌≡◌, ℕ, inl, inr, true, not, ◌&&◌, List, [], ◌∷◌, ◌++◌, Option, Some, None, map, is_some, sym, ap, ◌∙◌, refl, subst, codes}
 use Rattle.std.specs.List.{flat_map}
 use Rattle.std.specs.Str.{bytes_eq}
 use Rattle.edi_tables.specs.Rows.{when, table_faults}
 use Rattle.edi_tables.specs.declared.element.CodeList.{CodeList}
 use Rattle.edi_tables.specs.declared.element.PartDef.{PartDef}
-use Rattle.edi_tables.specs.declared.element.CompositeDef.{CompositeDef}
 use Rattle.edi_tables.specs.declared.segment.ItemDef.{ItemDef}
 use Rattle.edi_tables.specs.declared.segment.ItemDef.TheVariants.{Alone, Composite}
-use Rattle.edi_tables.specs.declared.segment.SegmentDef.{SegmentDef}
-use Rattle.edi_tables.specs.declared.segment.MessageDef.{MessageDef}
 use Rattle.edi_tables.specs.declared.tag.Tag.{Tag}
 use Rattle.dir_compile.specs.declared.parts.Parts.{Parts}
-use Rattle.dir_compile.specs.declared.stop.CompileKind.{CompileKind}
 use Rattle.dir_compile.specs.declared.stop.CompileKind.TheVariants.{UnknownElement, UnknownComposite, UnknownSegment, Reserved, BadTable}
 use Rattle.dir_compile.specs.Ascending.{ascending_by, is_before}
-use Rattle.dir_compile.specs.Compile.{twice_in, named_in, list_fault, list_faults, part_against, part_faults, composite_fault, composite_faults, item_faults, segment_fault, segment_faults, tag_faults, row_faults, message_fault, message_faults, is_service_tag, is_filled_with, compile_faults, value_name, element_name, list_name, composite_name, segment_name, message_name}
+use Rattle.dir_compile.specs.Compile.{twice_in, named_in, list_fault, list_faults, part_against, part_faults, composite_fault, composite_faults, item_faults, segment_fault, segment_faults, tag_faults, message_fault, message_faults, is_service_tag, is_filled_with, compile_faults, value_name, element_name, list_name, composite_name, segment_name, message_name}
 use Rattle.dir_compile.specs.Directory.{ordered_list, ordered_parts, IsDirectory}
-use Rattle.dir_compile.proofs.AscendingLemmas.{Has, HasSame, IsAscending, IsApart, same-ascending_by, ascending_by-ascending, ascending_by-fixed, apart-from-ascending}
+use Rattle.dir_compile.proofs.AscendingLemmas.{Has, IsAscending, IsApart, same-ascending_by, ascending_by-ascending, ascending_by-fixed, apart-from-ascending}
 use Rattle.dir_compile.proofs.Apart.{apart-from-none, none-from-apart, named-same}
 use Rattle.dir_compile.proofs.Members.{none-at, none-all, none-same}
 use Rattle.dir_compile.proofs.Groups.{IsTwiceFree, IsFaultFree, fault-free, free-compile}

@@ -1,22 +1,20 @@
 -- What is answered of parts as a whole.
-use Rattle.std.proofs.Common.{◌≡◌, ℕ, ◌<◌, suc, zero, ◌+◌, List, [], ◌∷◌, ◌++◌, length, get_or, All, Option, Some, None, Result, Ok, Err, IfOk, IfErr, sym, ap, ◌∙◌, refl, subst, arith, if◌then◌else◌, Bool, true, false}
+use Rattle.std.proofs.Common.{◌≡◌, ℕ, suc, List, [], ◌∷◌, ◌++◌, length, get_or, All, Some, Result, Ok, Err, IfOk, IfErr, sym, ap, ◌∙◌, refl, subst, if◌then◌else◌, Bool, true, false}
 use Rattle.std.proofs.lemmas.List.{get_or_default}
 use Rattle.std.proofs.lemmas.Option.{same_Some}
-use Rattle.edi_tables.specs.Rows.{when, table_faults}
-use Rattle.edi_tables.specs.declared.segment.MessageDef.{MessageDef}
-use Rattle.edi_tables.specs.declared.segment.TableRow.{TableRow}
+use Rattle.edi_tables.specs.Rows.{table_faults}
 use Rattle.dir_compile.specs.declared.parts.Parts.{Parts}
 use Rattle.dir_compile.specs.declared.stop.CompileKind.{CompileKind}
 use Rattle.dir_compile.specs.declared.stop.CompileStop.{CompileStop}
 use Rattle.dir_compile.specs.declared.stop.CompileStop.TheVariants.{Fault, Memory}
 use Rattle.dir_compile.specs.Ascending.{is_before, put_in_order, ascending_by}
-use Rattle.dir_compile.specs.Compile.{compile_faults, twice_faults, message_fault, message_faults, is_filled_with, message_name}
+use Rattle.dir_compile.specs.Compile.{compile_faults, message_fault, message_faults, is_filled_with}
 use Rattle.dir_compile.specs.Directory.{first_or, ordered_parts, directory_of, Compiles}
 use Rattle.dir_compile.specs.Judges.{first_of, IsFirstFault, Judges}
 use Rattle.dir_compile.specs.Stop.{IsMemory}
 use Rattle.dir_compile.proofs.Faults.{first-right, nil-both, nil-right, when-nil}
 use Rattle.dir_compile.proofs.Members.{none-place}
-use Rattle.dir_compile.proofs.AscendingLemmas.{Has, has-at, Contains-from-Has, same-ascending_by}
+use Rattle.dir_compile.proofs.AscendingLemmas.{has-at, Contains-from-Has, same-ascending_by}
 
 -- a stop that tells the first of no faults is want of memory
 memory-alone : (stop : CompileStop) → IsFirstFault stop [] → IsMemory stop

@@ -1,11 +1,11 @@
 -- Names that stand twice.
-use Rattle.std.proofs.Common.{◌≡◌, ℕ, ◌+◌, ◌<◌, Bool, true, false, ◌||◌, List, [], ◌∷◌, ◌++◌, length, get_or, take, drop, map, Some, Result, IfOk, sym, ap, ◌∙◌, refl, subst, arith}
+use Rattle.std.proofs.Common.{◌≡◌, ℕ, ◌+◌, ◌<◌, Bool, true, false, ◌||◌, List, [], ◌∷◌, ◌++◌, length, get_or, take, drop, map, Some, Result, IfOk, sym, ap, ◌∙◌, refl}
 use Rattle.std.specs.List.{flat_map, list_any}
 use Rattle.std.specs.Str.{bytes_eq}
 use Rattle.std.proofs.lemmas.List.{take_more, append-nil, append_assoc, map_push}
 use Rattle.std.proofs.lemmas.List.Concat.{flat_map-append}
 use Rattle.std.proofs.lemmas.Cmp.{nat_list_eq_equiv}
-use Rattle.edi_octets.specs.Profile.{with_earlier_from, with_earlier}
+use Rattle.edi_octets.specs.Profile.{with_earlier_from}
 use Rattle.edi_tables.specs.Rows.{when}
 use Rattle.std.proofs.lemmas.Result.{IfOk-weaker}
 use Rattle.dir_compile.specs.declared.stop.CompileKind.{CompileKind}

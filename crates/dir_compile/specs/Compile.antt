@@ -1,6 +1,6 @@
 -- Which parts are a directory.
-use Rattle.std.specs.Prelude.{◌≡◌, ◌<◌, ◌≤◌, ℕ, Bool, true, false, not, ◌==◌, ◌&&◌, List, [], ◌∷◌, ◌++◌, length, map, find, Option, Some, None, is_some, Result, Ok, Err, codes, if◌then◌else◌}
-use Rattle.std.specs.List.{list_any, list_all, flat_map}
+use Rattle.std.specs.Prelude.{ℕ, Bool, true, false, not, ◌==◌, ◌&&◌, List, [], ◌∷◌, ◌++◌, find, Option, Some, None, is_some, codes}
+use Rattle.std.specs.List.{list_any, flat_map}
 use Rattle.std.specs.Str.{bytes_eq}
 use Rattle.edi_tables.specs.declared.tag.Tag.{Tag}
 use Rattle.edi_tables.specs.declared.element.Class.{Class}
@@ -21,8 +21,6 @@ use Rattle.service_tables.specs.ServiceTables.{service_items_of}
 use Rattle.dir_compile.specs.declared.parts.Parts.{Parts}
 use Rattle.dir_compile.specs.declared.stop.CompileKind.{CompileKind}
 use Rattle.dir_compile.specs.declared.stop.CompileKind.TheVariants.{Twice, UnknownElement, ReprDiffers, Reserved, UnknownComposite, UnknownSegment, BadTable}
-use Rattle.dir_compile.specs.declared.stop.CompileStop.{CompileStop}
-use Rattle.dir_compile.specs.declared.stop.CompileStop.TheVariants.{Fault, Memory}
 
 -- the names of definitions
 abbrev pub element_name : ElementDef → List ℕ

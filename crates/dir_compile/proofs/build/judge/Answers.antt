@@ -1,6 +1,5 @@
-use Rattle.std.proofs.Common.{◌≡◌, ◌++◌, []}
 use Rattle.std.proofs.lemmas.Result.{err_from_is_err_and}
-use Rattle.dir_compile.specs.Compile.{compile_faults, twice_faults, list_faults, composite_faults, segment_faults, message_faults}
+use Rattle.dir_compile.specs.Compile.{compile_faults}
 use Rattle.dir_compile.proofs.Faults.{first-left, first-right, nil-both, judges-stop}
 use Rattle.dir_compile.proofs.Making.{judges-last}
 use Rattle.dir_compile.proofs.build.judge.Goals as goal

@@ -1,4 +1,4 @@
-use Rattle.std.proofs.Common.{◌≡◌, ◌∙◌, ap, sym, subst, slice_get}
+use Rattle.std.proofs.Common.{◌∙◌, ap, sym, slice_get}
 use Rattle.std.specs.Option.{option_copied}
 use Rattle.dir_compile.specs.Compile.{element_name}
 use Rattle.dir_compile.proofs.Named.{named-get, named-none, copied-get}

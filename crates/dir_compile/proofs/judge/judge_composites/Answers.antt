@@ -1,9 +1,9 @@
-use Rattle.std.proofs.Common.{arith, subst, get_or, ◌≡◌}
+use Rattle.std.proofs.Common.{arith, subst}
 use Rattle.std.proofs.lemmas.Result.{err_from_is_err_and}
 use Rattle.std.specs.List.{flat_map}
 use Rattle.dir_compile.specs.Judges.{IsFirstFault}
 use Rattle.dir_compile.specs.Compile.{composite_fault, part_faults}
-use Rattle.dir_compile.proofs.Faults.{judges_there, judges_there_in}
+use Rattle.dir_compile.proofs.Faults.{judges_there_in}
 use Rattle.dir_compile.proofs.judge.judge_composites.Goals as goal
 
 pub returns-in_err-judge_parts : goal.returns-in_err-judge_parts

@@ -1,7 +1,6 @@
-use Rattle.std.proofs.Common.{◌≡◌, ◌<◌, List, length, get_or, take, ◌∙◌, sym, ap, subst, arith}
-use Rattle.std.specs.List.{flat_map}
+use Rattle.std.proofs.Common.{◌∙◌, sym, arith}
 use Rattle.dir_compile.specs.declared.stop.CompileKind.TheVariants.{UnknownElement}
-use Rattle.dir_compile.specs.Compile.{element_name, list_name, list_fault}
+use Rattle.dir_compile.specs.Compile.{element_name, list_fault}
 use Rattle.dir_compile.proofs.Faults.{first-when, when-held, not-at, first_there_in, none_more_in}
 use Rattle.dir_compile.proofs.Named.{contains-named}
 use Rattle.dir_compile.proofs.judge.judge_lists.Goals as goal

@@ -1,7 +1,7 @@
-use Rattle.std.proofs.Common.{arith, subst, get_or, ◌≡◌}
+use Rattle.std.proofs.Common.{arith}
 use Rattle.std.proofs.lemmas.Result.{err_from_is_err_and}
 use Rattle.dir_compile.specs.Compile.{message_fault}
-use Rattle.dir_compile.proofs.Faults.{judges_there, judges_there_in}
+use Rattle.dir_compile.proofs.Faults.{judges_there_in}
 use Rattle.dir_compile.proofs.judge.judge_messages.Goals as goal
 
 pub returns-in_err-judge_message : goal.returns-in_err-judge_message

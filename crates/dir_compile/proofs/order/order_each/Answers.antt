@@ -1,4 +1,4 @@
-use Rattle.std.proofs.Common.{◌≡◌, ◌<◌, ◌∙◌, [], length, get_or, set, ap, sym, subst, arith}
+use Rattle.std.proofs.Common.{◌<◌, ◌∙◌, length, set, ap, arith}
 use Rattle.dir_compile.specs.Ascending.{ascending_by}
 use Rattle.dir_compile.specs.Compile.{twice_in, value_name}
 use Rattle.dir_compile.specs.Directory.{ordered_list}

@@ -1,6 +1,5 @@
-use Rattle.std.proofs.Common.{◌≡◌, ◌∙◌}
 use Rattle.dir_compile.specs.Directory.{ordered_parts}
-use Rattle.dir_compile.proofs.Groups.{IsTwiceFree, twice-free}
+use Rattle.dir_compile.proofs.Groups.{twice-free}
 use Rattle.dir_compile.proofs.order.ordered.Goals as goal
 
 pub ordered_elements-requires : goal.ordered_elements-requires

@@ -1,4 +1,4 @@
-use Rattle.std.proofs.Common.{◌≡◌, ◌∙◌, ap, sym, slice_get}
+use Rattle.std.proofs.Common.{◌∙◌, ap, sym, slice_get}
 use Rattle.std.specs.Option.{option_copied}
 use Rattle.dir_compile.specs.Compile.{composite_name, named_in}
 use Rattle.dir_compile.proofs.Named.{named-get, named-none, copied-get}

@@ -1,4 +1,4 @@
-use Rattle.std.proofs.Common.{◌≡◌, ◌+◌, ◌∙◌, sym, ap}
+use Rattle.std.proofs.Common.{◌+◌, ◌∙◌, sym, ap}
 use Rattle.std.specs.Option.{option_map}
 use Rattle.dir_compile.proofs.TableNames.{table-message, table-none}
 use Rattle.dir_compile.proofs.directory.Directory.find_table.Goals as goal

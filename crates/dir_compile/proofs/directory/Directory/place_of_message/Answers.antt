@@ -1,4 +1,4 @@
-use Rattle.std.proofs.Common.{◌≡◌, ◌∙◌, sym, ap, position}
+use Rattle.std.proofs.Common.{◌∙◌, sym, ap, position}
 use Rattle.std.specs.Str.{bytes_eq}
 use Rattle.dir_compile.specs.Compile.{message_name}
 use Rattle.dir_compile.proofs.TableNames.{message-place, message-nowhere}

@@ -3,3 +3,4 @@ pub mod Following
 pub mod Pairs
 pub mod Made
 pub mod Within
+pub mod Alone

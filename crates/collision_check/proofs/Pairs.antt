@@ -37,7 +37,7 @@ abbrev pub first_pair : Option ℕ → ℕ → List (ℕ × ℕ)
 first_pair None second = []
 first_pair (Some first) second = (first, second) ∷ []
 
-same_tag_is : (a : Tag) (b : Option Tag) → are_same_tag (Some a) b ≡ has_octets a.octets b
+pub same_tag_is : (a : Tag) (b : Option Tag) → are_same_tag (Some a) b ≡ has_octets a.octets b
 same_tag_is a None = refl
 same_tag_is a (Some b) = refl
 

@@ -98,9 +98,9 @@ module _ (nodes : List Node) (none : collisions_of nodes ≡ []) (f : ℕ) (with
       let followers = followers_of nodes f in
       let second = second_at (λ x. has_octets octets (tag_at nodes x)) followers i k less below one two in
       let same : pair_at nodes followers second.0 ≡ pair_with (second.3 ∷ []) (slice_index followers second.0) =
-        ap (λ before. pair_with before (slice_index followers second.0))
-        (filter_agree (have_same_tag nodes (slice_index followers second.0)) (λ x. has_octets octets (tag_at nodes x))
-        (λ x. alike octets (tag_at nodes (slice_index followers second.0)) (tag_at nodes x) second.2) (take second.0 followers) ∙ second.4) in
+      ap (λ before. pair_with before (slice_index followers second.0))
+      (filter_agree (have_same_tag nodes (slice_index followers second.0)) (λ x. has_octets octets (tag_at nodes x))
+      (λ x. alike octets (tag_at nodes (slice_index followers second.0)) (tag_at nodes x) second.2) (take second.0 followers) ∙ second.4) in
       let empty = no_pair second.0 second.1 in
       let filled : ((second.3, slice_index followers second.0) ∷ []) ≡ [] = sym same ∙ empty in
       absurd (differs (second.3, slice_index followers second.0) filled)

@@ -83,7 +83,7 @@ is_in_turn earlier kind = elim (slice_get earlier (length earlier - 1)) [ None �
 abbrev pub file_faults : List Line → Line → List DirFault
 file_faults earlier line =
     elim (file_on (words_of line)) [
-      None ↦ at_line BadLine line ∷ []
+      | None ↦ at_line BadLine line ∷ []
       | Some file ↦ if not (is_in_turn (files_on earlier) file.kind) then at_line BadLine line ∷ [] else (if nat_le 400 (length earlier) then at_line TooMany line ∷ [] else [])
     ]
 

@@ -1,4 +1,4 @@
-//! A directory from a shelf: its manifest, and the files that this names.
+//! Manifests: which files a directory is made of.
 #![tactic(auto)]
 
 mod counted;

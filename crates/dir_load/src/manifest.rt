@@ -89,7 +89,11 @@ fn read_labels(alloc: Global, line: &[u8]) -> Result<Option<Labels>, AllocError>
     let Some((word, version, release, agency)) = four_words(line) else {
         return Ok(None);
     };
-    if word != b"directory".as_slice() || !is_label(version, 3) || !is_label(release, 3) || !is_label(agency, 2) {
+    if word != b"directory".as_slice()
+        || !is_label(version, 3)
+        || !is_label(release, 3)
+        || !is_label(agency, 2)
+    {
         return Ok(None);
     }
     Ok(Some(Labels {
@@ -110,8 +114,7 @@ fn is_label(word: &[u8], most: usize) -> bool
 fn has_label_octets(word: &[u8]) -> bool
     ensures { result ≡ list_all is_tag_octet_of word.now }
 {
-    word.iter()
-        .all(|octet| octet.is_ascii_uppercase() || octet.is_ascii_digit())
+    word.iter().all(|octet| octet.is_ascii_uppercase() || octet.is_ascii_digit())
 }
 
 // The file that a manifest's later line names.

@@ -25,8 +25,16 @@ const FAULTY: &[(&[u8], u32, DirKind)] = &[
     (b"directory D 96A UN\ncodes a b\n", 2, DirKind::BadLine),
     (b"directory D 96A UN\ncodes .a\n", 2, DirKind::BadLine),
     (b"directory D 96A UN\ncodes a/.b\n", 2, DirKind::BadLine),
-    (b"directory D 96A UN\ncodes a\n\nelements b\n", 4, DirKind::BadLine),
-    (b"directory D 96A UN\nmessage a\nsegments b\n", 3, DirKind::BadLine),
+    (
+        b"directory D 96A UN\ncodes a\n\nelements b\n",
+        4,
+        DirKind::BadLine,
+    ),
+    (
+        b"directory D 96A UN\nmessage a\nsegments b\n",
+        3,
+        DirKind::BadLine,
+    ),
 ];
 
 fn fault_of(rt: &impl Abort, read: Result<Manifest, DirStop>) -> Option<DirFault> {

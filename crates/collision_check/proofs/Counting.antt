@@ -1,10 +1,10 @@
 -- Counts behind one placed entry more, and what they say of a candidate of rank 0.
-use Rattle.std.proofs.Common.{◌≡◌, ℕ, zero, suc, ◌+◌, ◌-◌, ◌<◌, ◌≤◌, Bool, true, false, cond, List, [], ◌∷◌, ◌++◌, Option, Some, None, length, drop, refl, sym, ap, ◌∙◌, ◌⊎◌, inl, inr, ⊎_elim, arith}
-use Rattle.std.specs.Prelude.{reverse, count_by, nat_eq, nat_le, not, ◌&&◌, ◌==◌, if◌then◌else◌}
-use Rattle.std.specs.List.{after_last, suffix_len, prefix_len, sum_by}
-use Rattle.std.proofs.lemmas.Bool.{eq-eqb, ne_eqb, eqb-true, leb-false, le-leb, cases_Bool}
+use Rattle.std.proofs.Common.{◌≡◌, ℕ, ◌+◌, ◌-◌, ◌≤◌, Bool, true, false, cond, List, [], ◌∷◌, ◌++◌, Option, Some, None, length, drop, refl, sym, ap, ◌∙◌, ◌⊎◌, ⊎_elim, arith}
+use Rattle.std.specs.Prelude.{reverse, count_by, nat_le, not, ◌&&◌, ◌==◌, if◌then◌else◌}
+use Rattle.std.specs.List.{after_last, suffix_len, prefix_len}
+use Rattle.std.proofs.lemmas.Bool.{eq-eqb, ne_eqb, eqb-true, leb-false, le-leb}
 use Rattle.std.proofs.lemmas.List.{reverse-append, drop-append-le, length-append}
-use Rattle.std.proofs.lemmas.List.Sums.{sum_by-append, suffix_len-le-length}
+use Rattle.std.proofs.lemmas.List.Sums.{sum_by-append}
 use Rattle.edi_tables.specs.declared.table.Node.{Node}
 use Rattle.edi_tables.specs.Walk.{parent_at, max_at, is_repeat, missing_between}
 use Rattle.edi_tables.specs.Placement.{is_at, from_last, placed_since, placed_behind, entry_count, group_count, last_placed, is_over, is_filled, rank_of}

@@ -7,3 +7,4 @@ pub mod Alone
 pub mod Stepping
 pub mod Counting
 pub mod Single
+pub mod TwoDates

@@ -1,15 +1,14 @@
 -- Where no collision is listed, no two followers of an entry have one tag.
-use Rattle.std.proofs.Common.{◌≡◌, ℕ, zero, suc, ◌+◌, ◌<◌, ◌≤◌, Bool, true, false, List, [], ◌∷◌, ◌++◌, Option, Some, None, map, length, take, get_or, refl, sym, ap, subst, ◌∙◌, inl, inr, arith}
+use Rattle.std.proofs.Common.{◌≡◌, ℕ, zero, suc, ◌+◌, ◌<◌, ◌≤◌, Bool, true, false, List, [], ◌∷◌, ◌++◌, Option, Some, None, map, length, take, get_or, refl, sym, ap, ◌∙◌, inl, inr, arith}
 use Rattle.std.specs.Prelude.{filter, slice_index, if◌then◌else◌}
 use Rattle.std.specs.List.{flat_map, range_with_len}
-use Rattle.std.specs.Str.{bytes_eq}
-use Rattle.std.proofs.lemmas.Bool.{false≢true, cases_eq, cases_lt}
+use Rattle.std.proofs.lemmas.Bool.{false≢true, cases_eq}
 use Rattle.std.proofs.lemmas.List.Elements.{filter_agree}
 use Rattle.std.proofs.lemmas.Slice.Eq.{bytes_eq-Decides}
 use Rattle.edi_tables.specs.declared.tag.Tag.{Tag}
 use Rattle.edi_tables.specs.declared.table.Node.{Node}
 use Rattle.edi_tables.specs.Walk.{tag_at, is_group_at}
-use Rattle.edi_tables.specs.Collisions.{Collision, are_same_tag, have_same_tag, followers_of, collisions_behind, collisions_of}
+use Rattle.edi_tables.specs.Collisions.{are_same_tag, have_same_tag, followers_of, collisions_behind, collisions_of}
 use Rattle.collision_check.specs.Shared.{pair_with, pair_at, pairs_of}
 use Rattle.collision_check.specs.Listed.{collisions_at}
 use Rattle.collision_check.proofs.Pairs.{has_octets, same_tag_is}

@@ -1,10 +1,10 @@
 -- What going to a candidate passes, by the first mandatory node behind an entry.
-use Rattle.std.proofs.Common.{◌≡◌, ℕ, zero, suc, ◌+◌, ◌-◌, ◌<◌, ◌≤◌, Bool, true, false, cond, List, [], ◌∷◌, Option, Some, None, length, refl, sym, ap, ◌∙◌, inl, inr, arith}
+use Rattle.std.proofs.Common.{◌≡◌, ℕ, zero, suc, ◌+◌, ◌-◌, ◌≤◌, Bool, true, false, List, Option, length, refl, sym, ap, ◌∙◌, inl, inr, arith}
 use Rattle.std.specs.Prelude.{filter, nat_lt, not, ◌&&◌}
 use Rattle.std.specs.List.{find, range_with_len}
-use Rattle.std.proofs.lemmas.Bool.{cases_Bool, ltb-false, le-ltb, and_right, and_left}
+use Rattle.std.proofs.lemmas.Bool.{cases_Bool, ltb-false, le-ltb, and_right}
 use Rattle.edi_tables.specs.declared.table.Node.{Node}
-use Rattle.edi_tables.specs.Walk.{is_must_at, is_trigger_at, parent_at, is_trigger_of, reached_node, missing_between, later_nodes, groups_round}
+use Rattle.edi_tables.specs.Walk.{is_must_at, reached_node, missing_between, later_nodes}
 use Rattle.edi_tables.specs.Placement.{is_filled}
 use Rattle.edi_tables.specs.Collisions.{is_follower}
 use Rattle.collision_check.specs.Shared.{lies_before, may_stand_again}

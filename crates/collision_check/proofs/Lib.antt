@@ -4,3 +4,7 @@ pub mod Pairs
 pub mod Made
 pub mod Within
 pub mod Alone
+pub mod Stepping
+pub mod Counting
+pub mod Single
+pub mod TwoDates

@@ -1,10 +1,10 @@
 -- The collisions behind an entry, from the pairs of its followers.
-use Rattle.std.proofs.Common.{◌≡◌, ℕ, ◌+◌, Bool, true, false, List, [], ◌∷◌, ◌++◌, map, length, take, refl, sym, ap, ◌∙◌, arith}
+use Rattle.std.proofs.Common.{◌≡◌, ℕ, ◌+◌, Bool, true, false, List, [], ◌∷◌, ◌++◌, map, length, take, refl, sym, ap, ◌∙◌}
 use Rattle.std.specs.Prelude.{filter, slice_index, if◌then◌else◌}
 use Rattle.std.specs.List.{flat_map, range_with_len}
 use Rattle.std.proofs.lemmas.List.{map-append, append-nil}
 use Rattle.edi_tables.specs.declared.table.Node.{Node}
-use Rattle.edi_tables.specs.Collisions.{Collision, have_same_tag, followers_of, front_of, collision_of, second_with, collisions_behind}
+use Rattle.edi_tables.specs.Collisions.{Collision, have_same_tag, followers_of, front_of, second_with, collisions_behind}
 use Rattle.collision_check.specs.Shared.{pair_with, pair_at, pairs_of}
 use Rattle.edi_tables.specs.Walk.{is_group_at}
 use Rattle.collision_check.specs.Listed.{with_followers, collisions_at}

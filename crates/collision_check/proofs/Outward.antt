@@ -1,13 +1,13 @@
 -- The candidates behind an entry and the mandatory nodes behind it, level by level outwards.
-use Rattle.std.proofs.Common.{◌≡◌, ℕ, ◌+◌, ◌<◌, ◌≤◌, Bool, true, false, cond, List, [], ◌∷◌, ◌++◌, Option, Some, None, map, length, refl, sym, ap, subst, ◌∙◌, inl, inr, arith}
-use Rattle.std.specs.Prelude.{filter, nat_lt, ◌||◌, ◌&&◌}
+use Rattle.std.proofs.Common.{◌≡◌, ℕ, ◌+◌, ◌<◌, ◌≤◌, Bool, true, false, cond, List, [], ◌∷◌, ◌++◌, Option, Some, None, map, length, refl, sym, ap, subst, ◌∙◌, arith}
+use Rattle.std.specs.Prelude.{◌&&◌}
 use Rattle.std.specs.List.{find, list_all}
 use Rattle.std.specs.Option.{option_or}
 use Rattle.std.proofs.lemmas.List.{append-nil, append_assoc}
 use Rattle.std.proofs.lemmas.List.Folds.{find-append}
 use Rattle.edi_tables.specs.declared.table.Node.{Node}
 use Rattle.edi_tables.specs.Rows.{IsTable}
-use Rattle.edi_tables.specs.Walk.{parent_at, end_at, is_must_at, is_trigger_at, entry_for, later_siblings, level_end, groups_round, outward, candidates_of, later_nodes}
+use Rattle.edi_tables.specs.Walk.{parent_at, end_at, is_must_at, entry_for, later_siblings, level_end, groups_round, outward, candidates_of, later_nodes}
 use Rattle.edi_tables.proofs.TableLaws.{HasTableLaws, table_laws, level_end_none, level_end_some}
 use Rattle.edi_tables.proofs.Walking.{level_end_within, end_in_level, level_end_same, later_siblings_none, later_siblings_next, groups_round_none, groups_round_some, later_nodes_none, later_nodes_some}
 use Rattle.collision_check.specs.Shared.{itself, own_level}

@@ -1,5 +1,5 @@
 -- Followers that share a tag, met one by one.
-use Rattle.std.proofs.Common.{◌≡◌, ℕ, suc, zero, ◌+◌, ◌<◌, Bool, true, false, cond, List, [], ◌∷◌, ◌++◌, Option, Some, None, length, take, get_or, refl, sym, ap, subst, ◌∙◌, inl, inr, arith}
+use Rattle.std.proofs.Common.{◌≡◌, ℕ, suc, zero, ◌+◌, ◌<◌, Bool, true, false, cond, List, [], ◌∷◌, ◌++◌, Option, Some, None, length, take, refl, sym, ap, ◌∙◌, inl, inr, arith}
 use Rattle.std.specs.Prelude.{filter, slice_index}
 use Rattle.std.specs.List.{flat_map, range_with_len}
 use Rattle.std.specs.Str.{bytes_eq}
@@ -11,10 +11,10 @@ use Rattle.std.proofs.lemmas.Slice.Eq.{bytes_eq-Decides}
 use Rattle.edi_tables.specs.declared.tag.Tag.{Tag}
 use Rattle.edi_tables.specs.declared.table.Node.{Node}
 use Rattle.edi_tables.specs.Walk.{tag_at}
-use Rattle.edi_tables.specs.Collisions.{are_same_tag, have_same_tag}
+use Rattle.edi_tables.specs.Collisions.{are_same_tag}
 use Rattle.collision_check.specs.declared.shared.Met.{Met}
 use Rattle.collision_check.specs.declared.shared.Met.TheVariants.{Once, Twice}
-use Rattle.collision_check.specs.Shared.{pair_with, pair_at, pairs_of, met_next, met_once, Meets}
+use Rattle.collision_check.specs.Shared.{pair_with, pair_at, met_next, met_once, Meets}
 
 -- a tag with these octets
 abbrev pub has_octets : List ℕ → Option Tag → Bool

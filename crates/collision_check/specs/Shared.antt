@@ -2,7 +2,7 @@
 use Rattle.std.specs.Prelude.{◌-◌, ℕ, Bool, true, false, nat_lt, ◌==◌, ◌≡◌, nat_le, if◌then◌else◌, List, [], ◌∷◌, ◌++◌, Option, Some, None, map, cond, length, take, filter, slice_index}
 use Rattle.std.specs.List.{flat_map, range_with_len}
 use Rattle.edi_tables.specs.declared.table.Node.{Node}
-use Rattle.edi_tables.specs.Walk.{tag_at, max_at, is_trigger_at, is_repeat, entry_for, later_siblings}
+use Rattle.edi_tables.specs.Walk.{max_at, is_trigger_at, is_repeat, entry_for, later_siblings}
 use Rattle.edi_tables.specs.Collisions.{have_same_tag}
 use Rattle.std.specs.Str.{bytes_eq}
 use Rattle.edi_tables.specs.declared.tag.Tag.{Tag}

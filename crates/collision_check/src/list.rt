@@ -1,9 +1,11 @@
 //! The collisions of a segment table.
-ghost use Rattle.std.specs.Prelude.{◌≡◌, ◌<◌, ◌≤◌, ◌∷◌, [], ◌++◌, map, length, IfOk};
+ghost use Rattle.std.specs.Prelude.{◌≡◌, ℕ, List, ◌<◌, ◌≤◌, ◌∷◌, [], ◌++◌, map, length, IfOk};
 ghost use Rattle.std.specs.List.{filter_map};
 ghost use Rattle.edi_tables.specs.Rows.{IsTable};
 ghost use Rattle.edi_tables.specs.Walk.{tag_at};
 ghost use Rattle.edi_tables.specs.Collisions.{collisions_of};
+ghost use Rattle.edi_tables.specs.Placement.{IsPlacement};
+ghost use Rattle.edi_tables.specs.declared.tag.Tag.{Tag};
 ghost use Rattle.collision_check.specs.Listed.{collision_seen, collisions_at, with_followers};
 
 use crate::{follow, front, levels, shared};
@@ -23,6 +25,12 @@ pub struct Collision {
 /// The collisions of a table, by the entry that stands before the shared tag, in table order.
 pub fn list_collisions(alloc: Global, table: &Table) -> Result<Vec<Collision>, AllocError>
     ensures listed { IfOk result (λ collisions. map collision_seen collisions.items ≡ collisions_of table.now) }
+    ensures only { IfOk result
+        (λ collisions. collisions.items ≡ []
+        → (tags : List Tag)
+        (p q : List ℕ) → IsPlacement table.now tags p
+        → IsPlacement table.now tags q
+        → p ≡ q) }
 {
     let nodes = table.nodes();
     let mut collisions = Vec::new(alloc);

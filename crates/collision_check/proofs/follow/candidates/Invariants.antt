@@ -1,4 +1,4 @@
-use Rattle.std.proofs.Common.{◌≡◌, ℕ, ◌+◌, ◌-◌, ◌<◌, ◌≤◌, ◌++◌, ◌∷◌, map, length, take}
+use Rattle.std.proofs.Common.{◌≡◌, ◌<◌, ◌++◌, length}
 use Rattle.edi_tables.specs.Walk.{candidates_of}
 use Rattle.collision_check.proofs.Outward.{beyond}
 use Rattle.collision_check.proofs.follow.candidates.Given as goal

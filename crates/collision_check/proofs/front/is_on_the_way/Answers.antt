@@ -1,7 +1,7 @@
-use Rattle.std.proofs.Common.{ℕ, sym, ap, ◌∙◌, arith}
-use Rattle.std.specs.Prelude.{◌||◌, ◌&&◌, nat_eq}
-use Rattle.std.specs.List.{list_all, list_any}
-use Rattle.edi_tables.specs.Walk.{is_must_at, groups_round}
+use Rattle.std.proofs.Common.{sym, ◌∙◌, arith}
+use Rattle.std.specs.Prelude.{◌||◌, nat_eq}
+use Rattle.std.specs.List.{list_any}
+use Rattle.edi_tables.specs.Walk.{is_must_at}
 use Rattle.collision_check.proofs.Outward.{parent_within, all_round_none, test_passes, test_fails}
 use Rattle.collision_check.proofs.front.is_on_the_way.Goals as goal
 

@@ -1,4 +1,4 @@
-use Rattle.std.proofs.Common.{◌≡◌, ℕ, ◌+◌, ◌-◌, ◌<◌, ◌≤◌, ◌++◌, ◌∷◌, map, length, take}
+use Rattle.std.proofs.Common.{◌≡◌, ◌<◌, length}
 use Rattle.std.specs.List.{find}
 use Rattle.edi_tables.specs.Walk.{is_must_at, later_nodes}
 use Rattle.collision_check.proofs.levels.first_must_behind.Given as goal

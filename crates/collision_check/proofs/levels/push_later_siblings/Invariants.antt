@@ -1,4 +1,4 @@
-use Rattle.std.proofs.Common.{◌≡◌, ℕ, ◌+◌, ◌-◌, ◌<◌, ◌≤◌, ◌++◌, ◌∷◌, map, length, take}
+use Rattle.std.proofs.Common.{◌≡◌, ◌-◌, ◌<◌, ◌++◌, map, length}
 use Rattle.edi_tables.specs.Walk.{level_end, entry_for, later_siblings}
 use Rattle.collision_check.proofs.levels.push_later_siblings.Given as goal
 

@@ -48,7 +48,7 @@ impl Model for Directory {
 
 impl Directory {
     /// The directory of parts that have no fault and stand in order.
-    pub fn of(alloc: Global, parts: Parts) -> Result<Directory, CompileStop>
+    pub(crate) fn of(alloc: Global, parts: Parts) -> Result<Directory, CompileStop>
         requires lawful { IsDirectory parts }
         requires few { length parts.messages < 4000000000 }
         requires named { All (λ m. length m.name ≡ 6) parts.messages }

@@ -1,12 +1,11 @@
 -- Fields, and what their forms exclude.
-use Rattle.std.proofs.Common.{◌≡◌, ◌+◌, ◌-◌, ◌<◌, ℕ, Bool, true, false, ◌&&◌, ◌==◌, Some, None, List, [], ◌∷◌, ◌++◌, length, drop, slice_index, refl, ap, ◌∙◌, sym, arith, cond, nat_le, ne_eqb}
-use Rattle.std.specs.List.{slice_get}
+use Rattle.std.proofs.Common.{◌≡◌, ℕ, Bool, true, false, ◌==◌, Some, None, List, [], ◌∷◌, ◌++◌, length, refl, arith, cond, nat_le, ne_eqb}
 use Rattle.std.specs.Str.{all_ascii_digits}
-use Rattle.std.proofs.lemmas.List.{reverse-append, length-append}
+use Rattle.std.proofs.lemmas.List.{reverse-append}
 use Rattle.std.proofs.lemmas.Bool.{and_parts, and_right}
 use Rattle.edi_octets.specs.Profile.{is_element_code, is_composite_code, first_field}
 use Rattle.edi_octets.proofs.DecimalLemmas.{digit_between}
-use Rattle.dir_segments.specs.Parts.{field_from_end, last_of, is_element_form, is_composite_form}
+use Rattle.dir_segments.specs.Parts.{field_from_end, is_element_form, is_composite_form}
 
 -- the last field, and the one before it, where one more comes
 pub field_from_end-push : (fields : List (List ℕ)) (x : List ℕ) → field_from_end 1 (fields ++ x ∷ []) ≡ x

@@ -1,10 +1,9 @@
 -- Lists that are gone through: a front in which nothing is broken, and what is left.
-use Rattle.std.proofs.Common.{◌≡◌, ◌+◌, ◌-◌, ◌<◌, ◌≤◌, ℕ, Bool, true, false, List, [], ◌∷◌, ◌++◌, length, map, filter, Some, None, Ok, Err, refl, ap, ◌∙◌, sym, append_assoc, append-nil, arith, cond}
-use Rattle.std.specs.Prelude.{Option, Result}
-use Rattle.std.specs.List.{flat_map, filter_map, slice_get, cons_option}
-use Rattle.std.proofs.lemmas.List.{map_push, length-append, length-map}
-use Rattle.std.proofs.lemmas.List.Concat.{flat_map-append}
-use Rattle.std.proofs.lemmas.List.Elements.{filter-append, filter_map-append}
+use Rattle.std.proofs.Common.{◌≡◌, ◌-◌, ℕ, Bool, List, [], ◌∷◌, ◌++◌, length, map, Some, None, Err, refl, ap, ◌∙◌, sym, append_assoc, append-nil, arith}
+use Rattle.std.specs.Prelude.{Option}
+use Rattle.std.specs.List.{flat_map, filter_map, slice_get}
+use Rattle.std.proofs.lemmas.List.{map_push, length-append}
+use Rattle.std.proofs.lemmas.List.Elements.{filter_map-append}
 use Rattle.edi_octets.specs.declared.fault.DirFault.{DirFault}
 use Rattle.edi_octets.specs.declared.fault.DirStop.{DirStop}
 use Rattle.edi_octets.specs.DirStop.{Gives, unless_faulty}

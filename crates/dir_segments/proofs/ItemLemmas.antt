@@ -1,7 +1,7 @@
 -- Items of an entry's lines, and their detail lines.
-use Rattle.std.proofs.Common.{◌≡◌, ◌+◌, ◌-◌, ℕ, Bool, true, false, not, List, [], ◌∷◌, ◌++◌, length, filter, Some, None, Ok, Err, refl, ap, ◌∙◌, sym, append_assoc, append-nil, ⊎_elim}
+use Rattle.std.proofs.Common.{◌≡◌, ℕ, Bool, true, false, not, List, [], ◌∷◌, ◌++◌, filter, Some, None, Err, refl, ap, ◌∙◌, sym, append-nil, ⊎_elim}
 use Rattle.std.specs.Prelude.{Option}
-use Rattle.std.specs.List.{flat_map, filter_map, cons_option}
+use Rattle.std.specs.List.{flat_map, filter_map}
 use Rattle.std.proofs.lemmas.List.Concat.{flat_map-append}
 use Rattle.std.proofs.lemmas.List.Elements.{filter-append, filter_map-append}
 use Rattle.std.proofs.lemmas.List.Sums.{take_while-cons}
@@ -10,14 +10,13 @@ use Rattle.edi_tables.specs.declared.element.Code.{Code}
 use Rattle.edi_tables.specs.declared.element.PartDef.{PartDef}
 use Rattle.edi_tables.specs.declared.segment.ItemDef.{ItemDef}
 use Rattle.edi_tables.specs.declared.segment.ItemDef.TheVariants.{Alone, Composite}
-use Rattle.edi_octets.specs.declared.fault.DirFault.{DirFault}
 use Rattle.edi_octets.specs.declared.fault.DirStop.{DirStop}
 use Rattle.edi_octets.specs.DirStop.{Gives, unless_faulty}
 use Rattle.edi_octets.specs.Lines.{Line}
 use Rattle.edi_octets.specs.Profile.{fields_of, first_field}
 use Rattle.dir_segments.specs.Parts.{is_item_line, part_in, has_position, fields_behind, is_element_form, is_composite_form, composite_status, element_fault, composite_fault, fault_list}
 use Rattle.dir_segments.specs.Composites.{part_lines}
-use Rattle.dir_segments.specs.Segments.{Item, item_at, items_of, details_of, is_part_line, detail_faults, repeated_parts, line_faults, alone_item, composite_item, item_in}
+use Rattle.dir_segments.specs.Segments.{item_at, items_of, details_of, is_part_line, detail_faults, repeated_parts, line_faults, alone_item, composite_item, item_in}
 use Rattle.dir_segments.proofs.StopLemmas.{stops}
 use Rattle.dir_segments.proofs.FrontLemmas.{goes_on, goes_at, goes_all}
 

@@ -1,5 +1,5 @@
 -- The first of a list that passes, where the list grows at its end.
-use Rattle.std.proofs.Common.{◌≡◌, ◌≢◌, ◌+◌, ◌-◌, ◌<◌, ◌≤◌, ℕ, Bool, true, false, List, [], ◌∷◌, ◌++◌, length, Some, None, eqb, ltb, refl, sym, ap, ◌∙◌, cond, ⊎_elim, arith, lt-ltb, le-ltb, eq-eqb, ne_eqb, Bor}
+use Rattle.std.proofs.Common.{◌≡◌, ◌≢◌, ◌+◌, ◌<◌, ◌≤◌, ℕ, Bool, true, false, List, [], ◌∷◌, ◌++◌, length, Some, None, ltb, refl, sym, ap, ◌∙◌, cond, ⊎_elim, arith, lt-ltb, le-ltb, eq-eqb, ne_eqb, Bor}
 use Rattle.std.specs.Prelude.{Option}
 use Rattle.std.specs.List.{position, position_or_len, find, slice_get}
 use Rattle.std.specs.Option.{option_or, option_copied}

@@ -1,13 +1,12 @@
 -- What a composite file is.
-use Rattle.std.specs.Prelude.{ℕ, Bool, not, ◌&&◌, ◌||◌, ◌==◌, nat_lt, List, [], ◌∷◌, ◌++◌, length, filter, map, Option, Some, Result, if◌then◌else◌}
+use Rattle.std.specs.Prelude.{ℕ, List, [], ◌∷◌, ◌++◌, length, filter, map, Result}
 use Rattle.std.specs.List.{filter_map, flat_map}
 use Rattle.edi_tables.specs.declared.element.PartDef.{PartDef}
 use Rattle.edi_tables.specs.declared.element.CompositeDef.{CompositeDef}
 use Rattle.edi_octets.specs.declared.fault.DirFault.{DirFault}
-use Rattle.edi_octets.specs.declared.fault.DirKind.TheVariants.{BadLine}
 use Rattle.edi_octets.specs.Lines.{Line, lines_of}
 use Rattle.edi_octets.specs.Profile.{entries_of, is_composite_code, with_earlier}
-use Rattle.edi_octets.specs.DirStop.{at_line, unless_faulty}
+use Rattle.edi_octets.specs.DirStop.{unless_faulty}
 use Rattle.edi_octets.specs.Head.{head_faults, code_of}
 use Rattle.dir_segments.specs.Parts.{is_item_line, fields_behind, position_of, last_of, part_in, part_faults, count_faults}
 
@@ -15,7 +14,7 @@ use Rattle.dir_segments.specs.Parts.{is_item_line, fields_behind, position_of, l
 abbrev pub part_lines : List Line → List Line
 part_lines body = filter is_item_line body
 
--- the part lines of an entry's lines, in order
+-- what the part lines of an entry break, in order
 abbrev pub parts_faults : List Line → List DirFault
 parts_faults body =
     flat_map (λ p. part_faults (last_of (map position_of p.0)) p.1) (with_earlier (part_lines body))

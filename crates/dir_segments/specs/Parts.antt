@@ -1,5 +1,5 @@
 -- The lines of parts and items, in composite and segment files.
-use Rattle.std.specs.Prelude.{◌≡◌, ◌-◌, ℕ, Bool, true, false, not, ◌==◌, ◌&&◌, ◌||◌, nat_le, nat_lt, List, [], ◌∷◌, length, drop, reverse, filter, slice_get, Option, Some, None, is_some, Result, if◌then◌else◌}
+use Rattle.std.specs.Prelude.{◌≡◌, ◌-◌, ℕ, Bool, true, not, ◌==◌, ◌&&◌, ◌||◌, nat_le, nat_lt, List, [], ◌∷◌, length, drop, reverse, slice_get, Option, Some, None, is_some, Result, if◌then◌else◌}
 use Rattle.std.specs.Str.Parse.{digits_value}
 use Rattle.edi_tables.specs.declared.element.Code.{Code}
 use Rattle.edi_tables.specs.declared.element.Repr.{Repr}
@@ -50,6 +50,7 @@ is_element_form fields = is_element_code (first_field fields) && nat_le 4 (lengt
 abbrev pub is_composite_form : List (List ℕ) → Bool
 is_composite_form fields = is_composite_code (first_field fields) && nat_le 3 (length fields)
 
+-- the status of a data element stands before its representation, and that of a composite last
 abbrev pub element_status : List (List ℕ) → Option Bool
 element_status fields = status_in (field_from_end 2 fields)
 

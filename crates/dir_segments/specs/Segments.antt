@@ -1,13 +1,11 @@
 -- What a segment file is, read with known composites.
-use Rattle.std.specs.Prelude.{ℕ, Bool, true, false, not, ◌&&◌, ◌==◌, List, [], ◌∷◌, ◌++◌, length, map, filter, find, take_while, Option, Some, None, is_some, Result, unwrap_or, if◌then◌else◌}
+use Rattle.std.specs.Prelude.{ℕ, Bool, true, false, not, ◌&&◌, ◌==◌, List, [], ◌∷◌, ◌++◌, length, map, filter, find, take_while, Option, Some, None, is_some, Result, if◌then◌else◌}
 use Rattle.std.specs.Cmp.Lexicographic.{pointwise}
 use Rattle.std.specs.List.{filter_map, flat_map, position}
 use Rattle.std.specs.Str.{bytes_eq}
 use Rattle.edi_tables.specs.Tag.{is_tag_of}
 use Rattle.edi_tables.specs.declared.element.Class.{Class}
 use Rattle.edi_tables.specs.declared.element.Class.TheVariants.{A, N, An}
-use Rattle.edi_tables.specs.declared.element.Code.{Code}
-use Rattle.edi_tables.specs.declared.element.Repr.{Repr}
 use Rattle.edi_tables.specs.declared.element.PartDef.{PartDef}
 use Rattle.edi_tables.specs.declared.element.CompositeDef.{CompositeDef}
 use Rattle.edi_tables.specs.declared.segment.ItemDef.{ItemDef}
@@ -62,6 +60,7 @@ detail_faults below_composite line =
 abbrev pub repeated_parts : List Line → List PartDef
 repeated_parts details = filter_map (λ line. part_in (fields_of line.octets)) (filter is_part_line details)
 
+-- two classes are one
 abbrev pub is_same_class : Class → Class → Bool
 is_same_class A A = true
 is_same_class N N = true
@@ -73,6 +72,7 @@ is_same_class N An = false
 is_same_class An A = false
 is_same_class An N = false
 
+-- two truth values are one
 abbrev pub is_same_bool : Bool → Bool → Bool
 is_same_bool true b = b
 is_same_bool false b = not b
@@ -90,11 +90,12 @@ known_composite known code = find (λ c. bytes_eq c.code.octets code) known
 abbrev pub known_place : List CompositeDef → List ℕ → Option ℕ
 known_place known code = position (λ c. bytes_eq c.code.octets code) known
 
--- part lines below a known composite are exactly its parts, in order; this is judged where the item ends
+-- part lines below a known composite are exactly its parts, in order; where there are none, nothing differs
 abbrev pub differs : List PartDef → Option CompositeDef → Bool
 differs parts None = false
 differs parts (Some composite) = is_filled parts && not (pointwise is_same_part parts composite.parts)
 
+-- an item's end: the parts that its part lines repeat are those of its composite, if it is one that is known
 abbrev pub item_end_faults : List CompositeDef → Line → List PartDef → List DirFault
 item_end_faults known line parts =
     let fields = fields_behind line in
@@ -109,7 +110,7 @@ item_faults known before item =
 abbrev pub place_of : Item → ℕ
 place_of item = position_of item.line
 
--- the items of an entry's lines, in order
+-- what the items of an entry break, in order
 abbrev pub items_faults : List CompositeDef → List Line → List DirFault
 items_faults known body =
     flat_map (λ p. item_faults known (last_of (map place_of p.0)) p.1) (with_earlier (items_of body))
@@ -120,15 +121,17 @@ segment_faults known earlier [] = []
 segment_faults known earlier (head ∷ body) =
     head_faults is_tag_of earlier head ++ (items_faults known body ++ count_faults head (length (items_of body)))
 
--- the definition of an item
+-- the item that a composite's fields define, if its status is good
 abbrev pub composite_item : List (List ℕ) → Option Bool → Option ItemDef
 composite_item fields None = None
 composite_item fields (Some must) = Some (Composite (record { octets = first_field fields }) must)
 
+-- the item that a data element's part is
 abbrev pub alone_item : Option PartDef → Option ItemDef
 alone_item None = None
 alone_item (Some part) = Some (Alone part)
 
+-- the item that the fields behind a position define
 abbrev pub item_in : List (List ℕ) → Option ItemDef
 item_in fields =
     if is_composite_form fields then composite_item fields (composite_status fields) else alone_item (part_in fields)

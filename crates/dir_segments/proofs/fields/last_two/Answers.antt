@@ -1,4 +1,4 @@
-use Rattle.std.proofs.Common.{◌≡◌, ℕ, List, [], ◌∷◌, ◌++◌, refl, sym, ap, ◌∙◌, rules}
+use Rattle.std.proofs.Common.{◌≡◌, [], ◌∷◌, ◌++◌, refl, sym, ap, ◌∙◌, rules}
 use Rattle.edi_octets.specs.Left.{cells_left}
 use Rattle.dir_segments.specs.Parts.{field_from_end}
 use Rattle.dir_segments.proofs.FieldLemmas.{field_from_end-push, field_from_end-push_before}

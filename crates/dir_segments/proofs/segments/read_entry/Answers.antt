@@ -1,4 +1,4 @@
-use Rattle.std.proofs.Common.{◌≡◌, ℕ, Some, List, [], ◌∷◌, ◌++◌, length, refl}
+use Rattle.std.proofs.Common.{[], ◌++◌, length, refl}
 use Rattle.std.proofs.lemmas.Result.{err_from_is_err_and}
 use Rattle.edi_tables.specs.declared.tag.Tag.{Tag}
 use Rattle.edi_tables.specs.declared.segment.SegmentDef.{SegmentDef}
@@ -7,7 +7,7 @@ use Rattle.edi_octets.specs.Head.{head_faults}
 use Rattle.edi_octets.specs.Left.{line_shown, body_left, entry_shown}
 use Rattle.edi_octets.specs.Profile.{fields_of, first_field}
 use Rattle.dir_segments.specs.Parts.{count_faults}
-use Rattle.dir_segments.specs.Segments.{items_of, items_faults, segment_faults, segment_of}
+use Rattle.dir_segments.specs.Segments.{items_of, items_faults, segment_of}
 use Rattle.dir_segments.proofs.StopLemmas.{stops}
 use Rattle.dir_segments.proofs.segments.read_entry.Goals as goal
 

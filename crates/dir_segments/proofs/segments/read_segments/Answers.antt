@@ -1,4 +1,4 @@
-use Rattle.std.proofs.Common.{◌≡◌, List, ◌∷◌, map, Vec, Global, Ok, Err, subst, sym, ap, ◌∙◌, refl}
+use Rattle.std.proofs.Common.{List, map, Vec, Global, Ok, Err, subst, refl}
 use Rattle.std.specs.HashSet.{contains}
 use Rattle.std.specs.Str.{bytes_eq}
 use Rattle.std.proofs.lemmas.Result.{err_from_is_err_and}

@@ -57,9 +57,6 @@ count_in-read digits all few =
     let nineteen : nat_le (length digits) 19 ≡ true = le-leb (length digits) 19 (omega arith) in
     rw (six, nineteen, all, and_idle (nat_le 1 (length digits))) refl
 
-pub count_in-long : (digits : List ℕ) → 6 < length digits → count_in digits ≡ None
-count_in-long digits long = rw (lt-leb (length digits) 6 long, and_right (nat_le 1 (length digits)) false refl) refl
-
 some_where : (test : Bool) (v n : ℕ) → Some n ≡ cond test (Some v) None → n ≡ v
 some_where true v n is = cc
 some_where false v n is = cc

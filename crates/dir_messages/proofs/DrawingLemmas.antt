@@ -1,8 +1,8 @@
 -- What a table line draws behind others.
-use Rattle.std.proofs.Common.{◌≡◌, ℕ, ◌+◌, ◌-◌, ◌<◌, ◌≤◌, Bool, true, false, not, ◌==◌, ◌&&◌, nat_lt, if◌then◌else◌, min, Option, Some, None, is_some, List, [], ◌∷◌, ◌++◌, map, reverse, filter, sum_by, Bor, count_by, refl, sym, ap, ◌∙◌, ⊎_elim, subst, arith, add-zero, lt-ltb}
+use Rattle.std.proofs.Common.{◌≡◌, ℕ, ◌+◌, ◌-◌, ◌<◌, ◌≤◌, Bool, true, false, not, ◌==◌, ◌&&◌, nat_lt, if◌then◌else◌, min, Option, Some, None, is_some, List, [], ◌∷◌, ◌++◌, map, filter, sum_by, Bor, refl, sym, ap, ◌∙◌, ⊎_elim, subst, arith, add-zero, lt-ltb}
 use Rattle.std.specs.Option.{option_copied}
 use Rattle.std.proofs.lemmas.Bool.{cases_Bool, cases_lt}
-use Rattle.std.proofs.lemmas.List.{append-nil, reverse-append, map-append, map_push}
+use Rattle.std.proofs.lemmas.List.{append-nil, reverse-append, map_push}
 use Rattle.std.proofs.lemmas.List.Elements.{filter-append}
 use Rattle.std.proofs.lemmas.List.Sums.{sum_by_push}
 use Rattle.edi_tables.specs.declared.tag.Tag.{Tag}
@@ -16,7 +16,7 @@ use Rattle.edi_octets.proofs.EarlierLemmas.{with_earlier-push}
 use Rattle.edi_octets.specs.DirStop.{at_line}
 use Rattle.dir_messages.specs.declared.drawing.Drawing.{Drawing}
 use Rattle.dir_messages.specs.declared.drawing.DrawnRow.{DrawnRow}
-use Rattle.dir_messages.specs.Message.{name_on, has_rest, is_in_order, drawing_faults, is_group_line, is_table_line, is_type_line, table_line_faults, line_faults, groups_among, open_after, ends_drawn, position_of, last_position, middle_of, status_of, max_of, number_drawn, tag_drawn, row_of, rows_of}
+use Rattle.dir_messages.specs.Message.{name_on, has_rest, is_in_order, drawing_faults, is_group_line, is_table_line, is_type_line, line_faults, groups_among, open_after, ends_drawn, position_of, last_position, middle_of, status_of, max_of, number_drawn, tag_drawn, row_of, rows_of}
 use Rattle.dir_messages.specs.Form.{form_faults, row_tag, is_greater}
 use Rattle.dir_messages.specs.Drawing.{ends_among, IsDrawn, kinds_broken, BeginsWith, DrawsRow, Puts}
 

@@ -1,23 +1,14 @@
 -- What is judged behind the last line.
-use Rattle.std.proofs.Common.{◌≡◌, ℕ, ◌+◌, ◌-◌, ◌<◌, ◌≤◌, Bool, true, false, nat_lt, Option, Some, None, MatchOption, Result, Ok, Err, unwrap_or, List, [], ◌∷◌, ◌++◌, length, map, reverse, slice_get, ◌⊎◌, inl, inr, refl, sym, ap, ◌∙◌, ⊎_elim, arith, lt-ltb, add-zero}
-use Rattle.std.specs.Option.{option_map}
+use Rattle.std.proofs.Common.{◌≡◌, ℕ, ◌-◌, ◌<◌, true, nat_lt, Option, Some, MatchOption, List, [], ◌∷◌, ◌++◌, length, map, slice_get, ◌⊎◌, inl, inr, refl, ap, ◌∙◌, ⊎_elim, arith, lt-ltb}
 use Rattle.std.proofs.lemmas.List.{reverse-append, map_push, length_push}
-use Rattle.std.proofs.lemmas.Option.{slice_get-map, slice_get-get_or}
-use Rattle.edi_tables.specs.declared.segment.TableRow.{TableRow}
-use Rattle.edi_tables.specs.declared.segment.MessageDef.{MessageDef}
-use Rattle.edi_tables.specs.declared.table.Node.{Node}
-use Rattle.edi_tables.specs.declared.table.TableKind.{TableKind}
-use Rattle.edi_tables.specs.Rows.{when, table_faults, first_or, table_of, nodes_of}
-use Rattle.edi_octets.specs.declared.fault.DirKind.{DirKind}
+use Rattle.edi_tables.specs.Rows.{when}
 use Rattle.edi_octets.specs.declared.fault.DirKind.TheVariants.{NotClosed}
 use Rattle.edi_octets.specs.declared.fault.DirFault.{DirFault}
-use Rattle.edi_octets.specs.declared.fault.DirStop.{DirStop}
-use Rattle.edi_octets.specs.declared.fault.DirStop.TheVariants.{Fault, Memory}
 use Rattle.edi_octets.specs.Lines.{Line}
-use Rattle.edi_octets.specs.DirStop.{Gives, at_line, unless_faulty}
+use Rattle.edi_octets.specs.DirStop.{at_line}
 use Rattle.dir_messages.specs.declared.drawing.Drawing.{Drawing}
-use Rattle.dir_messages.specs.Message.{open_faults, open_after, rows_of, row_fault, kind_of}
-use Rattle.dir_messages.specs.Drawing.{IsDrawn, BeginsWith, FirstOf, rows_faults}
+use Rattle.dir_messages.specs.Message.{open_faults, open_after}
+use Rattle.dir_messages.specs.Drawing.{IsDrawn}
 
 -- a list is empty or has a last member
 last_of : {A : Type 0} (xs : List A) → (xs ≡ []) ⊎ ((front : List A) × (last : A) × (xs ≡ front ++ (last ∷ [])))

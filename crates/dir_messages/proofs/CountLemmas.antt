@@ -1,8 +1,8 @@
 -- Digits, greatest counts and group numbers.
-use Rattle.std.proofs.Common.{◌≡◌, ◌≢◌, ℕ, zero, suc, ◌+◌, ◌-◌, ◌*◌, ◌^◌, ◌<◌, ◌≤◌, Bool, true, false, not, ◌==◌, ◌&&◌, ◌||◌, nat_le, cond, if◌then◌else◌, Option, Some, None, List, [], ◌∷◌, length, slice_index, take, drop, count_by, refl, sym, ap, ◌∙◌, subst, ⊎_elim, arith, one-add, length-take-le, le-leb, leb-true, ne_eqb, eq-eqb, pow-suc}
+use Rattle.std.proofs.Common.{◌≡◌, ◌≢◌, ℕ, ◌+◌, ◌-◌, ◌*◌, ◌^◌, ◌<◌, ◌≤◌, Bool, true, false, not, ◌==◌, ◌&&◌, ◌||◌, nat_le, cond, if◌then◌else◌, Option, Some, None, List, [], ◌∷◌, length, slice_index, take, drop, count_by, refl, sym, ap, ◌∙◌, subst, ⊎_elim, arith, one-add, length-take-le, le-leb, ne_eqb, eq-eqb, pow-suc}
 use Rattle.std.proofs.Math.Nat.{pow-le-pow_right, mul-le-mul_left}
 use Rattle.std.proofs.lemmas.Str.{digit_value_digit}
-use Rattle.std.specs.Char.{is_ascii_digit, digit_value}
+use Rattle.std.specs.Char.{digit_value}
 use Rattle.std.specs.Int.{IsInRange}
 use Rattle.std.specs.List.{prefix_len, list_all}
 use Rattle.std.specs.Option.{option_map}
@@ -13,8 +13,7 @@ use Rattle.std.proofs.lemmas.List.Sums.{prefix_len-le-length}
 use Rattle.edi_tables.specs.Tag.{is_digit}
 use Rattle.edi_octets.specs.Decimal.{decimal_in}
 use Rattle.edi_octets.specs.Lines.{is_filled}
-use Rattle.edi_octets.proofs.DecimalLemmas.{list_all-digits, digit_between, digits_value-room, decimal_in-value}
-use Rattle.dir_messages.specs.declared.table_line.Counts.{Counts}
+use Rattle.edi_octets.proofs.DecimalLemmas.{digit_between, digits_value-room, decimal_in-value}
 use Rattle.dir_messages.specs.Message.{is_tail_octet, is_plain_number}
 use Rattle.dir_messages.specs.Parts.{behind_spaces, count_in, counts_in, IsNumber}
 
@@ -56,9 +55,6 @@ count_in-read digits all few =
     let six = le-leb (length digits) 6 few in
     let nineteen : nat_le (length digits) 19 ≡ true = le-leb (length digits) 19 (omega arith) in
     rw (six, nineteen, all, and_idle (nat_le 1 (length digits))) refl
-
-pub count_in-long : (digits : List ℕ) → 6 < length digits → count_in digits ≡ None
-count_in-long digits long = rw (lt-leb (length digits) 6 long, and_right (nat_le 1 (length digits)) false refl) refl
 
 some_where : (test : Bool) (v n : ℕ) → Some n ≡ cond test (Some v) None → n ≡ v
 some_where true v n is = cc

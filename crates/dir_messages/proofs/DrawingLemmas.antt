@@ -1,8 +1,8 @@
 -- What a table line draws behind others.
-use Rattle.std.proofs.Common.{◌≡◌, ℕ, ◌+◌, ◌-◌, ◌<◌, ◌≤◌, Bool, true, false, not, ◌==◌, ◌&&◌, nat_lt, if◌then◌else◌, min, Option, Some, None, is_some, List, [], ◌∷◌, ◌++◌, map, reverse, filter, sum_by, Bor, count_by, refl, sym, ap, ◌∙◌, ⊎_elim, subst, arith, add-zero, lt-ltb}
+use Rattle.std.proofs.Common.{◌≡◌, ℕ, ◌+◌, ◌-◌, ◌<◌, ◌≤◌, Bool, true, false, not, ◌==◌, ◌&&◌, nat_lt, if◌then◌else◌, min, Option, Some, None, is_some, List, [], ◌∷◌, ◌++◌, map, filter, sum_by, Bor, refl, sym, ap, ◌∙◌, ⊎_elim, subst, arith, add-zero, lt-ltb}
 use Rattle.std.specs.Option.{option_copied}
 use Rattle.std.proofs.lemmas.Bool.{cases_Bool, cases_lt}
-use Rattle.std.proofs.lemmas.List.{append-nil, reverse-append, map-append, map_push}
+use Rattle.std.proofs.lemmas.List.{append-nil, reverse-append, map_push}
 use Rattle.std.proofs.lemmas.List.Elements.{filter-append}
 use Rattle.std.proofs.lemmas.List.Sums.{sum_by_push}
 use Rattle.edi_tables.specs.declared.tag.Tag.{Tag}
@@ -16,7 +16,7 @@ use Rattle.edi_octets.proofs.EarlierLemmas.{with_earlier-push}
 use Rattle.edi_octets.specs.DirStop.{at_line}
 use Rattle.dir_messages.specs.declared.drawing.Drawing.{Drawing}
 use Rattle.dir_messages.specs.declared.drawing.DrawnRow.{DrawnRow}
-use Rattle.dir_messages.specs.Message.{name_on, has_rest, is_in_order, drawing_faults, is_group_line, is_table_line, is_type_line, table_line_faults, line_faults, groups_among, open_after, ends_drawn, position_of, last_position, middle_of, status_of, max_of, number_drawn, tag_drawn, row_of, rows_of}
+use Rattle.dir_messages.specs.Message.{name_on, has_rest, is_in_order, drawing_faults, is_group_line, is_table_line, is_type_line, line_faults, groups_among, open_after, ends_drawn, position_of, last_position, middle_of, status_of, max_of, number_drawn, tag_drawn, row_of, rows_of}
 use Rattle.dir_messages.specs.Form.{form_faults, row_tag, is_greater}
 use Rattle.dir_messages.specs.Drawing.{ends_among, IsDrawn, kinds_broken, BeginsWith, DrawsRow, Puts}
 
@@ -199,27 +199,12 @@ module _ (lines : List Line) (line : Line) (old new : Drawing) (position : ℕ) 
 
 -- what a line behind the type line breaks
 module _ (earlier : List Line) (line : Line) where
-  faults-type : is_type_line line ≡ true → line_faults earlier line ≡ at_line BadLine line ∷ []
-  faults-type type = rw type refl
-
-  faults-text : is_type_line line ≡ false → is_table_line line ≡ false → line_faults earlier line ≡ []
-  faults-text type table = rw (type, table) refl
-
   faults-table : is_type_line line ≡ false → is_table_line line ≡ true → line_faults earlier line ≡ map (λ kind. at_line kind line) (kinds_broken (filter is_table_line earlier) line)
   faults-table type table = rw (type, table) refl
-
-  pub judges-type : is_type_line line ≡ true → BeginsWith (at_line BadLine line) (line_faults earlier line)
-  judges-type type = ([], faults-type type)
 
   pub judges-fault : (kind : DirKind) → is_type_line line ≡ false → is_table_line line ≡ true → BeginsWith kind (kinds_broken (filter is_table_line earlier) line) → BeginsWith (at_line kind line) (line_faults earlier line)
   judges-fault kind type table first =
       (map (λ kind. at_line kind line) first.0, faults-table type table ∙ ap (map (λ kind. at_line kind line)) first.1)
-
-  pub judges-text : (drawing : Drawing) → is_type_line line ≡ false → is_table_line line ≡ false → IsDrawn (filter is_table_line earlier) drawing → (line_faults earlier line ≡ []) × IsDrawn (filter is_table_line (earlier ++ (line ∷ []))) drawing
-  judges-text drawing type table drawn =
-      let same : filter is_table_line earlier ≡ filter is_table_line (earlier ++ (line ∷ [])) =
-      sym (filter-append is_table_line earlier (line ∷ []) ∙ rw table (append-nil (filter is_table_line earlier))) in
-      (faults-text type table, subst (λ lines. IsDrawn lines drawing) same drawn)
 
   pub judges-drawn : (old new : Drawing) (position : ℕ) (row : DrawnRow) → is_type_line line ≡ false → is_table_line line ≡ true → IsDrawn (filter is_table_line earlier) old → DrawsRow (filter is_table_line earlier) line row → Puts old line.number position row new → position_of line ≡ position → (line_faults earlier line ≡ []) × IsDrawn (filter is_table_line (earlier ++ (line ∷ []))) new
   judges-drawn old new position row type table drawn draws puts placed =

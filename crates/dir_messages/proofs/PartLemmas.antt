@@ -1,12 +1,12 @@
 -- The parts of a text, and its last part that passes a test.
-use Rattle.std.proofs.Common.{◌≡◌, ℕ, suc, ◌+◌, ◌-◌, ◌<◌, ◌≤◌, Bool, true, false, not, ◌==◌, Option, Some, None, MatchOption, List, [], ◌∷◌, ◌++◌, length, get_or, take, drop, reverse, filter, refl, sym, ap, ◌∙◌, ⊎_elim, arith, one-add, append_assoc, length-append, length-drop, get_or-drop, eqb-true}
-use Rattle.std.specs.List.{slice_split, onto_first, prefix_len, suffix_len, find, list_any, flat_map, join_with_byte, before_last, after_last}
+use Rattle.std.proofs.Common.{◌≡◌, ℕ, ◌+◌, ◌-◌, ◌<◌, Bool, true, false, not, Some, None, List, [], ◌∷◌, ◌++◌, length, get_or, take, drop, reverse, refl, sym, ap, ◌∙◌, ⊎_elim, arith, one-add, append_assoc, length-append, length-drop, get_or-drop, eqb-true}
+use Rattle.std.specs.List.{onto_first, prefix_len, suffix_len, find, list_any, flat_map, join_with_byte, before_last, after_last}
 use Rattle.std.proofs.lemmas.Bool.{cases_Bool, false_from_ne_true}
 use Rattle.std.proofs.lemmas.List.{append-nil, reverse-append, length-reverse, drop_more, take-append-drop, take_at, drop_at}
 use Rattle.std.proofs.lemmas.List.Elements.{All-from_get_or}
 use Rattle.std.proofs.lemmas.List.Folds.{list_any-append}
 use Rattle.std.proofs.lemmas.List.Splits.{slice_split_none}
-use Rattle.memchr.specs.Find.{IsLastByte, NoneAfter, Passes, is_byte}
+use Rattle.memchr.specs.Find.{NoneAfter, Passes, is_byte}
 use Rattle.dir_messages.specs.Parts.{is_space, parts_in, behind_spaces, CutsAtLastSpace}
 
 -- there is always a first part

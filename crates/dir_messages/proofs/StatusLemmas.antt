@@ -1,10 +1,10 @@
 -- The last status of a text, searched from the end.
-use Rattle.std.proofs.Common.{◌≡◌, ℕ, ◌+◌, ◌<◌, ◌≤◌, Bool, true, false, ◌==◌, Some, None, List, [], ◌∷◌, ◌++◌, length, drop, filter, refl, sym, ap, ◌∙◌, ⊎_elim, arith, append_assoc, length-append}
-use Rattle.std.specs.List.{list_any, position_or_len, join_with_byte}
+use Rattle.std.proofs.Common.{◌≡◌, ℕ, ◌≤◌, Bool, true, false, Some, None, List, [], ◌∷◌, ◌++◌, length, drop, refl, sym, ap, ◌∙◌, ⊎_elim, arith, append_assoc, length-append}
+use Rattle.std.specs.List.{list_any, position_or_len}
 use Rattle.std.proofs.lemmas.Bool.{cases_Bool}
 use Rattle.std.proofs.lemmas.List.{append-nil}
 use Rattle.std.proofs.lemmas.List.Prefix.{front_rest}
-use Rattle.edi_octets.specs.Lines.{is_filled, cells_of}
+use Rattle.edi_octets.specs.Lines.{cells_of}
 use Rattle.edi_octets.specs.Profile.{status_in}
 use Rattle.dir_messages.specs.Message.{is_status}
 use Rattle.dir_messages.specs.Parts.{is_space, parts_in, behind_spaces, CutsAtLastSpace, CutsAtStatus}

@@ -1,6 +1,6 @@
 -- What stands on a table line, found behind its position.
-use Rattle.std.proofs.Common.{◌≡◌, ◌≢◌, ℕ, zero, suc, ◌+◌, ◌-◌, ◌<◌, ◌≤◌, Bool, true, false, not, ◌==◌, ◌&&◌, nat_le, cond, if◌then◌else◌, Option, Some, None, List, [], ◌∷◌, ◌++◌, length, get_or, take, drop, replicate, reverse, filter, count_by, option_and_then, is_some, refl, sym, ap, ◌∙◌, ⊎_elim, arith, one-add, append_assoc, length-append, length-drop, length-take-le, take_all, eqb-true}
-use Rattle.std.specs.List.{slice_split, prefix_len, position_or_len, find, list_any, list_all, before_last, after_last, join_with_byte}
+use Rattle.std.proofs.Common.{◌≡◌, ℕ, zero, suc, ◌+◌, ◌<◌, ◌≤◌, Bool, true, false, not, ◌==◌, ◌&&◌, nat_le, if◌then◌else◌, Some, None, List, [], ◌∷◌, ◌++◌, length, get_or, take, drop, replicate, filter, count_by, is_some, refl, sym, ap, ◌∙◌, ⊎_elim, arith, one-add, append_assoc, length-drop, length-take-le, take_all, eqb-true}
+use Rattle.std.specs.List.{prefix_len, position_or_len, list_any, list_all}
 use Rattle.std.specs.Str.{all_ascii_digits}
 use Rattle.std.specs.Str.Parse.{digits_value}
 use Rattle.edi_tables.specs.Tag.{is_digit}
@@ -13,7 +13,7 @@ use Rattle.std.proofs.lemmas.List.Splits.{slice_split_first, slice_split_none}
 use Rattle.std.proofs.lemmas.List.Sums.{prefix_len-le-length, fails_before_first, passes_at_first}
 use Rattle.std.proofs.lemmas.Slice.{drop-append-drop}
 use Rattle.edi_octets.specs.Lines.{Line, is_filled, cells_of}
-use Rattle.edi_octets.specs.Profile.{is_mark, is_marked, marks_of, unmarked, fields_of, indentation_of, first_field, has_digits, status_in, after_position}
+use Rattle.edi_octets.specs.Profile.{is_marked, marks_of, unmarked, fields_of, indentation_of, first_field, has_digits, status_in, after_position}
 use Rattle.edi_octets.proofs.CellLemmas.{cells_of-skip, cells_of-first, cells_of-nil, no_octet, prefix_len-behind}
 use Rattle.dir_messages.specs.declared.table_line.Counts.{Counts}
 use Rattle.dir_messages.specs.Message.{is_table_line, is_status, status_of, rest_of, middle_of, max_of, ends_drawn, has_rest, parts_of, is_tail_octet}

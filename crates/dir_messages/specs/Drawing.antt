@@ -1,5 +1,5 @@
 -- What has been drawn behind some table lines, and what the next line does to it.
-use Rattle.std.specs.Prelude.{◌≡◌, ◌+◌, ◌-◌, ◌≤◌, ℕ, not, List, [], ◌∷◌, ◌++◌, map, filter, sum_by, Option, Some, Result, Ok, Err, is_some, IsSome, if◌then◌else◌}
+use Rattle.std.specs.Prelude.{◌≡◌, ◌+◌, ◌-◌, ℕ, not, List, [], ◌∷◌, ◌++◌, map, filter, sum_by, Some, Result, Ok, Err, is_some, if◌then◌else◌}
 use Rattle.edi_tables.specs.Rows.{when, table_faults}
 use Rattle.edi_octets.specs.declared.fault.DirKind.{DirKind}
 use Rattle.edi_octets.specs.declared.fault.DirKind.TheVariants.{BadLine, BadPosition}

@@ -1,6 +1,6 @@
 -- What a drawn message file is.
-use Rattle.std.specs.Prelude.{◌-◌, ◌+◌, ℕ, Bool, true, false, not, ◌==◌, ◌&&◌, ◌||◌, nat_le, nat_lt, min, List, [], ◌∷◌, ◌++◌, length, map, filter, find, take, drop, reverse, sum_by, count_by, slice_get, slice_index, Option, Some, None, is_some, unwrap_or, option_and_then, Result, Ok, Err, codes, if◌then◌else◌}
-use Rattle.std.specs.List.{slice_split, list_all, list_any, filter_map, flat_map, before_last, after_last, prefix_len, join_with_byte}
+use Rattle.std.specs.Prelude.{◌-◌, ◌+◌, ℕ, Bool, true, false, not, ◌==◌, ◌&&◌, ◌||◌, nat_le, nat_lt, min, List, [], ◌∷◌, ◌++◌, length, map, filter, find, take, drop, reverse, sum_by, count_by, slice_get, slice_index, Option, Some, None, is_some, unwrap_or, option_and_then, Result, Err, codes, if◌then◌else◌}
+use Rattle.std.specs.List.{slice_split, list_all, flat_map, before_last, after_last, prefix_len, join_with_byte}
 use Rattle.std.specs.Str.{all_ascii_digits, bytes_eq, str_eq_ignore_ascii_case}
 use Rattle.std.specs.Str.Parse.{digits_value}
 use Rattle.edi_tables.specs.Tag.{is_capital, is_digit, is_tag_octet_of, is_tag_of}

@@ -91,9 +91,7 @@ impl Drawing {
         if let Some(line) = self.unclosed_line() {
             return Err(stop_at(line, DirKind::NotClosed));
         }
-        if let Err(stop) = self.judge_rows(alloc, type_line) {
-            return Err(stop);
-        }
+        self.judge_rows(alloc, type_line)?;
         let name = Chunk::of(alloc, name)?;
         Ok(MessageDef {
             name,

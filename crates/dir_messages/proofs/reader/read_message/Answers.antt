@@ -1,4 +1,4 @@
-use Rattle.std.proofs.Common.{◌≡◌, true, false, length, sym, ap, ◌∙◌, subst, arith, is_some, refl}
+use Rattle.std.proofs.Common.{◌≡◌, true, false, length, sym, ap, subst, arith, is_some, refl}
 use Rattle.edi_tables.specs.declared.segment.MessageDef.{MessageDef}
 use Rattle.edi_octets.specs.DirStop.{Gives}
 use Rattle.edi_octets.specs.Left.{lines_left, line_shown}

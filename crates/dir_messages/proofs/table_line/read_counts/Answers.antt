@@ -1,5 +1,4 @@
 use Rattle.std.proofs.Common.{◌∙◌, sym, refl}
-use Rattle.std.specs.Option.{option_map}
 use Rattle.dir_messages.proofs.CountLemmas.{digits-in_front, counts_in-read}
 use Rattle.dir_messages.proofs.table_line.read_counts.Goals as goal
 

@@ -1,7 +1,6 @@
 use Rattle.std.proofs.Common.{◌∙◌, sym, ap}
-use Rattle.edi_octets.specs.Left.{line_shown, cells_left}
+use Rattle.edi_octets.specs.Left.{line_shown}
 use Rattle.edi_octets.specs.Profile.{after_position}
-use Rattle.dir_messages.specs.Message.{has_rest}
 use Rattle.dir_messages.specs.Parts.{behind_spaces}
 use Rattle.dir_messages.proofs.TableLineLemmas.{begins_with_space, has_rest-none, StatusFound, StatusFound-behind, has_rest-no_counts, CountsFound, CountsFound-rest}
 use Rattle.dir_messages.proofs.table_line.read_table_line.Goals as goal

@@ -1,4 +1,4 @@
-use Rattle.std.proofs.Common.{◌≡◌, false, sym, ap, ◌∙◌}
+use Rattle.std.proofs.Common.{◌≡◌, false, sym, ◌∙◌}
 use Rattle.std.specs.List.{filter}
 use Rattle.edi_octets.specs.Left.{line_shown}
 use Rattle.dir_messages.specs.Message.{is_type_line, is_table_line}

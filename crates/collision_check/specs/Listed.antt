@@ -1,8 +1,9 @@
 -- What a listed collision stands for.
-use Rattle.std.specs.Prelude.{ℕ, List, [], ◌∷◌, ◌++◌, if◌then◌else◌}
+use Rattle.std.specs.Prelude.{◌≢◌, ℕ, List, [], ◌∷◌, ◌++◌, if◌then◌else◌}
 use Rattle.std.specs.List.{filter_map}
 use Rattle.edi_tables.specs.declared.table.Node.{Node}
 use Rattle.edi_tables.specs.Walk.{tag_at, is_group_at}
+use Rattle.edi_tables.specs.Placement.{IsPlacement}
 use Rattle.edi_tables.specs.Collisions as definition
 use Rattle.collision_check.specs.declared.list.Collision.{Collision}
 
@@ -21,3 +22,9 @@ with_followers nodes front first second = record {
 -- the collisions behind a node; a group stands for none
 abbrev pub collisions_at : List Node → ℕ → List definition.Collision
 collisions_at nodes f = if is_group_at nodes f then [] else definition.collisions_behind nodes f
+
+-- a list of tags that a segment table can place in two ways
+pub record IsAmbiguous (nodes : List Node) (c : definition.Collision) : Type 0 where
+  pub first : IsPlacement nodes c.tags c.first
+  pub second : IsPlacement nodes c.tags c.second
+  pub differ : c.first ≢ c.second

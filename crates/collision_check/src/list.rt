@@ -1,12 +1,12 @@
 //! The collisions of a segment table.
-ghost use Rattle.std.specs.Prelude.{◌≡◌, ℕ, List, ◌<◌, ◌≤◌, ◌∷◌, [], ◌++◌, map, length, IfOk};
+ghost use Rattle.std.specs.Prelude.{◌≡◌, ℕ, List, ◌<◌, ◌≤◌, ◌∷◌, [], ◌++◌, All, map, length, IfOk};
 ghost use Rattle.std.specs.List.{filter_map};
 ghost use Rattle.edi_tables.specs.Rows.{IsTable};
 ghost use Rattle.edi_tables.specs.Walk.{tag_at};
 ghost use Rattle.edi_tables.specs.Collisions.{collisions_of};
 ghost use Rattle.edi_tables.specs.Placement.{IsPlacement};
 ghost use Rattle.edi_tables.specs.declared.tag.Tag.{Tag};
-ghost use Rattle.collision_check.specs.Listed.{collision_seen, collisions_at, with_followers};
+ghost use Rattle.collision_check.specs.Listed.{IsAmbiguous, collision_seen, collisions_at, with_followers};
 
 use crate::{follow, front, levels, shared};
 use edi_tables::{List, Node, Table, Tag};
@@ -25,6 +25,7 @@ pub struct Collision {
 /// The collisions of a table, by the entry that stands before the shared tag, in table order.
 pub fn list_collisions(alloc: Global, table: &Table) -> Result<Vec<Collision>, AllocError>
     ensures listed { IfOk result (λ collisions. map collision_seen collisions.items ≡ collisions_of table.now) }
+    ensures ambiguous { IfOk result (λ collisions. All (λ c. IsAmbiguous table.now (collision_seen c)) collisions.items) }
     ensures only { IfOk result
         (λ collisions. collisions.items ≡ []
         → (tags : List Tag)

@@ -8,3 +8,9 @@ pub mod Stepping
 pub mod Counting
 pub mod Single
 pub mod TwoDates
+pub mod Ascending
+pub mod Distinct
+pub mod Reaching
+pub mod Fronts
+pub mod Placed
+pub mod Ambiguous

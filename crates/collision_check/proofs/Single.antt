@@ -38,7 +38,8 @@ kept_more : (p : ℕ → Bool) (h : ℕ) (t : List ℕ) (c : ℕ) (passes : Bool
 kept_more p h t c true is found = rw is (suc found.0, omega (arith, found.1), found.2)
 kept_more p h t c false is found = rw is found
 
-kept : (p : ℕ → Bool) (xs : List ℕ) (c k : ℕ) → k < length xs → get_or xs k c ≡ c → p c ≡ true → Contains (filter p xs) c
+-- a member that passes is kept
+pub kept : (p : ℕ → Bool) (xs : List ℕ) (c k : ℕ) → k < length xs → get_or xs k c ≡ c → p c ≡ true → Contains (filter p xs) c
 kept p [] c k within at passes = absurd (omega arith)
 kept p (h ∷ t) c zero within at passes =
     let first : p h ≡ true = ap p at ∙ passes in
@@ -64,7 +65,8 @@ last_index front x =
     let long : length (front ++ x ∷ []) ≡ length front + 1 = length-append front (x ∷ []) in
     get_or_push front x 0 (length (front ++ x ∷ []) - 1) (omega arith)
 
-last_of : (entries : List ℕ) (k : ℕ) → k < length entries → last_placed (map Some (take (k + 1) entries)) ≡ slice_index entries k
+-- the entry that was placed last
+pub last_of : (entries : List ℕ) (k : ℕ) → k < length entries → last_placed (map Some (take (k + 1) entries)) ≡ slice_index entries k
 last_of entries k within =
     ap (λ (xs : List ℕ). slice_index xs (length xs - 1)) (filter_some (take (k + 1) entries) ∙ take_more entries k 0 within)
     ∙ last_index (take k entries) (slice_index entries k)
@@ -83,7 +85,8 @@ module _ (nodes : List Node) (table : IsTable nodes) where
   laws : HasTableLaws nodes
   laws = table_laws nodes table
 
-  repeat_round : (f c : ℕ) → is_repeat nodes f c ≡ true → is_round nodes f (c - 1) ≡ true
+  -- a repeated group stands round the entry
+  pub repeat_round : (f c : ℕ) → is_repeat nodes f c ≡ true → is_round nodes f (c - 1) ≡ true
   repeat_round f c repeat = any_before c (groups_round nodes f) (and_parts (is_trigger_at nodes c) _ repeat).1
 
   groups_below : (n : ℕ) (found : Option ℕ) (c g : ℕ) → ((h : ℕ) → found ≡ Some h → h < c) → list_any (nat_eq g) (groups_up nodes n found) ≡ true → g < c
@@ -94,15 +97,18 @@ module _ (nodes : List Node) (table : IsTable nodes) where
       (λ later. groups_below n (parent_at nodes h) c g (λ k up. omega (arith, laws.parent_before h k up, below h refl)) later)
       (or_cases (nat_eq g h) (list_any (nat_eq g) (groups_up nodes n (parent_at nodes h))) some)
 
-  round_below : (c g : ℕ) → is_round nodes c g ≡ true → g < c
+  -- a group stands before what it stands round
+  pub round_below : (c g : ℕ) → is_round nodes c g ≡ true → g < c
   unfolding groups_round
   round_below c g round = groups_below c (parent_at nodes c) c g (λ h up. laws.parent_before c h up) round
 
-  first_outside : (found : Option ℕ) → parent_at nodes 0 ≡ found → parent_at nodes 0 ≡ None
+  -- no group stands round the first node
+  pub first_outside : (found : Option ℕ) → parent_at nodes 0 ≡ found → parent_at nodes 0 ≡ None
   first_outside None is = is
   first_outside (Some g) is = absurd (omega (arith, laws.parent_before 0 g is))
 
-  tagged : (i : ℕ) (tag : Tag) (found : Option Node) → slice_get nodes i ≡ found → tag_at nodes i ≡ Some tag → (is_group_at nodes i ≡ false) × (i < length nodes)
+  -- a node with a tag is an entry of the table
+  pub tagged : (i : ℕ) (tag : Tag) (found : Option Node) → slice_get nodes i ≡ found → tag_at nodes i ≡ Some tag → (is_group_at nodes i ≡ false) × (i < length nodes)
   tagged i tag None at is =
       let nothing : tag_at nodes i ≡ None = rw (read_node, at) refl in
       absurd (none_some tag (sym nothing ∙ is))

@@ -19,7 +19,7 @@ is_round nodes c g = list_any (nat_eq g) (groups_round nodes c)
 abbrev pub Steps : List Node → ℕ → ℕ → Type 0
 Steps nodes f c = (g : ℕ) → is_round nodes c g ≡ true → (is_round nodes f g ≡ true) ⊎ (c ≡ g + 1)
 
-same_parent : (a b : Option ℕ) → option_eq nat_eq a b ≡ true → a ≡ b
+pub same_parent : (a b : Option ℕ) → option_eq nat_eq a b ≡ true → a ≡ b
 same_parent None None same = refl
 same_parent None (Some h) same = absurd (false≢true same)
 same_parent (Some g) None same = absurd (false≢true same)
@@ -41,15 +41,23 @@ module _ (nodes : List Node) (table : IsTable nodes) where
   pub round_some : (c h g : ℕ) → parent_at nodes c ≡ Some h → is_round nodes c g ≡ (nat_eq g h || is_round nodes h g)
   round_some c h g is = ap (list_any (nat_eq g)) (groups_round_some nodes table c h is)
 
-  same_groups : (i j : ℕ) (found : Option ℕ) → parent_at nodes i ≡ found → parent_at nodes j ≡ found → groups_round nodes i ≡ groups_round nodes j
+  -- siblings have the same groups round them
+  pub same_groups : (i j : ℕ) (found : Option ℕ) → parent_at nodes i ≡ found → parent_at nodes j ≡ found → groups_round nodes i ≡ groups_round nodes j
   same_groups i j None one two = groups_round_none nodes table i one ∙ sym (groups_round_none nodes table j two)
   same_groups i j (Some h) one two = groups_round_some nodes table i h one ∙ sym (groups_round_some nodes table j h two)
 
   -- the groups round a trigger are its own and those round that
-  trigger_round : (j g : ℕ) → is_group_at nodes j ≡ true → is_round nodes (j + 1) g ≡ true → (g ≡ j) ⊎ (is_round nodes j g ≡ true)
+  pub trigger_round : (j g : ℕ) → is_group_at nodes j ≡ true → is_round nodes (j + 1) g ≡ true → (g ≡ j) ⊎ (is_round nodes j g ≡ true)
   trigger_round j g group round = ⊎_elim
       (λ same. inl (eqb-true g j same)) (λ further. inr further)
       (or_cases (nat_eq g j) (is_round nodes j g) (sym (round_some (j + 1) j g (laws.trigger_parent j group)) ∙ round))
+
+  -- the first of the groups round a node is its parent, and the others stand round that
+  pub parent_of_round : (i g : ℕ) (groups : List ℕ) (found : Option ℕ) → parent_at nodes i ≡ found → (g ∷ groups) ≡ groups_round nodes i → (found ≡ Some g) × (groups ≡ groups_round nodes g)
+  parent_of_round i g groups None up is = absurd (no_member g groups (is ∙ groups_round_none nodes table i up))
+  parent_of_round i g groups (Some h) up is =
+      let parts = heads g h groups (groups_round nodes h) (is ∙ groups_round_some nodes table i h up) in
+      (ap Some (sym parts.0), parts.1 ∙ ap (groups_round nodes) (sym parts.0))
 
   module _ (f : ℕ) where
     as_trigger : (j : ℕ) → is_group_at nodes j ≡ true → ((g : ℕ) → is_round nodes j g ≡ true → is_round nodes f g ≡ true) → Steps nodes f (j + 1)
@@ -68,12 +76,6 @@ module _ (nodes : List Node) (table : IsTable nodes) where
         All-map (Steps nodes f) (entry_for nodes) (later_siblings nodes i)
         (All-weaker (λ j. are_siblings nodes i j ≡ true) (λ j. Steps nodes f (entry_for nodes j)) (as_sibling i outer) (later_siblings nodes i)
         (filter_passes (are_siblings nodes i) (range_with_len (i + 1) (length nodes - (i + 1)))))
-
-    parent_of_round : (i g : ℕ) (groups : List ℕ) (found : Option ℕ) → parent_at nodes i ≡ found → (g ∷ groups) ≡ groups_round nodes i → (found ≡ Some g) × (groups ≡ groups_round nodes g)
-    parent_of_round i g groups None up is = absurd (no_member g groups (is ∙ groups_round_none nodes table i up))
-    parent_of_round i g groups (Some h) up is =
-        let parts = heads g h groups (groups_round nodes h) (is ∙ groups_round_some nodes table i h up) in
-        (ap Some (sym parts.0), parts.1 ∙ ap (groups_round nodes) (sym parts.0))
 
     as_outward : (groups : List ℕ) (i : ℕ) → groups ≡ groups_round nodes i → ((g : ℕ) → is_round nodes i g ≡ true → is_round nodes f g ≡ true) → All (Steps nodes f) (outward nodes i groups)
     as_outward [] i is outer = as_siblings i outer

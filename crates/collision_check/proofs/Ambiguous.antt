@@ -17,6 +17,7 @@ use Rattle.collision_check.proofs.Made.{of_pair, behind_by_pairs}
 use Rattle.collision_check.proofs.Distinct.{apart_take, followers_apart}
 use Rattle.collision_check.proofs.Placed.{same_tags, IsFollower, placement}
 
+-- what holds of all that each place makes holds of all that they make
 flat_all : {A : Type 0} (P : A → Type 0) (made : ℕ → List A) (n a b : ℕ) → a + n ≡ b → ((k : ℕ) → a ≤ k → k < b → All P (made k)) → All P (flat_map made (range_with_len a n))
 flat_all P made zero a b end each = All-nil P
 flat_all P made (suc n) a b end each =
@@ -31,6 +32,7 @@ All-unmap P of (x ∷ xs) all =
 
 module _ (nodes : List Node) (table : IsTable nodes) where
   module _ (f : ℕ) (within : f < length nodes) (entry : is_group_at nodes f ≡ false) where
+    -- a follower of f
     abbrev Follows : ℕ → Type 0
     Follows c = IsFollower nodes table f within entry c
 
@@ -42,6 +44,7 @@ module _ (nodes : List Node) (table : IsTable nodes) where
     abbrev IsOther : ℕ → ℕ → Type 0
     IsOther second first = Follows first × (have_same_tag nodes second first ≡ true) × (first ≡ second → ⊥)
 
+    -- the followers are such
     followers_follow : All Follows (followers_of nodes f)
     unfolding followers_of
     followers_follow =
@@ -51,6 +54,7 @@ module _ (nodes : List Node) (table : IsTable nodes) where
           filter_passes (is_follower nodes f) candidates k d below,
         )
 
+    -- the pair of a follower and the only other one with its tag
     pair_is : (before : List ℕ) (second : ℕ) → Follows second → All (IsOther second) before → All IsPair (pair_with before second)
     pair_is [] second follows others = All-nil IsPair
     pair_is (first ∷ []) second follows others =
@@ -58,6 +62,7 @@ module _ (nodes : List Node) (table : IsTable nodes) where
         All-cons IsPair (first, second) [] (other.0, follows, other.1, other.2) (All-nil IsPair)
     pair_is (first ∷ next ∷ more) second follows others = All-nil IsPair
 
+    -- the pair that the follower at j closes
     pair_here : (j : ℕ) → j < length (followers_of nodes f) → All IsPair (pair_at nodes (followers_of nodes f) j)
     pair_here j below =
         let followers : List ℕ = followers_of nodes f in
@@ -71,12 +76,14 @@ module _ (nodes : List Node) (table : IsTable nodes) where
           All-filter same (λ x. x ≡ second → ⊥) earlier (apart_take followers j below (followers_apart nodes table f)) k d within_it,
         ))
 
+    -- all pairs are such
     pairs_are : All IsPair (pairs_of nodes (followers_of nodes f))
     unfolding pairs_of
     pairs_are =
         let count : ℕ = length (followers_of nodes f) in
         flat_all IsPair (pair_at nodes (followers_of nodes f)) count 0 count (omega arith) (λ j low high. pair_here j high)
 
+    -- both lists of entries have the same tags
     same_of_pair : (first second : ℕ) → tag_at nodes first ≡ tag_at nodes second
         → filter_map (tag_at nodes) (front_of nodes f ++ second ∷ []) ≡ filter_map (tag_at nodes) (front_of nodes f ++ first ∷ [])
     same_of_pair first second same =
@@ -84,11 +91,13 @@ module _ (nodes : List Node) (table : IsTable nodes) where
         ∙ ap (λ (found : Option Tag). filter_map (tag_at nodes) (front_of nodes f) ++ cons_option found []) (sym same)
         ∙ sym (filter_map-append (tag_at nodes) (front_of nodes f) (first ∷ []))
 
+    -- they differ in their last entry
     pair_differs : (first second : ℕ) → (first ≡ second → ⊥) → front_of nodes f ++ first ∷ [] ≡ front_of nodes f ++ second ∷ [] → ⊥
     pair_differs first second differ same =
         let front : List ℕ = front_of nodes f in
         differ (sym (get_or_push front first 0 (length front) refl) ∙ ap (λ (xs : List ℕ). get_or xs (length front) 0) same ∙ get_or_push front second 0 (length front) refl)
 
+    -- the collision of a pair
     pair_ambiguous : (pair : ℕ × ℕ) → IsPair pair → IsAmbiguous nodes (of_pair nodes f pair)
     pair_ambiguous pair is =
         let tags = same_tags (tag_at nodes pair.1) (tag_at nodes pair.0) is.2 in
@@ -99,12 +108,14 @@ module _ (nodes : List Node) (table : IsTable nodes) where
           differ = pair_differs pair.0 pair.1 is.3;
         }
 
+    -- the collisions behind f
     behind_ambiguous : All (IsAmbiguous nodes) (collisions_behind nodes f)
     behind_ambiguous =
         let pairs : List (ℕ × ℕ) = pairs_of nodes (followers_of nodes f) in
         All-same (IsAmbiguous nodes) (collisions_behind nodes f) (map (of_pair nodes f) pairs) (behind_by_pairs nodes f)
         (All-map (IsAmbiguous nodes) (of_pair nodes f) pairs (All-weaker IsPair (λ pair. IsAmbiguous nodes (of_pair nodes f pair)) pair_ambiguous pairs pairs_are))
 
+  -- and those at any node
   at_ambiguous : (f : ℕ) → f < length nodes → All (IsAmbiguous nodes) (collisions_at nodes f)
   at_ambiguous f within =
       cond_both (is_group_at nodes f) [] (collisions_behind nodes f) (All (IsAmbiguous nodes)) (λ _. All-nil (IsAmbiguous nodes)) (λ entry. behind_ambiguous f within entry)

@@ -33,6 +33,7 @@ pub record AreNeighbours (p : ℕ → Bool) (e next : ℕ) : Type 0 where
   pub other : p next ≡ true
   pub between : (m : ℕ) → e < m → m < next → p m ≡ false
 
+-- where a place fails, the first one stands behind it
 first_later : (p : ℕ → Bool) (a first : ℕ) → p a ≡ false → IsFirst p (a + 1) first → IsFirst p a first
 first_later p a first fails later = record {
   from = omega (arith, later.from);
@@ -43,6 +44,7 @@ first_later p a first fails later = record {
   ];
 }
 
+-- the head of a filtered range is the first place that passes
 first_is : (p : ℕ → Bool) (n a : ℕ) → 0 < length (filter p (range_with_len a n)) → IsFirst p a (get_or (filter p (range_with_len a n)) 0 0)
 first_is p zero a = λ some. absurd (omega arith)
 first_is p (suc n) a =
@@ -50,6 +52,7 @@ first_is p (suc n) a =
     (λ passes some. record { from = omega arith; passes = passes; before = λ m low below. absurd (omega arith) })
     (λ fails some. first_later p a (get_or (filter p (range_with_len (a + 1) n)) 0 0) fails (first_is p n (a + 1) some))
 
+-- one more place before a list keeps its neighbours
 neighbours_cons : (p : ℕ → Bool) (a : ℕ) (rest : List ℕ) → p a ≡ true → (0 < length rest → IsFirst p (a + 1) (get_or rest 0 0))
     → ((k : ℕ) → suc k < length rest → AreNeighbours p (get_or rest k 0) (get_or rest (suc k) 0))
     → (k : ℕ) → suc k < length (a ∷ rest) → AreNeighbours p (get_or (a ∷ rest) k 0) (get_or (a ∷ rest) (suc k) 0)
@@ -77,12 +80,15 @@ pub starts_with : (p : ℕ → Bool) (n : ℕ) → 0 < n → p 0 ≡ true → (r
 starts_with p zero some passes = absurd (omega arith)
 starts_with p (suc n) some passes = (filter p (range_with_len (0 + 1) n), rw passes)
 
+-- a test as a number
 abbrev one_if : Bool → ℕ
 one_if b = cond b 1 0
 
+-- one placement more counts where it is at the entry
 count_cons : (x a : ℕ) (rest : List ℕ) → count_by (is_at x) (map Some (a ∷ rest)) ≡ one_if (is_at x (Some a)) + count_by (is_at x) (map Some rest)
 count_cons x a rest = sum_by-cons (λ y. cond (is_at x y) 1 0) (Some a) (map Some rest)
 
+-- an entry before all places counts nowhere among them
 count_past : (p : ℕ → Bool) (x n a : ℕ) → x < a → count_by (is_at x) (map Some (filter p (range_with_len a n))) ≡ 0
 count_past p x zero a past = refl
 count_past p x (suc n) a past =
@@ -90,6 +96,7 @@ count_past p x (suc n) a past =
     cond_both (p a) (a ∷ filter p (range_with_len (a + 1) n)) (filter p (range_with_len (a + 1) n)) (λ xs. count_by (is_at x) (map Some xs) ≡ 0)
     (λ _. count_cons x a (filter p (range_with_len (a + 1) n)) ∙ (let none : one_if (is_at x (Some a)) ≡ 0 = ap one_if (ne_eqb a x (λ same. absurd (omega arith))) in omega arith)) (λ _. rest)
 
+-- where a placement counts, the others do not
 one_and_rest : (test : Bool) (rest : ℕ) → rest ≤ 1 → (test ≡ true → rest ≡ 0) → one_if test + rest ≤ 1
 one_and_rest true rest few none = omega (arith, none refl)
 one_and_rest false rest few none = omega arith

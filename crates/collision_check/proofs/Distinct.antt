@@ -13,6 +13,7 @@ use Rattle.collision_check.proofs.Ascending.{Passes, passing_each}
 use Rattle.collision_check.proofs.Stepping.{same_parent, parent_of_round}
 use Rattle.collision_check.proofs.Reaching.{trigger_is}
 
+-- a number that is none of these
 abbrev NotIn : List ℕ → ℕ → Type 0
 NotIn xs x = All (λ y. x ≡ y → ⊥) xs
 
@@ -21,6 +22,7 @@ abbrev pub Apart : List ℕ → Type 0
 Apart [] = Unit {0}
 Apart (x ∷ xs) = NotIn xs x × Apart xs
 
+-- two lists with no member in common
 apart_append : (xs ys : List ℕ) → Apart xs → Apart ys → All (NotIn ys) xs → Apart (xs ++ ys)
 apart_append [] ys one two cross = two
 apart_append (x ∷ xs) ys one two cross = (
@@ -28,6 +30,7 @@ apart_append (x ∷ xs) ys one two cross = (
   apart_append xs ys one.1 two (All-tail (NotIn ys) x xs cross),
 )
 
+-- what is kept stays different
 apart_filter : (p : ℕ → Bool) (xs : List ℕ) → Apart xs → Apart (filter p xs)
 apart_filter p [] apart = tt
 apart_filter p (x ∷ xs) apart =
@@ -62,14 +65,17 @@ module _ (nodes : List Node) (table : IsTable nodes) where
   abbrev IsLater : ℕ → ℕ → Type 0
   IsLater i x = (end_at nodes i ≤ x) × (i < x) × ((g : ℕ) → parent_at nodes i ≡ Some g → x < end_at nodes g)
 
+  -- an entry stands no earlier than its node
   entry_low : (j : ℕ) → j ≤ entry_for nodes j
   entry_low j = cond_both (is_group_at nodes j) (j + 1) j (λ x. j ≤ x) (λ _. omega arith) (λ _. omega arith)
 
+  -- a sibling does not stand inside a node
   not_inside : (i j : ℕ) → i < j → parent_at nodes i ≡ parent_at nodes j → end_at nodes i ≤ j
   not_inside i j past same = ⊎_elim
       (λ inside. let held = laws.held_inside i j past inside in absurd (omega (arith, held.1, laws.parent_before i held.0 (same ∙ held.2))))
       (λ behind. behind) (cases_lt j (end_at nodes i))
 
+  -- the entry of a sibling stands before the end of their group
   in_parent : (i j g : ℕ) → parent_at nodes i ≡ parent_at nodes j → parent_at nodes i ≡ Some g → entry_for nodes j < end_at nodes g
   in_parent i j g same up =
       let held : parent_at nodes j ≡ Some g = sym same ∙ up in
@@ -77,14 +83,17 @@ module _ (nodes : List Node) (table : IsTable nodes) where
       (λ group. omega (arith, laws.before_parent_end (j + 1) j (laws.trigger_parent j group), laws.end_in_parent j g held))
       (λ _. laws.before_parent_end j g held)
 
+  -- a later sibling has such an entry
   later_is : (i j : ℕ) → i < j → are_siblings nodes i j ≡ true → IsLater i (entry_for nodes j)
   later_is i j past siblings =
       let same = same_parent (parent_at nodes i) (parent_at nodes j) siblings in
       (omega (arith, not_inside i j past same, entry_low j), omega (arith, entry_low j), λ g up. in_parent i j g same up)
 
+  -- the entries of the later siblings
   abbrev level : ℕ → List ℕ
   level i = map (entry_for nodes) (later_siblings nodes i)
 
+  -- each of them is such an entry
   level_later : (i : ℕ) → All (IsLater i) (level i)
   unfolding later_siblings
   level_later i =
@@ -93,6 +102,7 @@ module _ (nodes : List Node) (table : IsTable nodes) where
       (All-weaker (Passes (are_siblings nodes i) (i + 1) (i + 1 + count)) (λ j. IsLater i (entry_for nodes j)) (λ j here. later_is i j (omega (arith, here.0)) here.2)
       (later_siblings nodes i) (passing_each (are_siblings nodes i) count (i + 1) (i + 1 + count) refl))
 
+  -- two siblings have different entries
   entries_differ : (i j k : ℕ) → j < k → are_siblings nodes i j ≡ true → are_siblings nodes i k ≡ true → entry_for nodes j ≡ entry_for nodes k → ⊥
   entries_differ i j k less one two equal =
       let same : parent_at nodes j ≡ parent_at nodes k =
@@ -102,6 +112,7 @@ module _ (nodes : List Node) (table : IsTable nodes) where
       (λ group up. let here : k ≡ j + 1 = omega arith in omega (arith, laws.parent_before j j (same ∙ ap (parent_at nodes) here ∙ laws.trigger_parent j group)))
       (λ _ up. omega arith) low
 
+  -- so no two of the entries of one level are the same
   level_apart : (i : ℕ) → Apart (level i)
   unfolding later_siblings
   level_apart i = apart_made (entry_for nodes) (are_siblings nodes i) (entries_differ i) (length nodes - (i + 1)) (i + 1)
@@ -110,6 +121,7 @@ module _ (nodes : List Node) (table : IsTable nodes) where
   abbrev IsOutward : ℕ → ℕ → Type 0
   IsOutward i c = ((c ≤ i) × (is_trigger_at nodes c ≡ true)) ⊎ ((end_at nodes i ≤ c) × (i < c))
 
+  -- each candidate outwards is of one of these two kinds
   outward_parts : (groups : List ℕ) (i : ℕ) → groups ≡ groups_round nodes i → All (IsOutward i) (outward nodes i groups)
   outward_parts [] i is = All-weaker (IsLater i) (IsOutward i) (λ x later. inr (later.0, later.1)) (level i) (level_later i)
   outward_parts (g ∷ groups) i is =
@@ -123,6 +135,7 @@ module _ (nodes : List Node) (table : IsTable nodes) where
       (λ c part. ⊎_elim (λ low. inl (omega (arith, low.0), low.1)) (λ high. inr (omega (arith, high.0, laws.end_in_parent i g up.0), omega (arith, high.0, laws.before_parent_end i g up.0))) part)
       (outward nodes g groups) further))
 
+  -- no two candidates outwards are the same
   outward_apart : (groups : List ℕ) (i : ℕ) → groups ≡ groups_round nodes i → Apart (outward nodes i groups)
   outward_apart [] i is = level_apart i
   outward_apart (g ∷ groups) i is =
@@ -138,6 +151,7 @@ module _ (nodes : List Node) (table : IsTable nodes) where
       (All-weaker (IsOutward g) (λ y. x ≡ y → ⊥) (λ c part same. ⊎_elim (λ low. omega (arith, low.0, later.1)) (λ high. omega (arith, high.0, later.2 g up.0)) part) rest further) in
       apart_append (level i) ((g + 1) ∷ rest) (level_apart i) (tail, outward_apart groups g up.1) (All-weaker (IsLater i) (NotIn ((g + 1) ∷ rest)) cross (level i) (level_later i))
 
+  -- no candidate stands twice behind an entry
   pub candidates_apart : (f : ℕ) → Apart (candidates_of nodes f)
   unfolding candidates_of
   candidates_apart f =

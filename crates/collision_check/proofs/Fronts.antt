@@ -14,18 +14,21 @@ use Rattle.collision_check.proofs.Stepping.{is_round, round_some, trigger_round}
 use Rattle.collision_check.proofs.Reaching.{inside_round, StandsFor, stands, in_outward, level_outer}
 use Rattle.collision_check.proofs.Single.{repeat_round, round_below}
 
+-- what all members pass, each one does
 all_at : (test : ℕ → Bool) (groups : List ℕ) → list_all test groups ≡ true → (g : ℕ) → list_any (nat_eq g) groups ≡ true → test g ≡ true
 all_at test [] all g some = absurd (false≢true some)
 all_at test (h ∷ groups) all g some =
     let parts = and_parts (test h) (list_all test groups) all in
     ⊎_elim (λ same. ap test (eqb-true g h same) ∙ parts.0) (λ further. all_at test groups parts.1 g further) (or_cases (nat_eq g h) (list_any (nat_eq g) groups) some)
 
+-- what each member passes, all do
 all_from : (test : ℕ → Bool) (groups : List ℕ) → ((g : ℕ) → list_any (nat_eq g) groups ≡ true → test g ≡ true) → list_all test groups ≡ true
 all_from test [] each = refl
 all_from test (h ∷ groups) each =
     and_from (test h) (list_all test groups) (each h (or_left (nat_eq h h) (list_any (nat_eq h) groups) (eq-eqb h h refl)))
     (all_from test groups (λ g some. each g (or_right (nat_eq g h) (list_any (nat_eq g) groups) some)))
 
+-- where each member fails, none is kept
 filter_none : (p : ℕ → Bool) (xs : List ℕ) → All (λ x. p x ≡ false) xs → filter p xs ≡ []
 filter_none p [] fails = refl
 filter_none p (x ∷ xs) fails = rw (All-head (λ y. p y ≡ false) x xs fails) (filter_none p xs (All-tail (λ y. p y ≡ false) x xs fails))
@@ -38,15 +41,19 @@ module _ (nodes : List Node) (table : IsTable nodes) (f : ℕ) where
   abbrev is_way : ℕ → Bool
   is_way g = is_must_at nodes g || is_round nodes f g
 
+  -- all groups round a node are on the way to f
   abbrev OnWay : ℕ → Type 0
   OnWay x = (g : ℕ) → is_round nodes x g ≡ true → is_way g ≡ true
 
+  -- an entry of the front of f
   abbrev fronted : ℕ → Bool
   fronted = is_in_front nodes f
 
+  -- it is no group
   pub front_entry : (x : ℕ) → fronted x ≡ true → is_group_at nodes x ≡ false
   front_entry x in_it = not-true (is_group_at nodes x) (and_parts (not (is_group_at nodes x)) _ in_it).0
 
+  -- all groups round it are on the way
   front_way : (x : ℕ) → fronted x ≡ true → OnWay x
   front_way x in_it = ⊎_elim
       (λ same g round. or_right (is_must_at nodes g) (is_round nodes f g) (ap (λ (n : ℕ). is_round nodes n g) (sym (eqb-true x f same)) ∙ round))
@@ -65,6 +72,7 @@ module _ (nodes : List Node) (table : IsTable nodes) (f : ℕ) where
       and_from (not (is_group_at nodes f)) _ (not_from_false (is_group_at nodes f) entry)
       (or_left (f == f) (is_must_at nodes f && list_all is_way (groups_round nodes f)) (eq-eqb f f refl))
 
+  -- the trigger of a group on the way stands in the front
   trigger_in_front : (g : ℕ) → is_group_at nodes g ≡ true → is_way g ≡ true → OnWay g → fronted (g + 1) ≡ true
   trigger_in_front g group here way =
       in_front (g + 1) (laws.trigger_is_entry g group) (laws.trigger_must g group)
@@ -77,19 +85,22 @@ module _ (nodes : List Node) (table : IsTable nodes) (f : ℕ) where
       (λ group. trigger_in_front j group (or_left (is_must_at nodes j) (is_round nodes f j) must) way) (λ entry. in_front j entry must way)
 
   module _ (e next : ℕ) (sides : AreNeighbours (is_in_front nodes f) e next) (up_to : next ≤ f) where
+    -- going to the later one repeats no group
     no_repeat : is_repeat nodes e next ≡ false
     no_repeat = false_from_ne_true (is_repeat nodes e next)
         (λ repeat. omega (arith, round_below nodes table e (next - 1) (repeat_round nodes table e next repeat), sides.less))
 
+    -- the later one is not the earlier one
     not_itself : (next == e) ≡ false
     not_itself = ne_eqb next e (λ same. omega (arith, sides.less))
 
-    -- no group begins between them that holds the later one's node
+    -- an entry of the front before the later one stands no later than the earlier one
     not_between : (x : ℕ) → fronted x ≡ true → x < next → x ≤ e
     not_between x in_it below = ⊎_elim
         (λ past. absurd (false≢true (sym (sides.between x past below) ∙ in_it))) (λ low. low) (cases_lt e x)
 
     module _ (n : ℕ) (place : StandsFor nodes table n next) where
+      -- the group that holds the node of the later one stands round the earlier one
       holder_round : (h : ℕ) → parent_at nodes n ≡ Some h → is_round nodes e h ≡ true
       holder_round h up =
           let way : OnWay next = front_way next sides.other in
@@ -102,11 +113,13 @@ module _ (nodes : List Node) (table : IsTable nodes) (f : ℕ) where
           let high : e < n = place.behind e (front_entry e sides.this) sides.less in
           inside_round nodes table h e (omega arith) (omega (arith, laws.before_parent_end n h up))
 
+      -- going to the later one reaches its node
       reached_is : reached_node nodes e next ≡ n
       reached_is =
           ap (λ repeat. if repeat then end_at nodes (next - 1) else (if next == e then 0 else (if is_trigger_at nodes next then next - 1 else next))) no_repeat
           ∙ ap (λ itself. if itself then 0 else (if is_trigger_at nodes next then next - 1 else next)) not_itself ∙ place.reached
 
+      -- no mandatory node is passed on the way
       none_passed : (j : ℕ) → e < j → list_any (λ i. nat_lt i j && are_siblings nodes i j) (e ∷ groups_round nodes e) ≡ true → (is_must_at nodes j && nat_lt j (reached_node nodes e next)) ≡ false
       none_passed j past level = false_from_ne_true (is_must_at nodes j && nat_lt j (reached_node nodes e next)) (λ passed.
           let parts = and_parts (is_must_at nodes j) (nat_lt j (reached_node nodes e next)) passed in
@@ -116,6 +129,7 @@ module _ (nodes : List Node) (table : IsTable nodes) (f : ℕ) where
           let up : j ≤ entry_for nodes j = cond_both (is_group_at nodes j) (j + 1) j (λ x. j ≤ x) (λ _. omega arith) (λ _. omega arith) in
           omega arith)
 
+      -- so nothing is missing
       nothing_missing : missing_between nodes e next ≡ []
       unfolding missing_between later_nodes
       nothing_missing =
@@ -125,6 +139,7 @@ module _ (nodes : List Node) (table : IsTable nodes) (f : ℕ) where
           (All-weaker (Passes level (e + 1) (e + 1 + count)) (λ j. (is_must_at nodes j && nat_lt j (reached_node nodes e next)) ≡ false)
           (λ j here. none_passed j (omega (arith, here.0)) here.2) (later_nodes nodes e) (passing_each level count (e + 1) (e + 1 + count) refl))
 
+      -- the later one is a candidate behind the earlier one
       next_candidate : n < length nodes → Contains (candidates_of nodes e) next
       unfolding candidates_of
       next_candidate within =
@@ -139,6 +154,7 @@ module _ (nodes : List Node) (table : IsTable nodes) (f : ℕ) where
       pub differs : (next == e) ≡ false
       pub missing : missing_between nodes e next ≡ []
 
+    -- and all this holds of two neighbours
     pub next_is : f < length nodes → IsNextCandidate
     next_is within =
         let place = stands nodes table next (front_entry next sides.other) in

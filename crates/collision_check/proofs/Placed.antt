@@ -24,15 +24,18 @@ use Rattle.collision_check.proofs.Fronts.{front_entry, in_front, front_itself, I
 
 -- where each entry has a tag, their tags stand in the same places
 module _ (tag : ℕ → Option Tag) where
+  -- an entry with a tag
   abbrev pub HasTag : ℕ → Type 0
   HasTag x = (t : Tag) × (tag x ≡ Some t)
 
+  -- there are as many tags as entries
   length_tags : (xs : List ℕ) → All HasTag xs → length (filter_map tag xs) ≡ length xs
   length_tags [] have = refl
   length_tags (x ∷ xs) have =
       let head = All-head HasTag x xs have in
       rw head.1 (ap suc (length_tags xs (All-tail HasTag x xs have)))
 
+  -- the tag at a place is that of the entry there
   tags_at : (xs : List ℕ) → All HasTag xs → (k : ℕ) (d : Tag) → k < length xs → Some (get_or (filter_map tag xs) k d) ≡ tag (get_or xs k 0)
   tags_at [] have k d within = absurd (omega arith)
   tags_at (x ∷ xs) have zero d within =
@@ -42,9 +45,11 @@ module _ (tag : ℕ → Option Tag) where
       let head = All-head HasTag x xs have in
       rw head.1 (tags_at xs (All-tail HasTag x xs have) k d (omega arith))
 
+-- a tag to read past the end
 blank : Tag
 blank = record { octets = [] }
 
+-- what is no group has a tag
 tag_or : (found : Option Tag) → (elim found [ None ↦ true | Some t ↦ false ]) ≡ false → (t : Tag) × (found ≡ Some t)
 tag_or None plain = absurd (false≢true (sym plain))
 tag_or (Some t) plain = (t, refl)
@@ -56,6 +61,7 @@ same_tags (Some a) None same = absurd (false≢true same)
 same_tags (Some a) (Some b) same =
     (a, refl, ap (λ (o : List ℕ). Some (record { octets = o })) (sym ((bytes_eq-Decides a.octets b.octets).0 same)))
 
+-- one placement at most is fewer than a count of two or more allows
 too_few : (most count : ℕ) → count ≤ 1 → nat_le 2 most ≡ true → nat_le most count ≡ false
 too_few most count few two = lt-leb most count (omega (arith, leb-true 2 most two))
 
@@ -67,6 +73,7 @@ none_over false true group_most group_is most is own again group entry same = to
 none_over false false group_most group_is most is own again group entry same = refl
 
 module _ (nodes : List Node) (placed : List (Option ℕ)) (e c : ℕ) (last : last_placed placed ≡ e) where
+  -- the rank is 0 where nothing is missing and it is not over
   rank_none : is_over nodes placed c ≡ false → is_filled (missing_between nodes e c) ≡ false → rank_of nodes placed c ≡ 0
   unfolding rank_of
   rank_none over missing =
@@ -94,22 +101,27 @@ module _ (nodes : List Node) (placed : List (Option ℕ)) (e c : ℕ) (last : la
       (λ same. ap (max_at nodes) (sym (eqb-true c e same))))
       (not-true (is_filled (missing_between nodes e c)) parts.0)
 
+-- behind the first few none is placed twice either
 drop_once : (q : Option ℕ → Bool) (n : ℕ) (placed : List (Option ℕ)) → count_by q placed ≤ 1 → count_by q (drop n placed) ≤ 1
 drop_once q n placed once = omega (arith, count_drop q n placed)
 
 module _ (nodes : List Node) (placed : List (Option ℕ)) (once : (x : ℕ) → count_by (is_at x) placed ≤ 1) where
+  -- nor since the trigger of a group
   since_once : (found : Option ℕ) (x : ℕ) → count_by (is_at x) (placed_since found placed) ≤ 1
   since_once None x = once x
   since_once (Some g) x = drop_once (is_at x) _ placed (once x)
 
+  -- nor behind it
   behind_once : (found : Option ℕ) (x : ℕ) → count_by (is_at x) (placed_behind found placed) ≤ 1
   behind_once None x = once x
   behind_once (Some g) x = drop_once (is_at x) _ placed (once x)
 
+  -- the count of an entry is 1 at most
   entry_once : (c : ℕ) → entry_count nodes placed c ≤ 1
   unfolding entry_count
   entry_once c = since_once (parent_at nodes c) c
 
+  -- the count of a group is 1 at most
   group_once : (g : ℕ) → group_count nodes placed g ≤ 1
   unfolding group_count
   group_once g = behind_once (parent_at nodes g) (g + 1)
@@ -118,6 +130,7 @@ module _ (nodes : List Node) (table : IsTable nodes) where
   laws : HasTableLaws nodes
   laws = table_laws nodes table
 
+  -- an entry of the table has a tag
   entry_tagged : (x : ℕ) → x < length nodes → is_group_at nodes x ≡ false → HasTag (tag_at nodes) x
   entry_tagged x within entry = elim ((slice_get_cases nodes x).1) [
     | inl some ↦ (let found = tag_or some.0.tag (sym (is_group_at_is nodes x some.0 some.2) ∙ entry) in (found.0, tag_at_is nodes x some.0 some.2 ∙ found.1))
@@ -125,15 +138,18 @@ module _ (nodes : List Node) (table : IsTable nodes) where
   ]
 
   module _ (f : ℕ) (within : f < length nodes) (entry : is_group_at nodes f ≡ false) where
+    -- UNH stands in each front
     first_in_front : is_in_front nodes f 0 ≡ true
     first_in_front =
         in_front nodes table f 0 (tagged nodes table 0 _ (slice_get nodes 0) refl laws.first_tag).0 laws.first_must
         (λ g round. absurd (false≢true (sym (round_none nodes table 0 g (first_outside nodes table (parent_at nodes 0) refl)) ∙ round)))
 
+    -- it stands first
     front_first : (rest : List ℕ) × (front_of nodes f ≡ 0 ∷ rest)
     unfolding front_of
     front_first = starts_with (is_in_front nodes f) (f + 1) (omega arith) first_in_front
 
+    -- the entry itself stands last
     front_last : (before : List ℕ) × (front_of nodes f ≡ before ++ f ∷ [])
     unfolding front_of
     front_last = (
@@ -142,18 +158,22 @@ module _ (nodes : List Node) (table : IsTable nodes) where
           ∙ ap (λ (b : Bool). filter (is_in_front nodes f) (range_with_len 0 f) ++ cond b (f ∷ []) []) (front_itself nodes table f entry),
     )
 
+    -- each member of the front passes, and stands no later than the entry
     front_each : All (Passes (is_in_front nodes f) 0 (f + 1)) (front_of nodes f)
     unfolding front_of
     front_each = passing_each (is_in_front nodes f) (f + 1) 0 (f + 1) (omega arith)
 
+    -- none stands twice
     front_once : (x : ℕ) → count_by (is_at x) (map Some (front_of nodes f)) ≤ 1
     unfolding front_of
     front_once x = count_once (is_in_front nodes f) x (f + 1) 0
 
+    -- two that stand side by side are neighbours
     front_sides : (k : ℕ) → suc k < length (front_of nodes f) → AreNeighbours (is_in_front nodes f) (get_or (front_of nodes f) k 0) (get_or (front_of nodes f) (suc k) 0)
     unfolding front_of
     front_sides k below = neighbours (is_in_front nodes f) (f + 1) 0 k below
 
+    -- each has a tag
     front_tagged : All (HasTag (tag_at nodes)) (front_of nodes f)
     front_tagged =
         All-weaker (Passes (is_in_front nodes f) 0 (f + 1)) (HasTag (tag_at nodes))
@@ -164,12 +184,15 @@ module _ (nodes : List Node) (table : IsTable nodes) where
     IsFollower c = Contains (candidates_of nodes f) c × (is_follower nodes f c ≡ true)
 
     module _ (c : ℕ) (follows : IsFollower c) (has : HasTag (tag_at nodes) c) where
+      -- the front, and a follower behind it
       abbrev entries : List ℕ
       entries = front_of nodes f ++ c ∷ []
 
+      -- each of these has a tag
       entries_tagged : All (HasTag (tag_at nodes)) entries
       entries_tagged = All-push (HasTag (tag_at nodes)) (front_of nodes f) c front_tagged has
 
+      -- and it stands at its place
       tag_there : (k : ℕ) → k < length entries → tag_at nodes (get_or entries k 0) ≡ slice_get (filter_map (tag_at nodes) entries) k
       tag_there k below =
           sym (slice_get-get_or (filter_map (tag_at nodes) entries) k blank (omega (arith, length_tags (tag_at nodes) entries entries_tagged))
@@ -179,6 +202,7 @@ module _ (nodes : List Node) (table : IsTable nodes) where
       abbrev Goes : ℕ → Type 0
       Goes k = Contains (candidates_of nodes (get_or entries k 0)) (get_or entries (k + 1) 0) × (rank_of nodes (map Some (take (k + 1) entries)) (get_or entries (k + 1) 0) ≡ 0)
 
+      -- within the front each step goes so
       goes_on : (k : ℕ) → k + 1 < length (front_of nodes f) → Goes k
       goes_on k below =
           let e : ℕ = get_or (front_of nodes f) k 0 in
@@ -194,6 +218,7 @@ module _ (nodes : List Node) (table : IsTable nodes) where
                 (rank_of_other nodes (map Some (take (k + 1) entries)) e next (last_of entries k long ∙ at_e) step.repeats step.differs step.missing),
           )
 
+      -- the step to the follower goes so too
       goes_last : (k : ℕ) → k + 1 ≡ length (front_of nodes f) → Goes k
       goes_last k same =
           let front : List ℕ = front_of nodes f in
@@ -211,6 +236,7 @@ module _ (nodes : List Node) (table : IsTable nodes) where
             ap (λ (xs : List (Option ℕ)). rank_of nodes xs (get_or entries (k + 1) 0)) placed ∙ ap (rank_of nodes (map Some front)) at_c ∙ rank,
           )
 
+      -- each step goes so
       goes : (k : ℕ) → k + 1 < length entries → Goes k
       goes k below =
           let long : length entries ≡ length (front_of nodes f) + 1 = length-append (front_of nodes f) (c ∷ []) in

@@ -22,15 +22,19 @@ in_range a n k low high =
     let sum : a + (k - a) ≡ k = omega arith in
     (k - a, omega (arith, length-range_with_len a n), get_or-range_with_len a n (k - a) k within ∙ sum)
 
+-- what is made of a member is a member of what is made
 in_map : (made : ℕ → ℕ) (xs : List ℕ) (x : ℕ) → Contains xs x → Contains (map made xs) (made x)
 in_map made xs x found = (found.0, omega (arith, found.1, length-map xs made), get_or-map made xs found.0 x (made x) found.1 ∙ ap made found.2)
 
+-- a member stays one behind a new head
 in_tail : (x y : ℕ) (xs : List ℕ) → Contains xs y → Contains (x ∷ xs) y
 in_tail x y xs found = (suc found.0, omega (arith, found.1), found.2)
 
+-- nothing is not something
 none_some : (g : ℕ) → None ≡ Some g → ⊥
 none_some g same = cc
 
+-- two equal options have equal contents
 some_same : (g h : ℕ) → Some g ≡ Some h → g ≡ h
 some_same g h same = cc
 
@@ -38,7 +42,7 @@ module _ (nodes : List Node) (table : IsTable nodes) where
   laws : HasTableLaws nodes
   laws = table_laws nodes table
 
-  -- a node between a group and its end stands in it
+  -- a node between a group and its end stands in it, by no more than n steps outwards
   inside_by : (n h k : ℕ) → k ≤ n → h < k → k < end_at nodes h → is_round nodes k h ≡ true
   inside_by zero h k fuel past below = absurd (omega arith)
   inside_by (suc n) h k fuel past below =
@@ -50,9 +54,11 @@ module _ (nodes : List Node) (table : IsTable nodes) where
         | inr differ ↦ or_right (nat_eq h held.0) (is_round nodes held.0 h) (inside_by n h held.0 (omega arith) (omega (arith, held.1)) (omega arith))
       ])
 
+  -- a node between a group and its end stands in it
   pub inside_round : (h k : ℕ) → h < k → k < end_at nodes h → is_round nodes k h ≡ true
   inside_round h k past below = inside_by k h k (omega arith) past below
 
+  -- the node behind a group is a trigger
   pub trigger_is : (g : ℕ) → is_group_at nodes g ≡ true → is_trigger_at nodes (g + 1) ≡ true
   trigger_is g group = ap (λ found. is_trigger_of found (g + 1)) (laws.trigger_parent g group) ∙ eq-eqb (g + 1) (g + 1) refl
 
@@ -66,9 +72,11 @@ module _ (nodes : List Node) (table : IsTable nodes) where
     pub behind : (e : ℕ) → is_group_at nodes e ≡ false → e < entry → e < n
     pub before : (j : ℕ) → j < n → entry_for nodes j < entry
 
+  -- an entry that is no trigger does not stand directly behind its group
   plain_parent : (e h : ℕ) → is_trigger_at nodes e ≡ false → parent_at nodes e ≡ Some h → h + 1 ≡ e → ⊥
   plain_parent e h plain up same = false≢true (sym plain ∙ ap (λ found. is_trigger_of found e) up ∙ eq-eqb (h + 1) e same)
 
+  -- such an entry stands for itself
   stands_itself : (e : ℕ) → is_group_at nodes e ≡ false → is_trigger_at nodes e ≡ false → StandsFor e e
   stands_itself e entry plain = record {
     entered = ap (λ group. if group then e + 1 else e) entry;
@@ -88,6 +96,7 @@ module _ (nodes : List Node) (table : IsTable nodes) where
         (λ _. less);
   }
 
+  -- a trigger stands for its group
   stands_trigger : (g : ℕ) → is_group_at nodes g ≡ true → StandsFor g (g + 1)
   stands_trigger g group = record {
     entered = ap (λ is. if is then g + 1 else g) group;
@@ -102,16 +111,19 @@ module _ (nodes : List Node) (table : IsTable nodes) where
     before = λ j less. cond_both (is_group_at nodes j) (j + 1) j (λ x. x < g + 1) (λ _. omega arith) (λ _. omega arith);
   }
 
+  -- each trigger stands for some node
   trigger_of : (e : ℕ) (found : Option ℕ) → parent_at nodes e ≡ found → is_trigger_of found e ≡ true → (n : ℕ) × StandsFor n e
   trigger_of e None up trigger = absurd (false≢true trigger)
   trigger_of e (Some g) up trigger = (g, subst (StandsFor g) (eqb-true (g + 1) e trigger) (stands_trigger g (laws.parent_is_group e g up)))
 
+  -- each entry stands for some node
   pub stands : (e : ℕ) → is_group_at nodes e ≡ false → (n : ℕ) × StandsFor n e
   stands e entry = elim (cases_Bool (is_trigger_at nodes e)) [
     | inl trigger ↦ trigger_of e (parent_at nodes e) refl trigger
     | inr plain ↦ (e, stands_itself e entry plain)
   ]
 
+  -- the entry of a later sibling is among the entries of its level
   sibling_in : (i n : ℕ) → i < n → n < length nodes → parent_at nodes i ≡ parent_at nodes n → Contains (map (entry_for nodes) (later_siblings nodes i)) (entry_for nodes n)
   unfolding later_siblings
   sibling_in i n past within same =
@@ -119,20 +131,24 @@ module _ (nodes : List Node) (table : IsTable nodes) where
       in_map (entry_for nodes) (later_siblings nodes i) n
       (kept (are_siblings nodes i) (range_with_len (i + 1) (length nodes - (i + 1))) n at.0 at.1 at.2 (siblings_same nodes i n same))
 
+  -- where no groups stand round a node, none does
   no_groups : (i g : ℕ) → [] ≡ groups_round nodes i → is_round nodes i g ≡ true → ⊥
   no_groups i g is round = false≢true (ap (list_any (nat_eq g)) is ∙ round)
 
+  -- and it has no parent
   outside_of : (i : ℕ) (found : Option ℕ) → parent_at nodes i ≡ found → [] ≡ groups_round nodes i → parent_at nodes i ≡ None
   outside_of i None up is = up
   outside_of i (Some g) up is =
       absurd (no_groups i g is (round_some nodes table i g g up ∙ or_left (nat_eq g g) (is_round nodes g g) (eq-eqb g g refl)))
 
+  -- a group round a node that is not its parent stands round its parent
   further_round : (i g n : ℕ) → parent_at nodes i ≡ Some g → (parent_at nodes i ≡ parent_at nodes n → ⊥)
       → ((h : ℕ) → parent_at nodes n ≡ Some h → is_round nodes i h ≡ true) → (h : ℕ) → parent_at nodes n ≡ Some h → is_round nodes g h ≡ true
   further_round i g n up differ round h held = ⊎_elim
       (λ same. absurd (differ (up ∙ ap Some (sym (eqb-true h g same)) ∙ sym held)))
       (λ further. further) (or_cases (nat_eq h g) (is_round nodes g h) (sym (round_some nodes table i g h up) ∙ round h held))
 
+  -- two parents are the same or not
   same_or_not : (a b : Option ℕ) → (a ≡ b) ⊎ (a ≡ b → ⊥)
   same_or_not None None = inl refl
   same_or_not None (Some h) = inr (none_some h)
@@ -160,6 +176,7 @@ module _ (nodes : List Node) (table : IsTable nodes) where
             (in_outward groups g n up.1 (omega (arith, laws.parent_before i g up.0)) within (further_round i g n up.0 differ round)))
       ]
 
+  -- a group round a sibling stands round the node
   sibling_round : (i j g : ℕ) → are_siblings nodes i j ≡ true → is_round nodes j g ≡ true → is_round nodes i g ≡ true
   sibling_round i j g siblings round =
       ap (list_any (nat_eq g)) (same_groups nodes table i j (parent_at nodes j) (same_parent (parent_at nodes i) (parent_at nodes j) siblings) refl) ∙ round

@@ -8,4 +8,5 @@ pub mod Members
 pub mod Groups
 pub mod Lawful
 pub mod Making
+pub mod Kept
 pub mod TableNames

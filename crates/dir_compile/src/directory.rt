@@ -1,7 +1,9 @@
-//! A directory and what it has under a name.
+//! A directory: what it has under a name, its segment tables, and their collisions.
 ghost use Rattle.std.specs.Str.{bytes_eq};
 ghost use Rattle.std.specs.Prelude.{[], ◌&&◌, ◌∷◌, ◌≡◌, ◌<◌, All, IfOk, IfErr, IfSome, Some, length, map, position, slice_get};
 ghost use Rattle.std.specs.Option.{option_copied, option_map};
+ghost use Rattle.collision_check.specs.Listed.{collision_seen};
+ghost use Rattle.edi_tables.specs.Collisions.{collisions_of};
 ghost use Rattle.edi_tables.specs.Rows.{nodes_of, table_faults};
 ghost use Rattle.service_tables.specs.ServiceTables.{contrl_table_rows};
 ghost use Rattle.dir_compile.specs.Stop.{IsMemory};
@@ -17,13 +19,18 @@ ghost use Rattle.dir_compile.specs.Directory.{
 
 use crate::names::{index_composites, index_lists, index_messages, index_segments, six_octets};
 use crate::{CompileStop, Parts};
-use edi_tables::{Code, CodeList, CompositeDef, MessageDef, SegmentDef, Table, TableRow, Tag};
+use collision_check::{Collision, list_collisions};
+use edi_tables::{
+    Code, CodeList, CompositeDef, List, MessageDef, SegmentDef, Table, TableRow, Tag,
+};
 use indexmap::IndexSet;
 use service_tables::contrl_rows;
 use std::alloc::Global;
 use std::marker::Model;
 
 /// A directory without fault, seen as its parts in ascending order of names.
+///
+/// It keeps a segment table for CONTRL and for each message, and the collisions of each table.
 #[derive(Drop)]
 pub struct Directory {
     parts: Parts,
@@ -32,6 +39,7 @@ pub struct Directory {
     segments: IndexSet<[u8; 3]>,
     messages: IndexSet<[u8; 6]>,
     tables: Vec<Table>,
+    collisions: Vec<List<Collision>>,
 }
 
 impl Model for Directory {
@@ -60,6 +68,7 @@ impl Directory {
         let segments = index_segments(alloc, parts.segments.items())?;
         let messages = index_messages(alloc, parts.messages.items())?;
         let tables = build_tables(alloc, parts.messages.items())?;
+        let collisions = find_collisions(alloc, &tables)?;
         Ok(Directory {
             parts,
             lists,
@@ -67,6 +76,7 @@ impl Directory {
             segments,
             messages,
             tables,
+            collisions,
         })
     }
 
@@ -147,6 +157,14 @@ impl Directory {
         }
     }
 
+    /// Where the table of that number can place one list of segments in two ways, in order.
+    pub fn collisions(&self, i: usize) -> &[Collision]
+        requires { i < length (tables_of self.now) }
+        ensures { option_map collisions_of (slice_get (tables_of self.now) i) ≡ Some (map collision_seen result.now) }
+    {
+        self.collisions[i].items()
+    }
+
     /// The segment of that tag, if it defines one.
     pub fn segment(&self, tag: Tag) -> Option<&SegmentDef>
         ensures { option_copied result ≡ named_in segment_name self.now.segments tag.octets }
@@ -196,6 +214,18 @@ fn build_tables(alloc: Global, messages: &[MessageDef]) -> Result<Vec<Table>, Co
         tables.push(build_table(alloc, message.rows.items())?)?;
     }
     Ok(tables)
+}
+
+/// The collisions of each of these tables.
+fn find_collisions(alloc: Global, tables: &[Table]) -> Result<Vec<List<Collision>>, CompileStop>
+    ensures ok { IfOk result (λ collisions. map (map collision_seen) collisions.items ≡ map collisions_of tables.now) }
+    ensures err { IfErr result IsMemory }
+{
+    let mut collisions = Vec::with_capacity(alloc, tables.len())?;
+    for table in tables {
+        collisions.push(List::of(list_collisions(alloc, table)?))?;
+    }
+    Ok(collisions)
 }
 
 fn build_table(alloc: Global, rows: &[TableRow]) -> Result<Table, CompileStop>

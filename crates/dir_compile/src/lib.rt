@@ -1,4 +1,4 @@
-//! A directory from its parts.
+//! A directory from its parts, with its segment tables and their collisions.
 #![tactic(auto)]
 
 mod build;

@@ -1,12 +1,14 @@
-//! What `compile` answers of small parts, worked out by hand.
+//! What `compile` answers of small parts, and what a table of theirs can place in two ways, worked out by hand.
 ghost use Rattle.std.specs.Prelude.{◌≡◌, ◌<◌, All, IfOk, length};
 
 use crate::{CompileKind, CompileStop, Parts, compile};
+use collision_check::Collision;
 use edi_tables::{
     Chunk, Class, Code, CodeList, CompositeDef, ElementDef, ItemDef, List, MessageDef, PartDef,
     Repr, SegmentDef, TableRow, Tag,
 };
 use std::alloc::{AllocError, Global};
+use std::process::Abort;
 use std::test::Fail;
 
 /// What differs from case to case: the first element, the composite's part, the segment's tag and item, and the last two rows.
@@ -53,6 +55,14 @@ fn row(tag: [u8; 3]) -> TableRow {
     }
 }
 
+fn optional_row(tag: [u8; 3], max: u32) -> TableRow {
+    TableRow {
+        must: false,
+        max,
+        ..row(tag)
+    }
+}
+
 fn element(octets: [u8; 4]) -> ElementDef {
     ElementDef {
         code: Code { octets },
@@ -84,21 +94,23 @@ fn composites(alloc: Global, case: &Case) -> Result<List<CompositeDef>, AllocErr
     Ok(List::of(items))
 }
 
-fn segments(alloc: Global, case: &Case) -> Result<List<SegmentDef>, AllocError> {
-    let items = vec![in alloc; case.item]?;
-    let segment = SegmentDef {
-        tag: Tag { octets: case.tag },
+fn segment(alloc: Global, octets: [u8; 3], item: ItemDef) -> Result<SegmentDef, AllocError> {
+    let items = vec![in alloc; item]?;
+    Ok(SegmentDef {
+        tag: Tag { octets },
         items: List::of(items),
-    };
-    let segments = vec![in alloc; segment]?;
+    })
+}
+
+fn segments(alloc: Global, case: &Case) -> Result<List<SegmentDef>, AllocError> {
+    let segments = vec![in alloc; segment(alloc, case.tag, case.item)?]?;
     Ok(List::of(segments))
 }
 
-fn messages(alloc: Global, case: &Case) -> Result<List<MessageDef>, AllocError>
+fn messages(alloc: Global, rows: Vec<TableRow>) -> Result<List<MessageDef>, AllocError>
     ensures named { IfOk result (λ l. All (λ m. length m.name ≡ 6) l) }
     ensures few { IfOk result (λ l. length l < 4000000000) }
 {
-    let rows = vec![in alloc; row(*b"UNH"), row(case.row), row(case.last)]?;
     let name = Chunk::of(alloc, b"INVOIC")?;
     let message = MessageDef {
         name,
@@ -112,7 +124,8 @@ fn parts(alloc: Global, case: &Case) -> Result<Parts, AllocError>
     ensures named { IfOk result (λ p. All (λ m. length m.name ≡ 6) p.messages) }
     ensures few { IfOk result (λ p. length p.messages < 4000000000) }
 {
-    let messages = messages(alloc, case)?;
+    let rows = vec![in alloc; row(*b"UNH"), row(case.row), row(case.last)]?;
+    let messages = messages(alloc, rows)?;
     let elements = elements(alloc, case)?;
     let lists = lists(alloc)?;
     let composites = composites(alloc, case)?;
@@ -126,6 +139,33 @@ fn parts(alloc: Global, case: &Case) -> Result<Parts, AllocError>
         composites,
         segments,
         messages,
+    })
+}
+
+/// Parts with one message, where DTM may stand before RFF or behind it.
+fn dated_parts(alloc: Global) -> Result<Parts, AllocError>
+    ensures named { IfOk result (λ p. All (λ m. length m.name ≡ 6) p.messages) }
+    ensures few { IfOk result (λ p. length p.messages < 4000000000) }
+{
+    let rows = vec![in alloc;
+        row(*b"UNH"),
+        row(*b"BGM"),
+        optional_row(*b"DTM", 5),
+        optional_row(*b"RFF", 1),
+        optional_row(*b"DTM", 1),
+        row(*b"UNT"),
+    ]?;
+    let segments = vec![in alloc;
+        segment(alloc, *b"BGM", GOOD.item)?,
+        segment(alloc, *b"DTM", GOOD.item)?,
+        segment(alloc, *b"RFF", GOOD.item)?,
+    ]?;
+    let messages = messages(alloc, rows)?;
+    let parts = parts(alloc, &GOOD)?;
+    Ok(Parts {
+        segments: List::of(segments),
+        messages,
+        ..parts
     })
 }
 
@@ -241,5 +281,46 @@ fn each_fault_comes_with_its_name(rt: HostRuntime) -> Result<(), Fail> {
         let told = has_fault(rt.alloc(), case, *kind, *name)?;
         assert!(rt; told);
     }
+    Ok(())
+}
+
+/// Asserts that a collision has these tags and these two lists of entries.
+fn assert_collision(
+    rt: &impl Abort,
+    collision: &Collision,
+    tags: &[&[u8; 3]],
+    first: &[u16],
+    second: &[u16],
+) {
+    assert_eq!(rt; collision.front.items().len(), tags.len());
+    for (tag, name) in collision.front.items().iter().zip(tags) {
+        assert_eq!(rt; tag.octets, **name);
+    }
+    assert_eq!(rt; collision.first.items(), first);
+    assert_eq!(rt; collision.second.items(), second);
+}
+
+#[test]
+fn each_table_comes_with_its_own_collisions(rt: HostRuntime) -> Result<(), Fail> {
+    let parts = dated_parts(rt.alloc())?;
+    let directory = compile(rt.alloc(), parts)?;
+    assert_eq!(rt; directory.table_count(), 2);
+    assert!(rt; directory.collisions(0).is_empty());
+    let dated = directory.collisions(1);
+    assert_eq!(rt; dated.len(), 2);
+    assert_collision(
+        &rt,
+        &dated[0],
+        &[b"UNH", b"BGM", b"DTM"],
+        &[0, 1, 2],
+        &[0, 1, 4],
+    );
+    assert_collision(
+        &rt,
+        &dated[1],
+        &[b"UNH", b"BGM", b"DTM", b"DTM"],
+        &[0, 1, 2, 2],
+        &[0, 1, 2, 4],
+    );
     Ok(())
 }

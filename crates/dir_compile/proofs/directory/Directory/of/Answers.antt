@@ -1,8 +1,10 @@
 use Rattle.std.proofs.Common.{◌≡◌, ◌∙◌, ◌∷◌, [], All, map, subst, sym, ap}
 use Rattle.std.proofs.lemmas.Result.{err_from_is_err_and}
+use Rattle.edi_tables.specs.Collisions.{collisions_of}
 use Rattle.edi_tables.specs.Rows.{nodes_of, table_faults}
 use Rattle.service_tables.specs.ServiceTables.{contrl_table_rows}
 use Rattle.dir_compile.specs.Compile.{twice_in, list_name, composite_name, segment_name, message_name}
+use Rattle.dir_compile.specs.Directory.{tables_of}
 use Rattle.dir_compile.proofs.Groups.{fault-free}
 use Rattle.dir_compile.proofs.Making.{memory-only, memory-on, tables-free}
 use Rattle.dir_compile.proofs.directory.Directory.of.Goals as goal
@@ -40,14 +42,23 @@ returns-in_err-tables-clause-err c =
     let p = err_from_is_err_and c.from_residual-in_err-tables.result c.from_residual-in_err-tables.ensures.1 in
     memory-on _ _ _ p.1 p.2 c.in_err-tables.ensures.err
 
+pub returns-in_err-collisions-clause-err : goal.returns-in_err-collisions-clause-err
+returns-in_err-collisions-clause-err c =
+    let p = err_from_is_err_and c.from_residual-in_err-collisions.result c.from_residual-in_err-collisions.ensures.1 in
+    memory-on _ _ _ p.1 p.2 c.in_err-collisions.ensures.err
+
 pub invariant_of-result : goal.invariant_of-result
-invariant_of-result c = record {
-  lawful = c.requires.lawful;
-  few = c.requires.few;
-  named = c.requires.named;
-  lists = c.in_ok-lists.ensures.placed ∙ ap (map list_name) c.items.ensures;
-  composites = c.in_ok-composites.ensures.placed ∙ ap (map composite_name) c.items-2.ensures;
-  segments = c.in_ok-segments.ensures.placed ∙ ap (map segment_name) c.items-3.ensures;
-  messages = c.in_ok-messages.ensures.placed ∙ ap (map message_name) c.items-4.ensures;
-  tables = c.in_ok-tables.ensures.ok ∙ ap (λ l. nodes_of contrl_table_rows ∷ map (λ m. nodes_of m.rows) l) c.items-5.ensures;
-}
+invariant_of-result c =
+    let tables : c.in_ok-tables.tables.items ≡ tables_of c.args.parts =
+    c.in_ok-tables.ensures.ok ∙ ap (λ l. nodes_of contrl_table_rows ∷ map (λ m. nodes_of m.rows) l) c.items-5.ensures in
+    record {
+      lawful = c.requires.lawful;
+      few = c.requires.few;
+      named = c.requires.named;
+      lists = c.in_ok-lists.ensures.placed ∙ ap (map list_name) c.items.ensures;
+      composites = c.in_ok-composites.ensures.placed ∙ ap (map composite_name) c.items-2.ensures;
+      segments = c.in_ok-segments.ensures.placed ∙ ap (map segment_name) c.items-3.ensures;
+      messages = c.in_ok-messages.ensures.placed ∙ ap (map message_name) c.items-4.ensures;
+      tables = tables;
+      collisions = c.in_ok-collisions.ensures.ok ∙ ap (map collisions_of) (c.deref.ensures.value ∙ tables);
+    }

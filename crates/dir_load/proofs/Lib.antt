@@ -1,2 +1,6 @@
+pub mod GatherLemmas
+pub mod LoadLemmas
 pub mod ManifestLemmas
+pub mod NameLemmas
+pub mod ReadLemmas
 pub mod WordLemmas

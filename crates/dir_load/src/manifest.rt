@@ -54,7 +54,8 @@ pub struct Manifest {
 #[tactic(auto, unfolding(crate::specs::Manifest::manifest_in))]
 pub fn read_manifest(alloc: Global, octets: &[u8]) -> Result<Manifest, DirStop>
     requires { length octets.now ≤ 4194304 }
-    ensures { Gives (λ manifest. manifest) result (manifest_in octets.now) }
+    ensures reads { Gives (λ manifest. manifest) result (manifest_in octets.now) }
+    ensures few { IfOk result (λ manifest. length manifest.files ≤ 400) }
 {
     let mut lines = CountedLines::of(octets);
     let Some(head) = lines.next() else {
@@ -72,7 +73,8 @@ pub fn read_manifest(alloc: Global, octets: &[u8]) -> Result<Manifest, DirStop>
 
 // The files of a manifest's later lines.
 fn read_files(alloc: Global, lines: CountedLines<'_>) -> Result<Vec<FileLine>, DirStop>
-    ensures { Gives (λ files. files.items) result
+    ensures few { IfOk result (λ files. length files.items ≤ 400) }
+    ensures reads { Gives (λ files. files.items) result
         (unless_faulty (flat_map (λ p. file_faults p.0 p.1) (with_earlier (counted_left lines.entry))) (files_on (counted_left lines.entry))) }
 {
     let mut files = Vec::new(alloc);
@@ -176,6 +178,7 @@ fn read_line(alloc: Global, line: &LineText<'_>, files: &mut Vec<FileLine>) -> R
         → Gives (λ done. done) result (unless_faulty (file_faults earlier (line_shown line.now)) tt) }
     ensures joins { OnOk result (files.new.items ≡ files.old.items ++ files_on (line_shown line.now ∷ [])) }
     ensures one { OnOk result (length files.new.items ≡ length files.old.items + 1) }
+    ensures few { OnOk result (length files.new.items ≤ 400) }
 {
     let Some(file) = read_file_line(alloc, line.octets)? else {
         return Err(stop_at(DirKind::BadLine, line.number));

@@ -20,12 +20,13 @@ loop-line-preserved c =
     let more = ap files_on pushed ∙ filter_map-append (λ l. file_on (words_of l)) (map line_shown seen) (line_shown line ∷ []) in
     record {
       files = cc (c.in_ok-read_line.ensures.joins);
+      few = c.in_ok-read_line.ensures.few;
       each = rw pushed (omega (arith, length-append (map line_shown seen) (line_shown line ∷ []), held.each, c.in_ok-read_line.ensures.one));
       none = judged-turn line_shown counted_left (λ p. file_faults p.0 p.1) seen line held.none judged.0;
     }
 
-pub returns-in_err-read_line : goal.returns-in_err-read_line
-returns-in_err-read_line c =
+pub returns-in_err-read_line-clause-reads : goal.returns-in_err-read_line-clause-reads
+returns-in_err-read_line-clause-reads c =
     let seen = c.loop-line.yielded in
     let line = c.in-Some.line in
     let rest = counted_left c.args.lines in

@@ -10,22 +10,22 @@ use Rattle.dir_load.specs.Manifest.{file_faults, files_on, labels_on, words_in}
 use Rattle.dir_load.proofs.ManifestLemmas.{manifest_in-labels, unless_faulty-same}
 use Rattle.dir_load.proofs.manifest.read_manifest.Goals as goal
 
-pub returns-in_err-files : goal.returns-in_err-files
-returns-in_err-files c =
+pub returns-in_err-files-clause-reads : goal.returns-in_err-files-clause-reads
+returns-in_err-files-clause-reads c =
     let rest = counted_left c.next.new.self in
     let stop = c.in_err-files.field-0.0 in
     let found : labels_on (words_in c.in-Some.head.octets.now) ≡ Some c.in-Some-2.labels = cc (c.in_ok-labels.ensures, c.in-Some-2.is) in
     let faults = flat_map (λ p. file_faults p.0 p.1) (with_earlier rest) in
     let whole = manifest_in-labels c.args.octets.now (line_shown c.in-Some.head) rest c.in-Some-2.labels (sym c.of-lines.ensures ∙ c.in-Some.ensures.steps) found in
     let part = unless_faulty faults (files_on rest) in
-    let stopped = Gives-stopped (λ files. files) (λ manifest. manifest) stop part _ (λ fault is. unless_faulty-same faults (files_on rest) (record { labels = c.in-Some-2.labels; files = files_on rest }) fault is) c.in_err-files.ensures in
+    let stopped = Gives-stopped (λ files. files) (λ manifest. manifest) stop part _ (λ fault is. unless_faulty-same faults (files_on rest) (record { labels = c.in-Some-2.labels; files = files_on rest }) fault is) c.in_err-files.ensures.reads in
     rw whole (Gives-handed_on _ c.from_residual-in_err-files.result stop _ (err_from_is_err_and c.from_residual-in_err-files.result c.from_residual-in_err-files.ensures.1) stopped)
 
-pub returns : goal.returns
-returns c =
+pub returns-clause-reads : goal.returns-clause-reads
+returns-clause-reads c =
     let rest = counted_left c.next.new.self in
     let found : labels_on (words_in c.in-Some.head.octets.now) ≡ Some c.in-Some-2.labels = cc (c.in_ok-labels.ensures, c.in-Some-2.is) in
     let faults = flat_map (λ p. file_faults p.0 p.1) (with_earlier rest) in
     let whole = manifest_in-labels c.args.octets.now (line_shown c.in-Some.head) rest c.in-Some-2.labels (sym c.of-lines.ensures ∙ c.in-Some.ensures.steps) found in
-    let read = none_from_ok faults (files_on rest) c.in_ok-files.files.items c.in_ok-files.ensures in
+    let read = none_from_ok faults (files_on rest) c.in_ok-files.files.items c.in_ok-files.ensures.reads in
     whole ∙ rw read.0 (cc (read.1, c.of.ensures))

@@ -8,7 +8,7 @@ use Rattle.seg_lexer.specs.Fields.{Entry}
 use Rattle.seg_lexer.specs.declared.service.Service.{Service}
 use Rattle.seg_lexer.specs.Segments.{segments_of, tail_of}
 use Rattle.seg_lexer.specs.Service.{service_of}
-use Rattle.edicheck_core.specs.declared.form.Form.{Form}
+use Rattle.edicheck_core.specs.declared.form.Detail.{Detail}
 use Rattle.edicheck_core.specs.Printing.{printed, part_line, value_lines, lines_from, segment_lines, count_line, tail_line}
 
 -- the list from place k on begins with what stands there
@@ -18,15 +18,15 @@ drop_at xs k x is =
     rw (add-one, drop-cons xs k x) (ap (λ y. y ∷ drop (suc k) xs) (get_or_from_slice_get xs k x x is))
 
 -- behind the lines of the first k segments come those of the next one
-pub lines_next : (form : Form) (service : Service) (text : List ℕ) (segments : List (ℕ × ℕ)) (k : ℕ) (p : ℕ × ℕ) (before after all : List ℕ) → slice_get segments k ≡ Some p → before ++ lines_from form service text (k + 1) (drop k segments) ≡ all → after ≡ before ++ segment_lines form service text (k + 1) p → after ++ lines_from form service text (k + 1 + 1) (drop (k + 1) segments) ≡ all
-lines_next form service text segments k p before after all is so_far next =
-    rw next (append_assoc before (segment_lines form service text (k + 1) p) (lines_from form service text (k + 1 + 1) (drop (k + 1) segments)) ∙ sym (ap (λ (xs : List (ℕ × ℕ)). before ++ lines_from form service text (k + 1) xs) (drop_at segments k p is)) ∙ so_far)
+pub lines_next : (detail : Detail) (service : Service) (text : List ℕ) (segments : List (ℕ × ℕ)) (k : ℕ) (p : ℕ × ℕ) (before after all : List ℕ) → slice_get segments k ≡ Some p → before ++ lines_from detail service text (k + 1) (drop k segments) ≡ all → after ≡ before ++ segment_lines detail service text (k + 1) p → after ++ lines_from detail service text (k + 1 + 1) (drop (k + 1) segments) ≡ all
+lines_next detail service text segments k p before after all is so_far next =
+    rw next (append_assoc before (segment_lines detail service text (k + 1) p) (lines_from detail service text (k + 1 + 1) (drop (k + 1) segments)) ∙ sym (ap (λ (xs : List (ℕ × ℕ)). before ++ lines_from detail service text (k + 1) xs) (drop_at segments k p is)) ∙ so_far)
 
 -- behind the last segment no lines come
-pub lines_last : (form : Form) (service : Service) (text : List ℕ) (segments : List (ℕ × ℕ)) (k : ℕ) (lines all : List ℕ) → length segments ≡ k → lines ++ lines_from form service text (k + 1) (drop k segments) ≡ all → lines ≡ all
-lines_last form service text segments k lines all is so_far =
+pub lines_last : (detail : Detail) (service : Service) (text : List ℕ) (segments : List (ℕ × ℕ)) (k : ℕ) (lines all : List ℕ) → length segments ≡ k → lines ++ lines_from detail service text (k + 1) (drop k segments) ≡ all → lines ≡ all
+lines_last detail service text segments k lines all is so_far =
     let none : drop k segments ≡ [] = drop_all k segments (omega arith) in
-    sym (append-nil lines) ∙ sym (ap (λ (xs : List (ℕ × ℕ)). lines ++ lines_from form service text (k + 1) xs) none) ∙ so_far
+    sym (append-nil lines) ∙ sym (ap (λ (xs : List (ℕ × ℕ)). lines ++ lines_from detail service text (k + 1) xs) none) ∙ so_far
 
 -- a tail begins inside the text
 pub tail_within : (service : Service) (text : List ℕ) (start : ℕ) → tail_of service text ≡ Some start → start < length text
@@ -36,10 +36,10 @@ tail_within service text start is =
     subst (λ (x : ℕ). x < length text) found.1 (ltb-true _ _ found.0)
 
 -- the count and the lines are the printed form
-pub printed_is : (form : Form) (text lines : List ℕ) (n : ℕ) → n ≡ length (segments_of (service_of text) text) → lines ≡ lines_from form (service_of text) text 1 (segments_of (service_of text) text) ++ tail_line text (tail_of (service_of text) text) → count_line n ++ lines ≡ printed form text
+pub printed_is : (detail : Detail) (text lines : List ℕ) (n : ℕ) → n ≡ length (segments_of (service_of text) text) → lines ≡ lines_from detail (service_of text) text 1 (segments_of (service_of text) text) ++ tail_line text (tail_of (service_of text) text) → count_line n ++ lines ≡ printed detail text
 unfolding printed
-printed_is form text lines n n_is lines_is =
-    rw (n_is, lines_is) (sym (append_assoc (count_line (length (segments_of (service_of text) text))) (lines_from form (service_of text) text 1 (segments_of (service_of text) text)) (tail_line text (tail_of (service_of text) text))))
+printed_is detail text lines n n_is lines_is =
+    rw (n_is, lines_is) (sym (append_assoc (count_line (length (segments_of (service_of text) text))) (lines_from detail (service_of text) text 1 (segments_of (service_of text) text)) (tail_line text (tail_of (service_of text) text))))
 
 -- behind the lines of the components so far come those of the next one
 pub parts_next : (before all : List ℕ) (entries more : List Entry) (e : Entry) → entries ≡ e ∷ more → before ++ value_lines entries ≡ all → (before ++ part_line e) ++ value_lines more ≡ all

@@ -8,8 +8,8 @@ use Rattle.seg_lexer.specs.Service.{service_of}
 use Rattle.seg_lexer.specs.Segments.{segments_of, tail_of}
 use Rattle.seg_lexer.specs.Fields.{Entry, entries_of}
 use Rattle.seg_lexer.specs.Tag.{tag_of}
-use Rattle.edicheck_core.specs.declared.form.Form.{Form}
-use Rattle.edicheck_core.specs.declared.form.Form.TheVariants.{Segments, Values}
+use Rattle.edicheck_core.specs.declared.form.Detail.{Detail}
+use Rattle.edicheck_core.specs.declared.form.Detail.TheVariants.{Segments, Values}
 
 -- a segment's tag, or `---` where it has none
 abbrev pub tag_shown : Option (List ℕ) → List ℕ
@@ -48,15 +48,15 @@ segment_line k p tag =
     decimal k ++ codes " " ++ decimal p.0 ++ codes " " ++ decimal p.1 ++ codes " " ++ tag_shown tag ++ 10 ∷ []
 
 -- what is printed of segment k: its line, and with `values` its values
-unfoldable pub segment_lines : Form → Service → List ℕ → ℕ → ℕ × ℕ → List ℕ
+unfoldable pub segment_lines : Detail → Service → List ℕ → ℕ → ℕ × ℕ → List ℕ
 segment_lines Segments service text k p = segment_line k p (tag_of (segment_entries service text p))
 segment_lines Values service text k p =
     segment_line k p (tag_of (segment_entries service text p)) ++ value_lines (segment_entries service text p)
 
 -- what is printed of segments, numbered from k
-abbrev pub lines_from : Form → Service → List ℕ → ℕ → List (ℕ × ℕ) → List ℕ
-lines_from form service text k [] = []
-lines_from form service text k (p ∷ ps) = segment_lines form service text k p ++ lines_from form service text (k + 1) ps
+abbrev pub lines_from : Detail → Service → List ℕ → ℕ → List (ℕ × ℕ) → List ℕ
+lines_from detail service text k [] = []
+lines_from detail service text k (p ∷ ps) = segment_lines detail service text k p ++ lines_from detail service text (k + 1) ps
 
 -- the line of a tail: its first octet and its length
 abbrev pub tail_line : List ℕ → Option ℕ → List ℕ
@@ -68,7 +68,7 @@ abbrev pub count_line : ℕ → List ℕ
 count_line n = codes "segments " ++ decimal n ++ 10 ∷ []
 
 -- the printed form of a text: how many segments it has, each of them, and its tail
-unfoldable pub printed : Form → List ℕ → List ℕ
-printed form text =
+unfoldable pub printed : Detail → List ℕ → List ℕ
+printed detail text =
     let service = service_of text in
-    count_line (length (segments_of service text)) ++ lines_from form service text 1 (segments_of service text) ++ tail_line text (tail_of service text)
+    count_line (length (segments_of service text)) ++ lines_from detail service text 1 (segments_of service text) ++ tail_line text (tail_of service text)

@@ -1,35 +1,57 @@
 //! The forms of words.
 ghost use Rattle.std.specs.Prelude.{◌≡◌};
-ghost use Rattle.edicheck_core.specs.Form.{form_of, lone_word};
+ghost use Rattle.std.specs.Option.{option_map};
+ghost use Rattle.edicheck_core.specs.Form.{form_of, form_shown, lone_word, with_manifest};
 
+use edi_octets::is_name;
 use edi_tables::Chunk;
 
-/// What the words ask for.
+/// How much is printed of a text.
 #[derive(Clone, Copy, Debug, PartialEq, Eq)]
-pub enum Form {
-    /// The segments of the text on the input.
+pub enum Detail {
+    /// Its segments.
     Segments,
-    /// The same, with their values.
+    /// Its segments with their values.
     Values,
 }
 
+/// What the words ask for.
+#[derive(Clone, Copy, Debug)]
+pub enum Form<'a> {
+    /// The text on the input, in this detail.
+    Text(Detail),
+    /// The segment tables of the directory of the manifest of this name.
+    Tables(&'a [u8]),
+}
+
 /// The form of the words; `None` where they are of no form.
-pub fn read_form(words: &[Chunk]) -> Option<Form>
-    ensures { result ≡ form_of words.now }
+pub fn read_form(words: &[Chunk]) -> Option<Form<'_>>
+    ensures { option_map form_shown result ≡ form_of words.now }
 {
     match words {
         [word] => read_lone_word(word.octets()),
+        [word, manifest] => read_with_manifest(word.octets(), manifest.octets()),
         _ => None,
     }
 }
 
-fn read_lone_word(word: &[u8]) -> Option<Form>
-    ensures { result ≡ lone_word word.now }
+fn read_lone_word(word: &[u8]) -> Option<Form<'static>>
+    ensures { option_map form_shown result ≡ lone_word word.now }
 {
     if word == b"segments".as_slice() {
-        Some(Form::Segments)
+        Some(Form::Text(Detail::Segments))
     } else if word == b"values".as_slice() {
-        Some(Form::Values)
+        Some(Form::Text(Detail::Values))
+    } else {
+        None
+    }
+}
+
+fn read_with_manifest<'a>(word: &[u8], manifest: &'a [u8]) -> Option<Form<'a>>
+    ensures { option_map form_shown result ≡ with_manifest word.now manifest.now }
+{
+    if word == b"tables".as_slice() && is_name(manifest) {
+        Some(Form::Tables(manifest))
     } else {
         None
     }

@@ -5,11 +5,13 @@ mod form;
 mod made;
 mod print;
 mod print_line;
+mod print_stop;
+mod print_table;
 mod print_value;
 mod program;
 mod status;
 
-pub use form::{Form, read_form};
+pub use form::{Detail, Form, read_form};
 pub use program::run;
 pub use status::Status;
 

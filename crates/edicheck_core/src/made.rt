@@ -1,9 +1,11 @@
 //! What a run comes to before its first octet is put.
-ghost use Rattle.std.specs.Prelude.{◌≡◌};
+ghost use Rattle.std.specs.Prelude.{◌≡◌, MatchResult, codes};
+ghost use Rattle.edicheck_core.specs.Answer.{last_line};
 ghost use Rattle.edicheck_core.specs.Made.{octets_of};
 
 use crate::Status;
 use edi_tables::Chunk;
+use std::alloc::AllocError;
 
 /// A whole output: made octets, or a line that needs no memory.
 #[derive(Debug, Drop)]
@@ -39,6 +41,30 @@ impl Made {
         Made {
             status,
             output: Output::Line(line),
+        }
+    }
+
+    /// That memory was refused.
+    pub fn memory() -> Made
+        ensures status { result.status ≡ Status.Memory }
+        ensures output { octets_of result.output ≡ last_line (codes "fault memory") }
+    {
+        Made::line(Status::Memory, b"fault memory\n")
+    }
+
+    /// A status with its printed output, unless memory was refused for that.
+    pub fn printed(status: Status, printed: Result<Chunk, AllocError>) -> Made
+        ensures status { MatchResult printed (λ _. result.status ≡ status) (λ _. result.status ≡ Status.Memory) }
+        ensures output { MatchResult printed
+            (λ octets. octets_of result.output ≡ octets)
+            (λ _. octets_of result.output ≡ last_line (codes "fault memory")) }
+    {
+        match printed {
+            Ok(octets) => Made {
+                status,
+                output: Output::Text(octets),
+            },
+            Err(_) => Made::memory(),
         }
     }
 }

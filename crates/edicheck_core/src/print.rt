@@ -4,7 +4,7 @@ ghost use Rattle.seg_lexer.specs.Segments.{segments_of, tail_of};
 ghost use Rattle.seg_lexer.specs.Service.{service_of};
 ghost use Rattle.edicheck_core.specs.Printing.{printed, lines_from, segment_lines, count_line, tail_line};
 
-use crate::Form;
+use crate::Detail;
 use crate::print_line::put_segment_line;
 use crate::print_value::put_values;
 use edi_octets::{Flat, put_decimal};
@@ -16,12 +16,12 @@ use std::sync::ledger::{Blank, Ledger};
 use step_counter::Steps;
 
 /// The printed form of a text: its segments, and with `values` their values.
-pub fn print_text(alloc: Global, form: Form, text: &[u8]) -> Result<Chunk, AllocError>
+pub fn print_text(alloc: Global, detail: Detail, text: &[u8]) -> Result<Chunk, AllocError>
     requires { length text.now ≤ 4194304 }
-    ensures { IfOk result (λ c. c ≡ printed form text.now) }
+    ensures { IfOk result (λ c. c ≡ printed detail text.now) }
 {
     let text = Flat { octets: text };
-    let listing = list_segments::<Brand>(alloc, form, &text, Blank::new(1))?;
+    let listing = list_segments::<Brand>(alloc, detail, &text, Blank::new(1))?;
     let mut out = Chunk::with_room(
         alloc,
         listing.lines.octets().len().saturating_add(COUNT_ROOM),
@@ -52,7 +52,7 @@ struct Listing {
 // The segments of a text, one pass over it.
 fn list_segments<L: Ledger>(
     alloc: Global,
-    form: Form,
+    detail: Detail,
     text: &Flat,
     blank: Blank,
 ) -> Result<Listing, AllocError>
@@ -62,7 +62,7 @@ fn list_segments<L: Ledger>(
     requires some { 0 < blank.parts }
     ensures count { IfOk result (λ l. l.count ≡ length (segments_of (service_of text.now.octets.now) text.now.octets.now)) }
     ensures lines { IfOk result (λ l. let octets = text.now.octets.now in let service = service_of octets in
-        l.lines ≡ lines_from form service octets 1 (segments_of service octets) ++ tail_line octets (tail_of service octets)) }
+        l.lines ≡ lines_from detail service octets 1 (segments_of service octets) ++ tail_line octets (tail_of service octets)) }
 {
     let mut lexed = Steps::<L>::start(blank);
     let service = read_service(text);
@@ -73,7 +73,7 @@ fn list_segments<L: Ledger>(
         match next_segment(text, &service, from, &mut lexed) {
             Lexed::Ended { start, end } => {
                 count += 1;
-                put_segment(&mut lines, form, text, &service, count, start, end)?;
+                put_segment(&mut lines, detail, text, &service, count, start, end)?;
                 from = end + 1;
             }
             Lexed::Tail { start } => {
@@ -101,7 +101,7 @@ fn put_tail(lines: &mut Chunk, text: &Flat, start: usize) -> Result<(), AllocErr
 #[tactic(auto, unfolding(crate::specs::Printing::segment_lines))]
 fn put_segment(
     lines: &mut Chunk,
-    form: Form,
+    detail: Detail,
     text: &Flat,
     service: &Service,
     number: u64,
@@ -112,7 +112,7 @@ fn put_segment(
     requires ordered { start ≤ end }
     requires within { end ≤ length text.now.octets.now }
     requires short { length text.now.octets.now ≤ 4194304 }
-    ensures { OnOk result (lines.new ≡ lines.old ++ segment_lines form service.now text.now.octets.now number (start, end)) }
+    ensures { OnOk result (lines.new ≡ lines.old ++ segment_lines detail service.now text.now.octets.now number (start, end)) }
 {
     put_segment_line(
         lines,
@@ -121,8 +121,8 @@ fn put_segment(
         end,
         read_tag(text, service, start, end),
     )?;
-    match form {
-        Form::Segments => Ok(()),
-        Form::Values => put_values(lines, fields(text, service, start, end)),
+    match detail {
+        Detail::Segments => Ok(()),
+        Detail::Values => put_values(lines, fields(text, service, start, end)),
     }
 }

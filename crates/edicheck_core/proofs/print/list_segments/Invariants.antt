@@ -10,7 +10,7 @@ invariant-loop-start g l = record {
   service : l.service ≡ service_of l.text.octets.now;
   boundary : slice_get (boundaries_of l.service l.text.octets.now) l.count ≡ Some l.from;
   few : l.count ≤ l.from;
-  lines : l.lines ++ lines_from l.form l.service l.text.octets.now (l.count + 1) (drop l.count (segments_of l.service l.text.octets.now)) ≡ lines_from l.form l.service l.text.octets.now 1 (segments_of l.service l.text.octets.now);
+  lines : l.lines ++ lines_from l.detail l.service l.text.octets.now (l.count + 1) (drop l.count (segments_of l.service l.text.octets.now)) ≡ lines_from l.detail l.service l.text.octets.now 1 (segments_of l.service l.text.octets.now);
 }
 
 abbrev pub decreases-loop-start : goal.decreases-loop-start

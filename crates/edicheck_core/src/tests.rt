@@ -2,7 +2,7 @@
 ghost use Rattle.std.specs.Prelude.{◌<◌};
 
 use crate::{Status, run};
-use edi_ports::{MemShelf, MemSink, MemSource};
+use edi_ports::{MemShelf, MemSink, MemSource, ShelfFile};
 use edi_tables::Chunk;
 use std::alloc::{AllocError, Global};
 use std::test::Fail;
@@ -14,6 +14,14 @@ const ORDER_SEGMENTS: &[u8] =
     b"segments 7\n1 0 44 UNB\n2 45 66 UNH\n3 67 80 BGM\n4 81 101 DTM\n5 102 107 UNS\n6 108 115 UNT\n7 116 124 UNZ\n";
 
 const LONGEST_TEXT: usize = 4_194_304;
+
+const MANIFEST: &[u8] = b"directory D 96A UN\nmessage t\n";
+
+const MESSAGE: &[u8] =
+    b"Message Type : TSTMSG\n0010 UNH Message header M 1\n0020 UNT Message trailer M 1\n";
+
+const MESSAGE_TABLE: &[u8] =
+    b"directory D 96A UN\ntable TSTMSG 2\n0 0 UNH M 1\n1 0 UNT M 1\ncollisions 0\n";
 
 // How a source gives a text, and how a sink takes an output: the most octets of a call, and the calls that fail.
 #[derive(Drop)]
@@ -148,5 +156,96 @@ fn refusals_have_their_lines(rt: HostRuntime) -> Result<(), Fail> {
     assert_eq!(rt; words.0, Status::Words);
     assert_eq!(rt; words.1.as_slice(), b"fault words\n".as_slice());
     assert_eq!(rt; Status::Absent.number(), 9);
+    Ok(())
+}
+
+// The status of `tables m` over a shelf of these files, and the octets that its sink holds then.
+fn tables_in_memory(
+    alloc: Global,
+    files: &[(&[u8], &[u8])],
+    most: usize,
+    failing: &[u64],
+) -> Result<(Status, Vec<u8>), AllocError>
+    requires { 0 < most }
+{
+    let mut held = Vec::new(alloc);
+    for (name, octets) in files {
+        held.push(ShelfFile {
+            name: Chunk::of(alloc, name)?,
+            octets: Chunk::of(alloc, octets)?,
+        })?;
+    }
+    let mut shelf = MemShelf::new(held, most, failing.to_vec(alloc)?);
+    let mut input = MemSource::new(Vec::new(alloc), 1, Vec::new(alloc));
+    let mut out = MemSink::new(alloc, 1000, 1000, Vec::new(alloc))?;
+    let words = vec![in alloc; Chunk::of(alloc, b"tables")?, Chunk::of(alloc, b"m")?]?;
+    let status = run(alloc, &words, &mut shelf, &mut input, &mut out);
+    Ok((status, out.octets().to_vec(alloc)?))
+}
+
+#[test]
+fn the_pieces_of_a_shelf_do_not_show(rt: HostRuntime) -> Result<(), Fail> {
+    for most in [1, 7, 1000] {
+        let (status, printed) = tables_in_memory(
+            rt.alloc(),
+            &[(b"m", MANIFEST), (b"t", MESSAGE)],
+            most,
+            &[],
+        )?;
+        assert_eq!(rt; status, Status::Done);
+        assert_eq!(rt; printed.as_slice(), MESSAGE_TABLE);
+    }
+    Ok(())
+}
+
+#[test]
+fn a_failing_call_of_a_shelf_ends_the_run_at_once(rt: HostRuntime) -> Result<(), Fail> {
+    // One octet a call: call 0 opens the manifest, 1 to 29 take its octets, 30 finds its end, 31 opens the message.
+    for call in 0..40 {
+        let (status, printed) = tables_in_memory(
+            rt.alloc(),
+            &[(b"m", MANIFEST), (b"t", MESSAGE)],
+            1,
+            &[call],
+        )?;
+        assert_eq!(rt; status, Status::ReadFault, "call {call}");
+        assert_eq!(rt; printed.as_slice(), b"fault read\n".as_slice());
+    }
+    Ok(())
+}
+
+#[test]
+fn refusals_of_files_have_their_lines(rt: HostRuntime) -> Result<(), Fail> {
+    let large = letters(rt.alloc(), LONGEST_TEXT + 1)?;
+    let unknown: &[u8] =
+        b"Message Type : TSTMSG\n0010 UNH Message header M 1\n0020 BGM Beginning M 1\n0030 UNT Message trailer M 1\n";
+    let unlike: &[u8] = b"Message Type : TSTMSG\n\n0010 UNH Message header X 1\n";
+    let rows: [(&[u8], &[u8], Status, &[u8]); 5] = [
+        (b"n", MESSAGE, Status::Absent, b"fault absent t\n"),
+        (b"t", &large, Status::TooLarge, b"fault large t\n"),
+        (
+            b"t",
+            unlike,
+            Status::BadDirectory,
+            b"fault directory t 3 bad-line\n",
+        ),
+        (
+            b"t",
+            unknown,
+            Status::BadDirectory,
+            b"fault compile unknown-segment BGM\n",
+        ),
+        (b"t", MESSAGE, Status::Done, MESSAGE_TABLE),
+    ];
+    for (name, octets, due, line) in rows {
+        let (status, printed) = tables_in_memory(
+            rt.alloc(),
+            &[(b"m", MANIFEST), (name, octets)],
+            5000,
+            &[],
+        )?;
+        assert_eq!(rt; status, due);
+        assert_eq!(rt; printed.as_slice(), line);
+    }
     Ok(())
 }

@@ -1,0 +1,1 @@
+directory D 96A UN

@@ -1,5 +1,5 @@
 -- A run answers what it came to.
-use Rattle.std.proofs.Common.{◌≡◌, true, ◌≢◌, ◌⊎◌, ◌<◌, ◌≤◌, ◌++◌, ℕ, List, [], ◌∷◌, length, Option, Some, None, Result, Ok, Err, IfOk, MatchResult, IfSome, codes, refl, sym, ap, ◌∙◌, subst, inl, inr, arith}
+use Rattle.std.proofs.Common.{◌≡◌, true, ◌≢◌, ◌⊎◌, ◌<◌, ◌≤◌, ℕ, List, length, Option, Some, None, Result, Ok, Err, IfOk, MatchResult, IfSome, codes, refl, sym, ap, ◌∙◌, subst, inl, inr, arith}
 use Rattle.std.proofs.lemmas.Bool.{false≢true}
 use Rattle.edi_ports.specs.declared.shelf.ShelfFile.{ShelfFile}
 use Rattle.edi_ports.specs.Read.{TakesFront}
@@ -13,7 +13,7 @@ use Rattle.edicheck_core.specs.Form.{Asked, Text, Tables, reads_input, reads_she
 use Rattle.edicheck_core.specs.Inputs.{Inputs}
 use Rattle.edicheck_core.specs.Printing.{printed}
 use Rattle.edicheck_core.specs.Tables.{tables_text}
-use Rattle.edicheck_core.specs.Answer.{last_line, IsListed, IsTabled, IsRefused, HasLoaded, IsDue, IsAnswer, IsFinish, IsPutWhole}
+use Rattle.edicheck_core.specs.Answer.{last_line, IsListed, IsTabled, IsRefused, IsDue, IsAnswer, IsFinish, IsPutWhole}
 
 -- no run comes to a write fault by itself
 not_due : (asked : Option Asked) (before now : Inputs) (output : List ℕ) → IsDue asked before now WriteFault output → ⊥

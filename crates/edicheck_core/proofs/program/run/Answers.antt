@@ -1,5 +1,5 @@
-use Rattle.std.proofs.Common.{subst, sym, ap, ◌∙◌}
-use Rattle.edicheck_core.specs.Form.{form_of, reads_input, reads_shelf}
+use Rattle.std.proofs.Common.{subst}
+use Rattle.edicheck_core.specs.Form.{form_of}
 use Rattle.edicheck_core.specs.Inputs.{Inputs}
 use Rattle.edicheck_core.specs.Answer.{IsDue}
 use Rattle.edicheck_core.proofs.AnswerLemmas.{answer_of, complete_of, complete_tables_of, only_input, only_shelf}

@@ -4,3 +4,4 @@ pub mod ManifestLemmas
 pub mod NameLemmas
 pub mod ReadLemmas
 pub mod WordLemmas
+pub mod Worked

@@ -1,3 +1,4 @@
 pub mod AnswerLemmas
 pub mod LinesLemmas
 pub mod TableLemmas
+pub mod Worked

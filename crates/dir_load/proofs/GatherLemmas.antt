@@ -30,7 +30,7 @@ use Rattle.dir_load.specs.declared.stop.LoadStop.TheVariants.{File, Compile, Fau
 use Rattle.dir_load.specs.Gathered.{Adds, GivesFile, IsFirstStop, IsGathered, IsNamed, TellsFault, octets_named}
 use Rattle.dir_load.specs.Load.{elements_on, elements_of, lists_on, lists_of, composites_on, composites_of, segments_on, segments_of, messages_on, messages_of, line_stops, file_stops, file_by, found_in, found_one, stops_in, unless_broken}
 use Rattle.dir_load.proofs.NameLemmas.{six-message_in, six-unless_broken}
-use Rattle.dir_load.proofs.ReadLemmas.{read_by-octets, read_by-stopped, first-told}
+use Rattle.dir_load.proofs.ReadLemmas.{read_by-octets, first-told}
 
 -- one more line
 flat_map-push : {X A : Type 0} (f : X → List A) (xs : List X) (x : X) → flat_map f (xs ++ x ∷ []) ≡ flat_map f xs ++ f x
@@ -107,27 +107,6 @@ module _ (files : List ShelfFile) (earlier : List FileLine) where
   pub turns-at : (line : FileLine) (kind : FileKind) (after : Gathered) (result : Result Unit LoadStop) → line.kind ≡ kind → Turns files earlier (record { kind = kind; name = line.name }) after result → Turns files earlier line after result
   turns-at line kind after result is turns =
       subst (λ k. Turns files earlier (record { kind = k; name = line.name }) after result) (sym is) turns
-
-  -- octets that weren't read stop the line
-  unread : (line : FileLine) (fault : FileFault) → octets_named files line.name ≡ Err fault → line_stops files earlier line ≡ File line.name fault ∷ []
-  unread line fault is = by line.kind
-    where
-      stops : {A : Type 0} (grammar : List ℕ → Result A DirFault) → stops_in line.name (file_by grammar files line.name) ≡ File line.name fault ∷ []
-      stops grammar = ap (stops_in line.name) (read_by-stopped grammar (file_named line.name files) fault is)
-
-      by : (kind : FileKind) → line_stops files earlier (record { kind = kind; name = line.name }) ≡ File line.name fault ∷ []
-      by Elements = stops elements_in
-      by Codes = stops codes_in
-      by Composites = stops composites_in
-      by Segments = stops (segments_in (composites_of files earlier))
-      by Message = stops message_in
-
-  -- what was answered in place of octets is the first stop of the line
-  pub first-unread : (line : FileLine) (stop : LoadStop) {X : Type 0} (view : X → List ℕ) → GivesFile view line.name (Err stop) (octets_named files line.name) → IsFirstStop stop (line_stops files earlier line)
-  first-unread line (File other fault) view given = ([], unread line fault given.1 ∙ ap (λ n. File n fault ∷ []) (sym given.0))
-  first-unread line (Compile kind other) view given = absurd given
-  first-unread line Fault view given = tt
-  first-unread line Memory view given = tt
 
 -- nothing stopped so far, and this is the first stop at the next line: it is the first of all
 pub first-turn : (files : List ShelfFile) (lines : List FileLine) (i : ℕ) (line : FileLine) (stop : LoadStop) → i < length lines → line ≡ get_or lines i line → file_stops files (take i lines) ≡ [] → IsFirstStop stop (line_stops files (take i lines) line) → IsFirstStop stop (file_stops files lines)

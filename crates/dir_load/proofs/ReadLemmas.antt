@@ -21,15 +21,6 @@ module _ {A : Type 0} (grammar : List ℕ → Result A DirFault) where
       by true same = cc
       by false same = let e : all ≡ octets = cc in ap (λ o. unless_broken (grammar o)) e
 
-  -- octets that weren't read are judged by no grammar
-  pub read_by-stopped : (file : Option (List ℕ)) (fault : FileFault) → read_by (λ o. Ok o) file ≡ Err fault → read_by grammar file ≡ Err fault
-  read_by-stopped None fault is = let e : Absent ≡ fault = cc in ap (λ f. Err f) e
-  read_by-stopped (Some all) fault is = by (nat_lt 4194304 (length all)) is
-    where
-      by : (b : Bool) → (if b then Err TooLarge else Ok all) ≡ Err fault → (if b then Err TooLarge else unless_broken (grammar all)) ≡ Err fault
-      by true same = let e : TooLarge ≡ fault = cc in ap (λ f. Err f) e
-      by false same = cc
-
 module _ {X Y : Type 0} (view : X → Y) (name : List ℕ) where
   -- what a reader answered, once it was judged
   pub judges : (read : Result X DirStop) (result : Result X LoadStop) (file : Result Y DirFault) → MatchResult read (λ found. result ≡ Ok found) (λ stop. IsErrAnd result (IsHandedOn name stop)) → Gives view read file → Judges view name result (unless_broken file)
@@ -48,27 +39,3 @@ module _ {A : Type 0} (name : List ℕ) where
   first-told (Compile kind other) file told = absurd told
   first-told Fault file told = tt
   first-told Memory file told = tt
-
-module _ {X : Type 0} (name : List ℕ) (P : X → Type 0) where
-  -- what holds of what a reader found holds once it was judged
-  pub judged-IfOk : (read : Result X DirStop) (result : Result X LoadStop) → MatchResult read (λ found. result ≡ Ok found) (λ stop. IsErrAnd result (IsHandedOn name stop)) → IfOk read P → IfOk result P
-  judged-IfOk (Ok found) result is held = rw is held
-  judged-IfOk (Err stop) (Ok found) is held = absurd is
-  judged-IfOk (Err stop) (Err told) is held = tt
-
-module _ {X Y : Type 0} (view : X → Y) (name : List ℕ) (whole : Result Y FileFault) where
-  -- what is judged of a file's octets is what the file gives
-  pub given-judged : (result : Result X LoadStop) (file : Result Y FileFault) → whole ≡ file → Judges view name result file → GivesFile view name result whole
-  given-judged (Ok found) file same judged = same ∙ judged
-  given-judged (Err (File other fault)) file same judged = (judged.0, same ∙ judged.1)
-  given-judged (Err (Compile kind other)) file same judged = absurd judged
-  given-judged (Err Fault) file same judged = absurd judged
-  given-judged (Err Memory) file same judged = tt
-
-module _ {X Y A : Type 0} (view : X → List ℕ) (shown : Y → A) (name : List ℕ) (grammar : List ℕ → Result A DirFault) (file : Option (List ℕ)) where
-  -- what was answered in place of octets is answered in place of what they give
-  pub given-unread : (stop : LoadStop) → GivesFile view name (Err stop) (read_by (λ o. Ok o) file) → GivesFile shown name (Err stop) (read_by grammar file)
-  given-unread (File other fault) given = (given.0, read_by-stopped grammar file fault given.1)
-  given-unread (Compile kind other) given = absurd given
-  given-unread Fault given = tt
-  given-unread Memory given = tt

@@ -1,6 +1,10 @@
-//! Manifests: what each gives, or its fault.
-use crate::{FileKind, Manifest, read_manifest};
+//! Manifests and small shelves: what each gives, or its fault.
+use crate::{FileFault, FileKind, LoadStop, Manifest, load, read_manifest};
+use dir_compile::{CompileKind, Directory};
 use edi_octets::{DirFault, DirKind, DirStop};
+use edi_ports::{MemShelf, ShelfFile};
+use edi_tables::{Chunk, Code, Tag};
+use std::alloc::{AllocError, Global};
 use std::process::Abort;
 use std::test::Fail;
 
@@ -102,5 +106,287 @@ fn takes_400_files_and_no_more(rt: HostRuntime) -> Result<(), Fail> {
             kind: DirKind::TooMany
         })
     );
+    Ok(())
+}
+
+// The files of a shelf: each has a name and octets.
+type Files = &'static [(&'static [u8], &'static [u8])];
+
+// Why a shelf gives no directory.
+#[derive(Clone, Copy, Debug, PartialEq, Eq)]
+enum Refusal {
+    Absent,
+    TooLarge,
+    // the line, and the rule that it breaks
+    Grammar(u32, DirKind),
+    Compile(CompileKind),
+    Fault,
+    Memory,
+}
+
+// A shelf whose calls of these numbers fail, and how the load of its manifest `m` is refused: why, and by what name.
+struct Refused {
+    files: Files,
+    failing: &'static [u64],
+    why: Refusal,
+    name: &'static [u8],
+}
+
+const ELEMENTS: &[u8] = b"----------\n1001 A\nRepr: an3\n";
+
+const COMPOSITES: &[u8] = b"----------\nC002 A\n010 1001 A M an3\n";
+
+const REFUSED: &[Refused] = &[
+    // the manifest is absent, and breaks a rule
+    Refused {
+        files: &[],
+        failing: &[],
+        why: Refusal::Absent,
+        name: b"m",
+    },
+    Refused {
+        files: &[(b"m", b"directory D 96A\n")],
+        failing: &[],
+        why: Refusal::Grammar(1, DirKind::BadLine),
+        name: b"m",
+    },
+    // the manifest breaks a rule behind the line of an absent file
+    Refused {
+        files: &[(b"m", b"directory D 96A UN\nelements el\ntable t\n")],
+        failing: &[],
+        why: Refusal::Grammar(3, DirKind::BadLine),
+        name: b"m",
+    },
+    // the first file breaks a rule and the second is absent, and the other way round
+    Refused {
+        files: &[
+            (b"m", b"directory D 96A UN\nelements el\ncodes co\n"),
+            (b"el", b"----------\n100 A\nRepr: an3\n"),
+        ],
+        failing: &[],
+        why: Refusal::Grammar(2, DirKind::BadCode),
+        name: b"el",
+    },
+    Refused {
+        files: &[
+            (b"m", b"directory D 96A UN\nelements el\ncodes co\n"),
+            (b"co", b"----------\n100 A\n"),
+        ],
+        failing: &[],
+        why: Refusal::Absent,
+        name: b"el",
+    },
+    Refused {
+        files: &[
+            (b"m", b"directory D 96A UN\nelements el\ncodes co\n"),
+            (b"el", ELEMENTS),
+        ],
+        failing: &[],
+        why: Refusal::Absent,
+        name: b"co",
+    },
+    // a segment's part lines aren't the parts of a composite of the file before
+    Refused {
+        files: &[
+            (b"m", b"directory D 96A UN\ncomposites cp\nsegments sg\n"),
+            (b"cp", COMPOSITES),
+            (
+                b"sg",
+                b"----------\nBGM A\n010 C002 A M\n     1002 A M an3\n",
+            ),
+        ],
+        failing: &[],
+        why: Refusal::Grammar(3, DirKind::PartsDiffer),
+        name: b"sg",
+    },
+    // a message file without a type line, at the number of its lines
+    Refused {
+        files: &[
+            (b"m", b"directory D 96A UN\nmessage ms\n"),
+            (b"ms", b"text\ntext\n"),
+        ],
+        failing: &[],
+        why: Refusal::Grammar(2, DirKind::NoType),
+        name: b"ms",
+    },
+    // a part names no element; an absent file comes first
+    Refused {
+        files: &[
+            (b"m", b"directory D 96A UN\ncomposites cp\n"),
+            (b"cp", COMPOSITES),
+        ],
+        failing: &[],
+        why: Refusal::Compile(CompileKind::UnknownElement),
+        name: b"1001",
+    },
+    Refused {
+        files: &[
+            (b"m", b"directory D 96A UN\ncomposites cp\nsegments sg\n"),
+            (b"cp", COMPOSITES),
+        ],
+        failing: &[],
+        why: Refusal::Absent,
+        name: b"sg",
+    },
+    // an element of two files
+    Refused {
+        files: &[
+            (b"m", b"directory D 96A UN\nelements a\nelements b\n"),
+            (b"a", ELEMENTS),
+            (b"b", ELEMENTS),
+        ],
+        failing: &[],
+        why: Refusal::Compile(CompileKind::Twice),
+        name: b"1001",
+    },
+    // the first opening fails, and the first take; then the opening of the first file, and its second take
+    Refused {
+        files: &[],
+        failing: &[0],
+        why: Refusal::Fault,
+        name: b"",
+    },
+    Refused {
+        files: &[(b"m", b"directory D 96A\n")],
+        failing: &[1],
+        why: Refusal::Fault,
+        name: b"",
+    },
+    Refused {
+        files: &[(b"m", b"directory D 96A UN\nelements el\n")],
+        failing: &[3],
+        why: Refusal::Fault,
+        name: b"",
+    },
+    Refused {
+        files: &[
+            (b"m", b"directory D 96A UN\nelements el\n"),
+            (b"el", ELEMENTS),
+        ],
+        failing: &[5],
+        why: Refusal::Fault,
+        name: b"",
+    },
+];
+
+// A small directory: two element files, and one file of each other kind.
+const SMALL: Files = &[
+    (
+        b"m",
+        b"directory D 96A UN\nelements e2\nelements e1\ncodes co\ncomposites cp\nsegments sg\nmessage ms\n",
+    ),
+    (b"e1", ELEMENTS),
+    (b"e2", b"----------\n2005 B\nRepr: n..2\n"),
+    (b"co", b"----------\n1001 A\n  2 Second\n  1 First\n"),
+    (b"cp", COMPOSITES),
+    (
+        b"sg",
+        b"----------\nBGM A\n010 C002 A M\n     1001 A M an3\n020 2005 B C n..2\n",
+    ),
+    (
+        b"ms",
+        b"Message Type : SHIPIT\n0010 UNH Header M 1\n0020 BGM Beginning M 1\n0030 UNT Trailer M 1\n",
+    ),
+];
+
+// A shelf with these files, which fails at calls of these numbers. A call gives at most 4,096 octets.
+fn shelf(alloc: Global, files: &[(&[u8], &[u8])], failing: &[u64]) -> Result<MemShelf, AllocError> {
+    let mut held = Vec::new(alloc);
+    for (name, octets) in files {
+        held.push(ShelfFile {
+            name: Chunk::of(alloc, name)?,
+            octets: Chunk::of(alloc, octets)?,
+        })?;
+    }
+    Ok(MemShelf::new(held, 4096, failing.to_vec(alloc)?))
+}
+
+fn refusal_of(loaded: &Result<Directory, LoadStop>) -> Option<(Refusal, &[u8])> {
+    match loaded {
+        Ok(_) => None,
+        Err(LoadStop::File { name, fault }) => Some((refusal_by(*fault), name.octets())),
+        Err(LoadStop::Compile { kind, name }) => Some((Refusal::Compile(*kind), name.octets())),
+        Err(LoadStop::Fault) => Some((Refusal::Fault, b"")),
+        Err(LoadStop::Memory) => Some((Refusal::Memory, b"")),
+    }
+}
+
+fn refusal_by(fault: FileFault) -> Refusal {
+    match fault {
+        FileFault::Absent => Refusal::Absent,
+        FileFault::TooLarge => Refusal::TooLarge,
+        FileFault::Grammar(DirFault { line, kind }) => Refusal::Grammar(line, kind),
+    }
+}
+
+#[test]
+fn refuses_in_order(rt: HostRuntime) -> Result<(), Fail> {
+    let alloc = rt.alloc();
+    for (i, row) in REFUSED.iter().enumerate() {
+        let mut shelf = shelf(alloc, row.files, row.failing)?;
+        let loaded = load(alloc, &mut shelf, b"m");
+        let Some((why, name)) = refusal_of(&loaded) else {
+            panic!(rt; "row {i} is loaded");
+        };
+        assert_eq!(rt; why, row.why, "row {i}");
+        assert_eq!(rt; name, row.name, "row {i}");
+    }
+    Ok(())
+}
+
+#[test]
+fn refuses_a_file_that_is_too_large(rt: HostRuntime) -> Result<(), Fail> {
+    let alloc = rt.alloc();
+    let large = vec![in alloc; b'\n'; LIMIT + 1]?;
+    let mut shelf = shelf(alloc, &[(b"m", &large)], &[])?;
+    let loaded = load(alloc, &mut shelf, b"m");
+    assert_eq!(rt;
+        refusal_of(&loaded),
+        Some((Refusal::TooLarge, b"m".as_slice()))
+    );
+    Ok(())
+}
+
+// Its elements are in ascending order, over both files.
+fn has_elements(directory: &Directory) -> bool {
+    match directory.parts().elements.items() {
+        [first, second] => first.code.octets == *b"1001" && second.code.octets == *b"2005",
+        _ => false,
+    }
+}
+
+// Its list has its codes in ascending order.
+fn has_list(directory: &Directory) -> bool {
+    let Some(list) = directory.list(Code { octets: *b"1001" }) else {
+        return false;
+    };
+    match list.values.items() {
+        [first, second] => first.octets() == b"1".as_slice() && second.octets() == b"2".as_slice(),
+        _ => false,
+    }
+}
+
+// Its segment has both items, of which one is of its composite.
+fn has_segment(directory: &Directory) -> bool {
+    let Some(segment) = directory.segment(Tag { octets: *b"BGM" }) else {
+        return false;
+    };
+    segment.items.items().len() == 2 && directory.composite(Code { octets: *b"C002" }).is_some()
+}
+
+// Its message's table stands behind CONTRL's.
+fn has_table(directory: &Directory) -> bool {
+    directory.table_count() == 2 && directory.find_table(b"SHIPIT", b"D", b"96A", b"UN") == Some(1)
+}
+
+#[test]
+fn loads_a_small_directory(rt: HostRuntime) -> Result<(), Fail> {
+    let alloc = rt.alloc();
+    let mut shelf = shelf(alloc, SMALL, &[])?;
+    let directory = load(alloc, &mut shelf, b"m")?;
+    assert!(rt; has_elements(&directory));
+    assert!(rt; has_list(&directory));
+    assert!(rt; has_segment(&directory));
+    assert!(rt; has_table(&directory));
     Ok(())
 }

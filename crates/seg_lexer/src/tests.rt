@@ -20,73 +20,75 @@ const USUAL: Service = Service {
     sound: true,
 };
 
+/// Texts whose service characters hold, or that have no service string advice, with what is read.
+const SERVICES: &[(&[u8], Service)] = &[
+    (b"", USUAL),
+    (b"UN", USUAL),
+    (b"una;*,# ~", USUAL),
+    (b"UNB+UNOA:3'", USUAL),
+    (b"UNA:+.? '", Service { body: 9, ..USUAL }),
+    // A space in the place of the release character: there is none.
+    (
+        b"UNA:+.  '",
+        Service {
+            release: None,
+            body: 9,
+            ..USUAL
+        },
+    ),
+    // Mark and reserved place may be any octet.
+    (
+        b"UNA:+A?\r'",
+        Service {
+            mark: b'A',
+            body: 9,
+            ..USUAL
+        },
+    ),
+    (
+        b"UNA:+ ?'~UNB",
+        Service {
+            mark: b' ',
+            terminator: b'~',
+            body: 9,
+            ..USUAL
+        },
+    ),
+    (
+        b"UNA;*,#\0~UNB",
+        Service {
+            component: b';',
+            element: b'*',
+            mark: b',',
+            release: Some(b'#'),
+            terminator: b'~',
+            body: 9,
+            sound: true,
+        },
+    ),
+    (
+        b"UNA\0\xff.? '",
+        Service {
+            component: 0,
+            element: 255,
+            body: 9,
+            ..USUAL
+        },
+    ),
+    (
+        b"UNA:+:? '",
+        Service {
+            mark: b':',
+            body: 9,
+            ..USUAL
+        },
+    ),
+];
+
 #[test]
 fn service_characters(rt: HostRuntime) {
-    let cases: [(&[u8], Service); 11] = [
-        (b"", USUAL),
-        (b"UN", USUAL),
-        (b"una;*,# ~", USUAL),
-        (b"UNB+UNOA:3'", USUAL),
-        (b"UNA:+.? '", Service { body: 9, ..USUAL }),
-        // A space in the place of the release character: there is none.
-        (
-            b"UNA:+.  '",
-            Service {
-                release: None,
-                body: 9,
-                ..USUAL
-            },
-        ),
-        // Mark and reserved place may be any octet.
-        (
-            b"UNA:+A?\r'",
-            Service {
-                mark: b'A',
-                body: 9,
-                ..USUAL
-            },
-        ),
-        (
-            b"UNA:+ ?'~UNB",
-            Service {
-                mark: b' ',
-                terminator: b'~',
-                body: 9,
-                ..USUAL
-            },
-        ),
-        (
-            b"UNA;*,#\0~UNB",
-            Service {
-                component: b';',
-                element: b'*',
-                mark: b',',
-                release: Some(b'#'),
-                terminator: b'~',
-                body: 9,
-                sound: true,
-            },
-        ),
-        (
-            b"UNA\0\xff.? '",
-            Service {
-                component: 0,
-                element: 255,
-                body: 9,
-                ..USUAL
-            },
-        ),
-        (
-            b"UNA:+:? '",
-            Service {
-                mark: b':',
-                body: 9,
-                ..USUAL
-            },
-        ),
-    ];
-    for (text, want) in cases {
-        assert_eq!(rt; read_service(&Flat { octets: text }), want, "{text:?}");
+    for (text, want) in SERVICES {
+        assert_eq!(rt; read_service(&Flat { octets: *text }), *want, "{text:?}");
     }
 }
 

@@ -99,7 +99,7 @@ fn finds_the_entries_of_a_file(rt: HostRuntime) {
 }
 
 #[test]
-fn reads_representations_and_codes(rt: HostRuntime) {
+fn reads_representations(rt: HostRuntime) {
     let repr = |class, exact, max| Some(Repr { class, exact, max });
     let cases: [(&[u8], Option<Repr>); 16] = [
         (b"a3", repr(Class::A, true, 3)),
@@ -122,6 +122,10 @@ fn reads_representations_and_codes(rt: HostRuntime) {
     for (field, wanted) in cases {
         assert_eq!(rt; read_repr(field), wanted, "{field:?}");
     }
+}
+
+#[test]
+fn tells_codes_and_statuses(rt: HostRuntime) {
     assert!(rt; is_element_code(b"0062"));
     assert!(rt;
         !is_element_code(b"00622") && !is_element_code(b"062") && !is_element_code(b"C062")
@@ -133,6 +137,10 @@ fn reads_representations_and_codes(rt: HostRuntime) {
     assert_eq!(rt; read_status(b"M"), Some(true));
     assert_eq!(rt; read_status(b"C"), Some(false));
     assert_eq!(rt; read_status(b"MC"), None);
+}
+
+#[test]
+fn skips_one_mark_behind_a_position(rt: HostRuntime) {
     assert!(rt; is_lone_mark(b"X") && !is_lone_mark(b"++") && !is_lone_mark(b""));
     expect_all(
         &rt,

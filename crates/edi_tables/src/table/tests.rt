@@ -78,9 +78,9 @@ fn a_table_has_2000_rows_at_most(rt: HostRuntime) -> Result<(), Fail> {
     Ok(())
 }
 
-#[test]
-fn the_test_order_has_its_nodes(rt: HostRuntime) -> Result<(), Fail> {
-    let rows = [
+/// The rows of the test order.
+fn test_order() -> [TableRow; 15] {
+    [
         segment(b"UNH", true, 1, 0),
         segment(b"BGM", true, 1, 0),
         segment(b"DTM", true, 2, 0),
@@ -96,37 +96,53 @@ fn the_test_order_has_its_nodes(rt: HostRuntime) -> Result<(), Fail> {
         segment(b"UNS", true, 1, 0),
         segment(b"MOA", false, 1, 0),
         segment(b"UNT", true, 1, 0),
-    ];
-    let table = Table::build(rt.alloc(), &rows)?;
-    let nodes = table.nodes();
-    assert_eq!(rt; nodes.len(), 15);
-    assert_eq!(rt; nodes[2].max, 2);
-    assert_eq!(rt;
-        nodes[3],
+    ]
+}
+
+/// Nodes of the test order by their numbers: its first group, the group in another, and the trigger of that.
+const ORDER_NODES: &[(usize, Node)] = &[
+    (
+        3,
         Node {
             tag: None,
             must: false,
             max: 2,
             parent: None,
-            end: 6
-        }
-    );
-    let prices = Node {
-        tag: None,
-        must: false,
-        max: 2,
-        parent: Some(6),
-        end: 12,
-    };
-    assert_eq!(rt; nodes[9], prices);
-    let price = Node {
-        tag: rows[10].tag,
-        must: true,
-        max: 1,
-        parent: Some(9),
-        end: 11,
-    };
-    assert_eq!(rt; nodes[10], price);
+            end: 6,
+        },
+    ),
+    (
+        9,
+        Node {
+            tag: None,
+            must: false,
+            max: 2,
+            parent: Some(6),
+            end: 12,
+        },
+    ),
+    (
+        10,
+        Node {
+            tag: Some(Tag { octets: *b"PRI" }),
+            must: true,
+            max: 1,
+            parent: Some(9),
+            end: 11,
+        },
+    ),
+];
+
+#[test]
+fn the_test_order_has_its_nodes(rt: HostRuntime) -> Result<(), Fail> {
+    let table = Table::build(rt.alloc(), &test_order())?;
+    let nodes = table.nodes();
+    assert_eq!(rt; nodes.len(), 15);
+    assert_eq!(rt; nodes[2].max, 2);
     assert_eq!(rt; nodes[14].end, 15);
+    for (number, node) in ORDER_NODES {
+        assert!(rt; *number < nodes.len());
+        assert_eq!(rt; nodes[*number], *node, "{number}");
+    }
     Ok(())
 }

@@ -46,6 +46,79 @@ const GOOD: Case = Case {
     last: *b"UNT",
 };
 
+const UNKNOWN: Code = Code { octets: *b"9999" };
+
+const LONGER: Repr = Repr { max: 4, ..NAME };
+
+/// Cases with a fault each, and the kind and the name that are told of it.
+const FAULTY: &[(Case, CompileKind, &[u8])] = &[
+    (
+        Case {
+            first: *b"1001",
+            ..GOOD
+        },
+        CompileKind::Twice,
+        b"1001",
+    ),
+    (
+        Case {
+            part: PartDef {
+                code: UNKNOWN,
+                ..PART
+            },
+            ..GOOD
+        },
+        CompileKind::UnknownElement,
+        b"9999",
+    ),
+    (
+        Case {
+            part: PartDef {
+                repr: LONGER,
+                ..PART
+            },
+            ..GOOD
+        },
+        CompileKind::ReprDiffers,
+        b"1001",
+    ),
+    (
+        Case {
+            tag: *b"UNS",
+            ..GOOD
+        },
+        CompileKind::Reserved,
+        b"UNS",
+    ),
+    (
+        Case {
+            item: ItemDef::Composite {
+                code: UNKNOWN,
+                must: true,
+            },
+            ..GOOD
+        },
+        CompileKind::UnknownComposite,
+        b"9999",
+    ),
+    (
+        Case {
+            row: *b"FTX",
+            ..GOOD
+        },
+        CompileKind::UnknownSegment,
+        b"FTX",
+    ),
+    (
+        Case {
+            last: *b"UNS",
+            ..GOOD
+        },
+        CompileKind::BadTable,
+        b"INVOIC",
+    ),
+];
+
 fn row(tag: [u8; 3]) -> TableRow {
     TableRow {
         tag: Some(Tag { octets: tag }),
@@ -208,78 +281,9 @@ fn elements_come_out_in_ascending_order(rt: HostRuntime) -> Result<(), Fail> {
 
 #[test]
 fn each_fault_comes_with_its_name(rt: HostRuntime) -> Result<(), Fail> {
-    let unknown = Code { octets: *b"9999" };
-    let longer = Repr { max: 4, ..NAME };
-    let cases = [
-        (
-            Case {
-                first: *b"1001",
-                ..GOOD
-            },
-            CompileKind::Twice,
-            b"1001".as_slice(),
-        ),
-        (
-            Case {
-                part: PartDef {
-                    code: unknown,
-                    ..PART
-                },
-                ..GOOD
-            },
-            CompileKind::UnknownElement,
-            b"9999".as_slice(),
-        ),
-        (
-            Case {
-                part: PartDef {
-                    repr: longer,
-                    ..PART
-                },
-                ..GOOD
-            },
-            CompileKind::ReprDiffers,
-            b"1001".as_slice(),
-        ),
-        (
-            Case {
-                tag: *b"UNS",
-                ..GOOD
-            },
-            CompileKind::Reserved,
-            b"UNS".as_slice(),
-        ),
-        (
-            Case {
-                item: ItemDef::Composite {
-                    code: unknown,
-                    must: true,
-                },
-                ..GOOD
-            },
-            CompileKind::UnknownComposite,
-            b"9999".as_slice(),
-        ),
-        (
-            Case {
-                row: *b"FTX",
-                ..GOOD
-            },
-            CompileKind::UnknownSegment,
-            b"FTX".as_slice(),
-        ),
-        (
-            Case {
-                last: *b"UNS",
-                ..GOOD
-            },
-            CompileKind::BadTable,
-            b"INVOIC".as_slice(),
-        ),
-    ];
-    for (case, kind, name) in &cases {
-        let told = has_fault(rt.alloc(), case, *kind, *name)?;
-        assert!(rt; told);
+    for (case, kind, name) in FAULTY {
+        let told = has_fault(rt.alloc(), case, *kind, name)?;
+        assert!(rt; told, "{kind:?}");
     }
     Ok(())
 }

@@ -1,9 +1,10 @@
-pub mod Finding
 pub mod Depths
 pub mod Faults
+pub mod Finding
 pub mod Lawful
 pub mod Made
 pub mod NodeReads
+pub mod OrderPlaced
 pub mod Restored
 pub mod Stretches
 pub mod TableLaws

@@ -25,7 +25,7 @@ test_order_rows =
     ∷ row None false 2 1 ∷ row (tag_of (codes "PRI")) true 1 2 ∷ row (tag_of (codes "DTM")) false 1 2
     ∷ row (tag_of (codes "UNS")) true 1 0 ∷ row (tag_of (codes "MOA")) false 1 0 ∷ row (tag_of (codes "UNT")) true 1 0 ∷ []
 
-pub test_order : List Node
+unfoldable pub test_order : List Node
 test_order =
     node (tag_of (codes "UNH")) true 1 None 1 ∷ node (tag_of (codes "BGM")) true 1 None 2 ∷ node (tag_of (codes "DTM")) true 2 None 3
     ∷ node None false 2 None 6 ∷ node (tag_of (codes "NAD")) true 1 (Some 3) 5 ∷ node (tag_of (codes "CTA")) false 1 (Some 3) 6

@@ -1,5 +1,5 @@
 -- What a line of a manifest adds to what was gathered, and where it stops.
-use Rattle.std.proofs.Common.{◌≡◌, ◌+◌, ◌<◌, ◌≤◌, ◌++◌, ℕ, List, [], ◌∷◌, length, take, drop, get_or, All, Vec, Option, Some, None, Result, Ok, Err, MatchResult, OnOk, refl, sym, subst, ap, ◌∙◌, append-nil, arith, length-append, add-one, drop-cons}
+use Rattle.std.proofs.Common.{◌≡◌, ◌+◌, ◌<◌, ◌++◌, ℕ, List, [], ◌∷◌, length, take, drop, get_or, Vec, Result, Ok, Err, MatchResult, OnOk, refl, sym, subst, ap, ◌∙◌, append-nil, arith, length-append, add-one, drop-cons}
 use Rattle.std.specs.declared.alloc.Global.{Global}
 use Rattle.std.specs.List.{flat_map}
 use Rattle.std.proofs.lemmas.List.Concat.{flat_map-append}
@@ -11,8 +11,8 @@ use Rattle.edi_tables.specs.declared.element.CompositeDef.{CompositeDef}
 use Rattle.edi_tables.specs.declared.segment.SegmentDef.{SegmentDef}
 use Rattle.edi_tables.specs.declared.segment.MessageDef.{MessageDef}
 use Rattle.edi_octets.specs.declared.fault.DirFault.{DirFault}
-use Rattle.edi_octets.specs.Profile.{with_earlier, with_earlier_from}
-use Rattle.edi_octets.proofs.EarlierLemmas.{judged-push, judged-none, judged-first}
+use Rattle.edi_octets.specs.Profile.{with_earlier_from}
+use Rattle.edi_octets.proofs.EarlierLemmas.{judged-push, judged-first}
 use Rattle.edi_ports.specs.declared.shelf.ShelfFile.{ShelfFile}
 use Rattle.edi_ports.specs.Shelf.{file_named}
 use Rattle.dir_lists.specs.Elements.{elements_in}
@@ -27,8 +27,8 @@ use Rattle.dir_load.specs.declared.manifest.FileLine.{FileLine}
 use Rattle.dir_load.specs.declared.stop.FileFault.{FileFault}
 use Rattle.dir_load.specs.declared.stop.LoadStop.{LoadStop}
 use Rattle.dir_load.specs.declared.stop.LoadStop.TheVariants.{File, Compile, Fault, Memory}
-use Rattle.dir_load.specs.Gathered.{Adds, GivesFile, IsFirstStop, IsGathered, IsNamed, TellsFault, octets_named}
-use Rattle.dir_load.specs.Load.{elements_on, elements_of, lists_on, lists_of, composites_on, composites_of, segments_on, segments_of, messages_on, messages_of, line_stops, file_stops, file_by, found_in, found_one, stops_in, unless_broken}
+use Rattle.dir_load.specs.Gathered.{Adds, IsFirstStop, IsGathered, IsNamed, TellsFault, octets_named}
+use Rattle.dir_load.specs.Load.{elements_on, lists_on, composites_on, composites_of, segments_on, messages_on, line_stops, file_stops, file_by, found_in, found_one, stops_in, unless_broken}
 use Rattle.dir_load.proofs.NameLemmas.{six-message_in, six-unless_broken}
 use Rattle.dir_load.proofs.ReadLemmas.{read_by-octets, first-told}
 

@@ -1,5 +1,5 @@
 -- The names of messages that are read.
-use Rattle.std.proofs.Common.{◌≡◌, ◌+◌, ◌≤◌, ℕ, List, [], ◌∷◌, length, Bool, true, false, if◌then◌else◌, ◌&&◌, eqb, filter, Option, Some, None, Result, Ok, Err, All, is_some, unwrap_or, refl, sym, ap, ◌∙◌, arith}
+use Rattle.std.proofs.Common.{◌≡◌, ℕ, List, [], ◌∷◌, length, Bool, true, false, if◌then◌else◌, ◌&&◌, filter, Option, Some, None, Result, Ok, Err, is_some, unwrap_or, refl, sym, ap, ◌∙◌}
 use Rattle.std.specs.Str.{bytes_eq}
 use Rattle.std.specs.Prelude.{codes}
 use Rattle.std.proofs.lemmas.Bool.{and_parts, eqb-true}
@@ -10,7 +10,7 @@ use Rattle.edi_octets.specs.DirStop.{unless_faulty}
 use Rattle.edi_octets.specs.Lines.{Line, lines_of}
 use Rattle.edi_octets.specs.Profile.{fields_of}
 use Rattle.dir_lists.proofs.AnswerLemmas.{none_from_ok}
-use Rattle.dir_messages.specs.Message.{is_message_name, name_on, is_type_line, is_table_line, table_part_faults, rows_of, message_from, message_in}
+use Rattle.dir_messages.specs.Message.{is_message_name, name_on, is_table_line, table_part_faults, rows_of, message_from, message_in}
 use Rattle.dir_load.specs.Load.{unless_broken}
 
 -- the name on a type line has six octets

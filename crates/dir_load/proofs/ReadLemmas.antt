@@ -1,14 +1,14 @@
 -- What is answered for one file.
-use Rattle.std.proofs.Common.{◌≡◌, ◌++◌, ℕ, List, [], ◌∷◌, length, Bool, true, false, if◌then◌else◌, nat_lt, Option, Some, None, Result, Ok, Err, MatchResult, IfOk, IsErrAnd, refl, sym, ap, ◌∙◌}
+use Rattle.std.proofs.Common.{◌≡◌, ℕ, List, [], ◌∷◌, length, Bool, true, false, if◌then◌else◌, nat_lt, Option, Some, None, Result, Ok, Err, MatchResult, IsErrAnd, sym, ap, ◌∙◌}
 use Rattle.edi_octets.specs.declared.fault.DirFault.{DirFault}
 use Rattle.edi_octets.specs.declared.fault.DirStop.{DirStop}
 use Rattle.edi_octets.specs.declared.fault.DirStop.TheVariants as dir
 use Rattle.edi_octets.specs.DirStop.{Gives}
 use Rattle.dir_load.specs.declared.stop.FileFault.{FileFault}
-use Rattle.dir_load.specs.declared.stop.FileFault.TheVariants.{Absent, TooLarge, Grammar}
+use Rattle.dir_load.specs.declared.stop.FileFault.TheVariants.{TooLarge}
 use Rattle.dir_load.specs.declared.stop.LoadStop.{LoadStop}
 use Rattle.dir_load.specs.declared.stop.LoadStop.TheVariants.{File, Compile, Fault, Memory}
-use Rattle.dir_load.specs.Gathered.{Judges, TellsFault, IsHandedOn, IsFirstStop, GivesFile}
+use Rattle.dir_load.specs.Gathered.{Judges, TellsFault, IsHandedOn, IsFirstStop}
 use Rattle.dir_load.specs.Load.{read_by, unless_broken, stops_in}
 
 module _ {A : Type 0} (grammar : List ℕ → Result A DirFault) where

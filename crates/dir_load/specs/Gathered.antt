@@ -1,5 +1,5 @@
 -- What is gathered from the files of a manifest.
-use Rattle.std.specs.Prelude.{◌≡◌, ◌≤◌, ◌++◌, ℕ, All, List, [], ◌∷◌, length, Result, Ok, Err, MatchResult}
+use Rattle.std.specs.Prelude.{◌≡◌, ◌≤◌, ◌++◌, ℕ, All, List, ◌∷◌, length, Result, Ok, Err, MatchResult}
 use Rattle.edi_octets.specs.declared.fault.DirStop.{DirStop}
 use Rattle.edi_octets.specs.declared.fault.DirStop.TheVariants as dir
 use Rattle.edi_ports.specs.declared.shelf.ShelfFile.{ShelfFile}

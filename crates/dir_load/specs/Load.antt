@@ -18,7 +18,6 @@ use Rattle.dir_messages.specs.Message.{message_in}
 use Rattle.dir_compile.specs.declared.parts.Parts.{Parts}
 use Rattle.dir_compile.specs.declared.stop.CompileKind.{CompileKind}
 use Rattle.dir_compile.specs.Directory.{directory_of}
-use Rattle.dir_load.specs.declared.manifest.FileKind.{FileKind}
 use Rattle.dir_load.specs.declared.manifest.FileKind.TheVariants.{Elements, Codes, Composites, Segments, Message}
 use Rattle.dir_load.specs.declared.manifest.FileLine.{FileLine}
 use Rattle.dir_load.specs.declared.manifest.Manifest.{Manifest}

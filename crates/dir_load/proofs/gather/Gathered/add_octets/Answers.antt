@@ -1,4 +1,3 @@
-use Rattle.std.proofs.Common.{sym}
 use Rattle.dir_load.specs.declared.manifest.FileKind.TheVariants.{Elements, Codes, Composites, Segments, Message}
 use Rattle.dir_load.proofs.GatherLemmas.{turns-elements, turns-codes, turns-composites, turns-segments, turns-message, turns-at, named-message}
 use Rattle.dir_load.proofs.gather.Gathered.add_octets.Goals as goal

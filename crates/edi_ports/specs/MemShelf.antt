@@ -1,12 +1,13 @@
 -- What a shelf in memory opens and gives.
-use Rattle.std.specs.Prelude.{◌≡◌, ◌==◌, ℕ, Bool, List, [], length, min, is_some, if◌then◌else◌}
+use Rattle.std.specs.Prelude.{◌≡◌, ◌==◌, ℕ, Bool, List, [], length, min, is_some, if◌then◌else◌, Vec}
+use Rattle.std.specs.declared.alloc.Global.{Global}
 use Rattle.edi_ports.specs.declared.source.Taken.{Taken}
 use Rattle.edi_ports.specs.declared.source.Taken.TheVariants as taken
 use Rattle.edi_ports.specs.declared.shelf.ShelfFile.{ShelfFile}
 use Rattle.edi_ports.specs.declared.shelf.Opened.{Opened}
 use Rattle.edi_ports.specs.declared.shelf.Opened.TheVariants.{Open, Absent, Failed}
 use Rattle.edi_ports.specs.declared.memory.shelf.MemShelf.{MemShelf}
-use Rattle.edi_ports.specs.Memory.{fails_next, after_call}
+use Rattle.edi_ports.specs.Memory.{first_calls, fails_next, after_call}
 use Rattle.edi_ports.specs.Shelf.{file_named}
 use Rattle.edi_ports.specs.Place.{rest_from}
 
@@ -43,3 +44,7 @@ taken_next shelf size =
 -- one more call is counted, and the most that a call gives stays
 abbrev pub IsNextCall : MemShelf → MemShelf → Type 0
 IsNextCall before now = (now.calls ≡ after_call before.calls) × (now.most ≡ before.most)
+
+-- before its first call: at most so many octets a call, and these calls are to fail
+abbrev pub IsMade : ℕ → Vec ℕ Global → MemShelf → Type 0
+IsMade most failing shelf = (shelf.most ≡ most) × (shelf.calls ≡ first_calls failing)

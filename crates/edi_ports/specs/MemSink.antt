@@ -1,10 +1,11 @@
 -- What a sink in memory takes.
-use Rattle.std.specs.Prelude.{◌≡◌, ◌≤◌, ◌+◌, ◌-◌, ◌==◌, ℕ, List, [], length, min, if◌then◌else◌}
+use Rattle.std.specs.Prelude.{◌≡◌, ◌≤◌, ◌+◌, ◌-◌, ◌==◌, ℕ, List, [], length, min, if◌then◌else◌, Vec}
+use Rattle.std.specs.declared.alloc.Global.{Global}
 use Rattle.edi_ports.specs.declared.sink.Put.{Put}
 use Rattle.edi_ports.specs.declared.sink.Put.TheVariants.{Took, Failed}
 use Rattle.edi_ports.specs.declared.memory.sink.MemSink.{MemSink}
 use Rattle.edi_ports.specs.declared.memory.calls.Calls.{Calls}
-use Rattle.edi_ports.specs.Memory.{fails_next, after_call, after_fault}
+use Rattle.edi_ports.specs.Memory.{first_calls, fails_next, after_call, after_fault}
 
 -- the octets that were put
 abbrev pub held_of : MemSink → List ℕ
@@ -32,3 +33,7 @@ abbrev pub IsNextCall : MemSink → MemSink → ℕ → Type 0
 IsNextCall before now size =
     let counted : Calls = after_call before.calls in
     (now.calls ≡ (if fails_next before.calls then counted else (if taken_of before size == 0 then after_fault counted else counted))) × (now.room ≡ before.room) × (now.most ≡ before.most)
+
+-- before its first call: room for so many octets, at most so many a call, and these calls are to fail
+abbrev pub IsMade : ℕ → ℕ → Vec ℕ Global → MemSink → Type 0
+IsMade room most failing sink = (sink.room ≡ room) × (sink.most ≡ most) × (sink.calls ≡ first_calls failing)

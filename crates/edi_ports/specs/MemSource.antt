@@ -1,9 +1,10 @@
 -- What a source in memory gives.
-use Rattle.std.specs.Prelude.{◌≡◌, ◌==◌, ℕ, List, [], length, min, drop, if◌then◌else◌}
+use Rattle.std.specs.Prelude.{◌≡◌, ◌==◌, ℕ, List, [], length, min, drop, if◌then◌else◌, Vec}
+use Rattle.std.specs.declared.alloc.Global.{Global}
 use Rattle.edi_ports.specs.declared.source.Taken.{Taken}
 use Rattle.edi_ports.specs.declared.source.Taken.TheVariants.{Got, End, Failed}
 use Rattle.edi_ports.specs.declared.memory.source.MemSource.{MemSource}
-use Rattle.edi_ports.specs.Memory.{fails_next, after_call}
+use Rattle.edi_ports.specs.Memory.{first_calls, fails_next, after_call}
 
 -- the octets that are left
 abbrev pub rest_of : MemSource → List ℕ
@@ -26,3 +27,7 @@ taken_next source size =
 -- one more call is counted, and the most that a call gives stays
 abbrev pub IsNextCall : MemSource → MemSource → Type 0
 IsNextCall before now = (now.calls ≡ after_call before.calls) × (now.most ≡ before.most)
+
+-- before its first call: at most so many octets a call, and these calls are to fail
+abbrev pub IsMade : ℕ → Vec ℕ Global → MemSource → Type 0
+IsMade most failing source = (source.most ≡ most) × (source.calls ≡ first_calls failing)

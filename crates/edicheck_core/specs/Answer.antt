@@ -26,7 +26,8 @@ HasRead before now P = IfSome before.input (λ text. (length text ≤ 4194304) �
 -- for a text in this detail, the status and the whole output that a run comes to, before the first octet is put
 abbrev pub IsListed : Detail → Inputs → Inputs → Status → List ℕ → Type 0
 IsListed detail before now Done output = HasRead before now (λ text. output ≡ printed detail text)
-IsListed detail before now ReadFault output = HasRisen before.input_faults now.input_faults × (output ≡ last_line (codes "fault read"))
+IsListed detail before now ReadFault output =
+    HasRisen before.input_faults now.input_faults × TakesFront before.input now.input (λ n. n ≤ 4194304) × (output ≡ last_line (codes "fault read"))
 IsListed detail before now TooLarge output =
     TakesFront before.input now.input (λ n. 4194304 < n) × (output ≡ last_line (codes "fault large -"))
 IsListed detail before now Memory output =

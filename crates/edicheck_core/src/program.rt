@@ -50,6 +50,10 @@ pub fn run<S: Shelf, I: Source, O: Sink>(
     ensures input { reads_input (form_of words.now) ≡ false → input.new ≡ input.old }
     ensures files { S.files shelf.new ≡ S.files shelf.old }
 
+    // An input and a shelf that don't fail aren't said to have failed.
+    ensures steady { (reads_input (form_of words.now) ≡ true → I.is_steady input.old)
+        → (reads_shelf (form_of words.now) ≡ true → S.is_steady shelf.old) → result ≢ Status.ReadFault }
+
     // With a text within the limit, an input that doesn't fail and a sink with room, only memory can be wanting.
     ensures complete { (detail : DetailOfText) (text : List ℕ) (n : ℕ) → form_of words.now ≡ Some (Text detail)
         → I.rest input.old ≡ Some text → length text ≤ 4194304 → I.is_steady input.old

@@ -16,7 +16,8 @@ pub struct StdSource<R> {
 impl<R: Read> StdSource<R> {
     /// A source over this reader.
     pub fn new(reader: R) -> StdSource<R>
-        ensures { ⟦<StdSource<R> as Source>⟧.faults result ≡ 0 }
+        ensures faults { ⟦<StdSource<R> as Source>⟧.faults result ≡ 0 }
+        ensures rest { ⟦<StdSource<R> as Source>⟧.rest result ≡ R.remaining reader }
     {
         StdSource { reader, faults: 0 }
     }

@@ -28,12 +28,14 @@ pub struct MemShelf {
 }
 
 impl MemShelf {
-    ghost use Rattle.edi_ports.specs.MemShelf.{files_of};
+    ghost use Rattle.edi_ports.specs.MemShelf.{IsMade, files_of};
 
     /// A shelf with these files, none of them open. `most` is at least 1.
     pub fn new(files: Vec<ShelfFile>, most: usize, failing: Vec<u64>) -> MemShelf
         requires { 0 < most }
         ensures files { ⟦<MemShelf as Shelf>⟧.files result ≡ Some files.items }
+        ensures shut { ⟦<MemShelf as Shelf>⟧.is_open result ≡ false }
+        ensures made { IsMade most failing result }
         ensures faults { ⟦<MemShelf as Shelf>⟧.faults result ≡ 0 }
         ensures steady { failing.items ≡ [] → ⟦<MemShelf as Shelf>⟧.is_steady result }
     {

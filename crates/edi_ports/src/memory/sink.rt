@@ -21,7 +21,7 @@ pub struct MemSink {
 }
 
 impl MemSink {
-    ghost use Rattle.edi_ports.specs.MemSink.{held_of};
+    ghost use Rattle.edi_ports.specs.MemSink.{IsMade, held_of};
 
     /// An empty sink, which takes its room at once. `most` is at least 1.
     pub fn new(
@@ -32,6 +32,7 @@ impl MemSink {
     ) -> Result<MemSink, AllocError>
         requires { 0 < most }
         ensures held { IfOk result (λ sink. ⟦<MemSink as Sink>⟧.held sink ≡ Some []) }
+        ensures made { IfOk result (IsMade room most failing) }
         ensures faults { IfOk result (λ sink. ⟦<MemSink as Sink>⟧.faults sink ≡ 0) }
         ensures room { IfOk result (λ sink. failing.items ≡ [] → ⟦<MemSink as Sink>⟧.has_room sink room) }
     {

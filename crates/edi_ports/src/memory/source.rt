@@ -18,10 +18,13 @@ pub struct MemSource {
 }
 
 impl MemSource {
+    ghost use Rattle.edi_ports.specs.MemSource.{IsMade};
+
     /// A source with these octets. `most` is at least 1.
     pub fn new(rest: Vec<u8>, most: usize, failing: Vec<u64>) -> MemSource
         requires { 0 < most }
         ensures rest { ⟦<MemSource as Source>⟧.rest result ≡ Some rest.items }
+        ensures made { IsMade most failing result }
         ensures faults { ⟦<MemSource as Source>⟧.faults result ≡ 0 }
         ensures steady { failing.items ≡ [] → ⟦<MemSource as Source>⟧.is_steady result }
     {

@@ -2,7 +2,7 @@
 use Rattle.std.proofs.Common.{◌≡◌, ℕ, zero, suc, ◌+◌, ◌-◌, ◌<◌, ◌≤◌, Bool, true, false, List, [], ◌∷◌, ◌++◌, Option, Some, None, map, length, take, get_or, refl, sym, ap, subst, ◌∙◌, ◌⊎◌, inl, inr, ⊎_elim, arith}
 use Rattle.std.specs.Prelude.{filter, slice_index, slice_get, nat_eq, Contains, ◌==◌}
 use Rattle.std.specs.List.{list_any, filter_map}
-use Rattle.std.proofs.lemmas.Bool.{false≢true, eqb-true, eq-eqb, or_cases, or_left, or_right, and_parts, cases_order}
+use Rattle.std.proofs.lemmas.Bool.{false≢true, cases_lt, ne_eqb, eqb-true, eq-eqb, or_cases, or_left, or_right, and_parts, cases_order}
 use Rattle.std.proofs.lemmas.List.{take_more, map-append, get_or_push, length-append}
 use Rattle.std.proofs.lemmas.List.Elements.{All-contains}
 use Rattle.std.proofs.lemmas.Option.{slice_get-get_or, slice_get_within, get_or_from_slice_get}
@@ -10,10 +10,11 @@ use Rattle.std.proofs.lemmas.Slice.Eq.{bytes_eq-Decides}
 use Rattle.edi_tables.specs.declared.tag.Tag.{Tag}
 use Rattle.edi_tables.specs.declared.table.Node.{Node}
 use Rattle.edi_tables.specs.Rows.{IsTable}
-use Rattle.edi_tables.specs.Walk.{read_node, tag_at, parent_at, is_group_at, is_trigger_at, is_repeat, groups_up, groups_round, candidates_of}
+use Rattle.edi_tables.specs.Walk.{read_node, tag_at, parent_at, is_group_at, is_trigger_at, is_repeat, groups_round, candidates_of}
 use Rattle.edi_tables.specs.Placement.{group_count, entry_count, last_placed, IsPlacement}
 use Rattle.edi_tables.specs.Collisions.{is_follower, followers_of, collisions_of}
 use Rattle.edi_tables.proofs.NodeReads.{tag_at_is, is_group_at_is}
+use Rattle.edi_tables.proofs.Groups.{groups_fail}
 use Rattle.edi_tables.proofs.TableLaws.{HasTableLaws, table_laws}
 use Rattle.collision_check.proofs.Pairs.{has_octets}
 use Rattle.collision_check.proofs.Alone.{tags_differ}
@@ -89,18 +90,11 @@ module _ (nodes : List Node) (table : IsTable nodes) where
   pub repeat_round : (f c : ℕ) → is_repeat nodes f c ≡ true → is_round nodes f (c - 1) ≡ true
   repeat_round f c repeat = any_before c (groups_round nodes f) (and_parts (is_trigger_at nodes c) _ repeat).1
 
-  groups_below : (n : ℕ) (found : Option ℕ) (c g : ℕ) → ((h : ℕ) → found ≡ Some h → h < c) → list_any (nat_eq g) (groups_up nodes n found) ≡ true → g < c
-  groups_below zero found c g below some = absurd (false≢true some)
-  groups_below (suc n) None c g below some = absurd (false≢true some)
-  groups_below (suc n) (Some h) c g below some = ⊎_elim
-      (λ here. omega (arith, eqb-true g h here, below h refl))
-      (λ later. groups_below n (parent_at nodes h) c g (λ k up. omega (arith, laws.parent_before h k up, below h refl)) later)
-      (or_cases (nat_eq g h) (list_any (nat_eq g) (groups_up nodes n (parent_at nodes h))) some)
-
   -- a group stands before what it stands round
   pub round_below : (c g : ℕ) → is_round nodes c g ≡ true → g < c
-  unfolding groups_round
-  round_below c g round = groups_below c (parent_at nodes c) c g (λ h up. laws.parent_before c h up) round
+  round_below c g round = ⊎_elim (λ below. below)
+      (λ past. absurd (false≢true (sym (groups_fail nodes laws (nat_eq g) c (λ h before. ne_eqb g h (λ same. omega arith))) ∙ round)))
+      (cases_lt g c)
 
   -- no group stands round the first node
   pub first_outside : (found : Option ℕ) → parent_at nodes 0 ≡ found → parent_at nodes 0 ≡ None

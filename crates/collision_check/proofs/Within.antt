@@ -1,12 +1,13 @@
 -- The candidates behind an entry stand in the table.
-use Rattle.std.proofs.Common.{◌≡◌, ℕ, zero, suc, ◌+◌, ◌-◌, ◌<◌, ◌≤◌, true, List, [], ◌∷◌, Option, Some, None, map, length, refl, arith}
+use Rattle.std.proofs.Common.{◌≡◌, ℕ, zero, suc, ◌+◌, ◌-◌, ◌<◌, ◌≤◌, true, List, [], ◌∷◌, map, length, arith}
 use Rattle.std.specs.Prelude.{if◌then◌else◌}
 use Rattle.std.specs.List.{All, range_with_len}
 use Rattle.std.proofs.lemmas.Bool.{cond_both}
 use Rattle.std.proofs.lemmas.List.Elements.{All-nil, All-cons, All-head, All-tail, All-append, All-filter, All-map, All-weaker}
 use Rattle.edi_tables.specs.declared.table.Node.{Node}
 use Rattle.edi_tables.specs.Rows.{IsTable}
-use Rattle.edi_tables.specs.Walk.{parent_at, is_group_at, is_trigger_at, entry_for, are_siblings, later_siblings, groups_up, groups_round, outward, candidates_of}
+use Rattle.edi_tables.specs.Walk.{is_group_at, is_trigger_at, entry_for, are_siblings, later_siblings, groups_round, outward, candidates_of}
+use Rattle.edi_tables.proofs.Groups.{groups_all}
 use Rattle.edi_tables.proofs.TableLaws.{HasTableLaws, table_laws}
 
 range_below : (bound n a : ℕ) → a + n ≤ bound → All (λ k. k < bound) (range_with_len a n)
@@ -36,12 +37,6 @@ module _ (nodes : List Node) (table : IsTable nodes) where
   level_within i within =
       All-map InTable (entry_for nodes) (later_siblings nodes i) (All-weaker InTable (λ j. InTable (entry_for nodes j)) entry_within (later_siblings nodes i) (siblings_within i within))
 
-  groups_are : (n : ℕ) (found : Option ℕ) → ((g : ℕ) → found ≡ Some g → IsGroup g) → All IsGroup (groups_up nodes n found)
-  groups_are zero found group = All-nil IsGroup
-  groups_are (suc n) None group = All-nil IsGroup
-  groups_are (suc n) (Some g) group =
-      All-cons IsGroup g (groups_up nodes n (parent_at nodes g)) (group g refl) (groups_are n (parent_at nodes g) (λ h up. laws.parent_is_group g h up))
-
   outward_within : (groups : List ℕ) (i : ℕ) → i < length nodes → All IsGroup groups → All InTable (outward nodes i groups)
   outward_within [] i within are = level_within i within
   outward_within (g ∷ groups) i within are =
@@ -50,8 +45,8 @@ module _ (nodes : List Node) (table : IsTable nodes) where
       (All-cons InTable (g + 1) (outward nodes g groups) trigger (outward_within groups g (omega arith) (All-tail IsGroup g groups are)))
 
   pub candidates_within : (f : ℕ) → f < length nodes → All InTable (candidates_of nodes f)
-  unfolding candidates_of groups_round
+  unfolding candidates_of
   candidates_within f within =
       All-append InTable (if is_trigger_at nodes f then [] else f ∷ []) (outward nodes f (groups_round nodes f))
       (cond_both (is_trigger_at nodes f) [] (f ∷ []) (All InTable) (λ _. All-nil InTable) (λ _. All-cons InTable f [] within (All-nil InTable)))
-      (outward_within (groups_round nodes f) f within (groups_are f (parent_at nodes f) (λ g up. laws.parent_is_group f g up)))
+      (outward_within (groups_round nodes f) f within (groups_all nodes laws IsGroup laws.parent_is_group f))

@@ -7,6 +7,7 @@ use Rattle.edi_tables.specs.Tag.{is_capital, is_digit, is_tag_octet_of, is_tag_o
 use Rattle.edi_tables.specs.declared.tag.Tag.{Tag}
 use Rattle.edi_tables.specs.declared.segment.TableRow.{TableRow}
 use Rattle.edi_tables.specs.declared.segment.MessageDef.{MessageDef}
+use Rattle.edi_tables.specs.declared.table.RowFault.{RowFault}
 use Rattle.edi_tables.specs.declared.table.TableKind.{TableKind}
 use Rattle.edi_tables.specs.declared.table.TableKind.TheVariants as table
 use Rattle.edi_tables.specs.Rows.{table_faults, when}
@@ -170,8 +171,8 @@ kind_of table.TooDeep = TooDeep
 kind_of table.NoTrigger = NoTrigger
 
 -- a fault of the rows stands at its row's line, or at the type line where there is no such row
-abbrev pub row_fault : Line → List Line → ℕ × TableKind → DirFault
-row_fault type lines p = elim (slice_get lines p.0) [ None ↦ at_line (kind_of p.1) type | Some line ↦ at_line (kind_of p.1) line ]
+abbrev pub row_fault : Line → List Line → RowFault → DirFault
+row_fault type lines fault = elim (slice_get lines fault.at) [ None ↦ at_line (kind_of fault.kind) type | Some line ↦ at_line (kind_of fault.kind) line ]
 
 -- the faults behind the type line, in judging order: each line, groups left open, the rows
 abbrev pub table_part_faults : Line → List Line → List DirFault

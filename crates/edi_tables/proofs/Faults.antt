@@ -6,6 +6,7 @@ use Rattle.std.specs.Option.{option_map}
 use Rattle.std.proofs.lemmas.Bool.{lt-ltb, le-ltb, ltb-false, ne_eqb, cases_eq, cases_lt}
 use Rattle.std.proofs.lemmas.Option.{slice_get-get_or, slice_get-map, slice_get_within, none-some}
 use Rattle.edi_tables.specs.declared.segment.TableRow.{TableRow}
+use Rattle.edi_tables.specs.declared.table.RowFault.{RowFault}
 use Rattle.edi_tables.specs.declared.table.TableKind.{TableKind}
 use Rattle.edi_tables.specs.declared.table.TableKind.TheVariants.{TooMany, NoUnhUnt}
 use Rattle.edi_tables.specs.Rows.{when, breaks_frame, breaks_envelope, breaks_max, breaks_depth, breaks_trigger, row_faults, faults_at, table_faults}
@@ -44,31 +45,35 @@ nil-flat_map f a (suc n) none k from below =
       | inr past ↦ nil-flat_map f (a + 1) n parts.1 k (omega arith) (omega arith)
     ]
 
-abbrev pub faults_of_place : List TableRow → ℕ → List (ℕ × TableKind)
+-- a rule that the row at i breaks
+abbrev pub at_row : ℕ → TableKind → RowFault
+at_row i kind = record { at = i; kind = kind }
+
+abbrev pub faults_of_place : List TableRow → ℕ → List RowFault
 faults_of_place rows i = faults_at rows i (slice_get rows i)
 
 table_faults_by_place : (rows : List TableRow) → length rows ≤ 2000 → 0 < length rows → table_faults rows ≡ flat_map (faults_of_place rows) (range_with_len 0 (length rows))
 unfolding table_faults
 table_faults_by_place rows few some = rw (le-ltb 2000 (length rows) few, ne_eqb (length rows) 0 (omega arith)) refl
 
-too_many : (rows : List TableRow) → 2000 < length rows → table_faults rows ≡ (2000, TooMany) ∷ []
+too_many : (rows : List TableRow) → 2000 < length rows → table_faults rows ≡ (at_row 2000 TooMany) ∷ []
 unfolding table_faults
 too_many rows many = rw (lt-ltb 2000 (length rows) many) refl
 
-no_rows : (rows : List TableRow) → length rows ≡ 0 → table_faults rows ≡ (0, NoUnhUnt) ∷ []
+no_rows : (rows : List TableRow) → length rows ≡ 0 → table_faults rows ≡ (at_row 0 NoUnhUnt) ∷ []
 unfolding table_faults
 no_rows rows none = rw none refl
 
-pub first_fault_too_many : (rows : List TableRow) → 2000 < length rows → slice_get (table_faults rows) 0 ≡ Some (2000, TooMany)
+pub first_fault_too_many : (rows : List TableRow) → 2000 < length rows → slice_get (table_faults rows) 0 ≡ Some (at_row 2000 TooMany)
 first_fault_too_many rows many = ap (λ faults. slice_get faults 0) (too_many rows many)
 
-pub first_fault_no_rows : (rows : List TableRow) → length rows ≡ 0 → slice_get (table_faults rows) 0 ≡ Some (0, NoUnhUnt)
+pub first_fault_no_rows : (rows : List TableRow) → length rows ≡ 0 → slice_get (table_faults rows) 0 ≡ Some (at_row 0 NoUnhUnt)
 first_fault_no_rows rows none = ap (λ faults. slice_get faults 0) (no_rows rows none)
 
-pub first_fault_at : (rows : List TableRow) (i : ℕ) (row : TableRow) (kind : TableKind) → length rows ≤ 2000 → i < length rows → ((k : ℕ) → k < i → faults_of_place rows k ≡ []) → slice_get rows i ≡ Some row → slice_get (row_faults rows i row) 0 ≡ Some kind → slice_get (table_faults rows) 0 ≡ Some (i, kind)
+pub first_fault_at : (rows : List TableRow) (i : ℕ) (row : TableRow) (kind : TableKind) → length rows ≤ 2000 → i < length rows → ((k : ℕ) → k < i → faults_of_place rows k ≡ []) → slice_get rows i ≡ Some row → slice_get (row_faults rows i row) 0 ≡ Some kind → slice_get (table_faults rows) 0 ≡ Some (at_row i kind)
 first_fault_at rows i row kind few within before at first =
-    rw (table_faults_by_place rows few (omega arith)) (first-flat_map (faults_of_place rows) 0 (length rows) i (i, kind) (omega arith) (omega arith) (λ k _ below. before k below)
-    (rw at (slice_get-map (λ kind. (i, kind)) (row_faults rows i row) 0 ∙ ap (option_map (λ kind. (i, kind))) first)))
+    rw (table_faults_by_place rows few (omega arith)) (first-flat_map (faults_of_place rows) 0 (length rows) i (at_row i kind) (omega arith) (omega arith) (λ k _ below. before k below)
+    (rw at (slice_get-map (at_row i) (row_faults rows i row) 0 ∙ ap (option_map (at_row i)) first)))
 
 pub no_first_fault : (rows : List TableRow) → length rows ≤ 2000 → 0 < length rows → ((k : ℕ) → k < length rows → faults_of_place rows k ≡ []) → table_faults rows ≡ []
 no_first_fault rows few some none =
@@ -123,7 +128,7 @@ pub keeps_rules : (rows : List TableRow) → table_faults rows ≡ [] → (i : �
 keeps_rules rows none i row at =
     let all = sym (table_faults_by_place rows (few_rows rows none) (some_rows rows none)) ∙ none in
     let here = nil-flat_map (faults_of_place rows) 0 (length rows) all i (omega arith) (omega (arith, slice_get_within rows i row at)) in
-    keeps_from_none rows i row (map-nil (λ kind. (i, kind)) _ (subst (λ (found : Option TableRow). faults_at rows i found ≡ []) at here))
+    keeps_from_none rows i row (map-nil (at_row i) _ (subst (λ (found : Option TableRow). faults_at rows i found ≡ []) at here))
 
 -- no row of a segment table is deeper than 16
 pub small_depth : (rows : List TableRow) → table_faults rows ≡ [] → (i depth : ℕ) (d : TableRow) → i < length rows → depth ≡ (get_or rows i d).depth → depth ≤ 16

@@ -1,6 +1,8 @@
+pub mod AscendingLemmas
 pub mod Depths
 pub mod Faults
 pub mod Finding
+pub mod Groups
 pub mod Lawful
 pub mod Made
 pub mod NodeReads

@@ -4,7 +4,7 @@ use Rattle.std.specs.Prelude.{codes}
 use Rattle.std.proofs.lemmas.Bool.{cases_lt, false≢true}
 use Rattle.edi_tables.specs.declared.segment.TableRow.{TableRow}
 use Rattle.edi_tables.specs.declared.table.Node.{Node}
-use Rattle.edi_tables.specs.Rows.{has_name, is_group_row, depth_at, table_faults, nodes_of, IsTable}
+use Rattle.edi_tables.specs.Rows.{has_name, is_group_row, depth_at, table_faults, nodes_of, rows_of, IsTable}
 use Rattle.edi_tables.specs.Walk.{tag_at, parent_at, is_must_at, max_at, end_at, is_group_at, level_end}
 use Rattle.edi_tables.proofs.Depths.{some_or_none, IsEnd, end_of_found, end_of_is, IsParent, parent_of_some, parent_of_at_none, parent_of_is, parent_of_none, held_in_rows, held_before_end, ends_nested, held_between, sibling_behind}
 use Rattle.edi_tables.proofs.Faults.{few_rows}
@@ -53,7 +53,8 @@ pub record HasTableLaws (nodes : List Node) : Type 0 where
   -- what a group holds begins and ends before its end
   pub before_parent_end : (i g : ℕ) → parent_at nodes i ≡ Some g → i < end_at nodes g
   pub end_in_parent : (i g : ℕ) → parent_at nodes i ≡ Some g → end_at nodes i ≤ end_at nodes g
-  -- a node between another and its end is held by that one or by a later group
+  -- a node between another and its end ends no later, and is held by that one or by a later group
+  pub ends_inside : (i k : ℕ) → i < k → k < end_at nodes i → end_at nodes k ≤ end_at nodes i
   pub held_inside : (i k : ℕ) → i < k → k < end_at nodes i → (h : ℕ) × (i ≤ h) × (parent_at nodes k ≡ Some h)
   -- at the end of a node stands its next sibling, or its siblings end there
   pub sibling_at_end : (i : ℕ) → i < length nodes → end_at nodes i < level_end nodes i → parent_at nodes (end_at nodes i) ≡ parent_at nodes i
@@ -123,6 +124,15 @@ module _ (rows : List TableRow) (lawful : table_faults rows ≡ []) where
       let held = held_between rows i _ k (end_row i within) past below in
       (held.0, held.1, parent_made k held.0 held.2)
 
+  inner_ends : (i k : ℕ) → i < k → k < end_at made i → end_at made k ≤ end_at made i
+  inner_ends i k past below =
+      let within = in_rows k (omega (arith, end_bound i)) in
+      let outer = end_row i (omega arith) in
+      let inner = end_row k within in
+      ⊎_elim
+      (λ further. absurd (omega (arith, inner.inside (end_at made i) below further, outer.inside k past below, outer.stops (omega (arith, inner.within)))))
+      (λ nested. nested) (cases_lt (end_at made i) (end_at made k))
+
   sibling_in_group : (i g : ℕ) → i < length rows → parent_at made i ≡ Some g → end_at made i < end_at made g → parent_at made (end_at made i) ≡ Some g
   sibling_in_group i g within is below =
       let parent = parent_row i g is in
@@ -170,7 +180,7 @@ module _ (rows : List TableRow) (lawful : table_faults rows ≡ []) where
       let parent = parent_row i g is in
       held_before_end rows i g _ parent (end_row g (omega (arith, held_in_rows rows i g parent, parent.before)))
 
-  table_laws_of_rows : HasTableLaws made
+  pub table_laws_of_rows : HasTableLaws made
   table_laws_of_rows = record {
     some = omega (arith, two_rows rows lawful, length-nodes_of rows);
     small = omega (arith, few_rows rows lawful, length-nodes_of rows);
@@ -198,10 +208,11 @@ module _ (rows : List TableRow) (lawful : table_faults rows ≡ []) where
     entry_end = λ i within entry. entry_ends i (in_rows i within) entry;
     before_parent_end = held_before;
     end_in_parent = ends_held;
+    ends_inside = inner_ends;
     held_inside = held_in;
     sibling_at_end = λ i within below. sibling_behind_end i (in_rows i within) below;
   }
 
 -- the laws hold in each table
 pub table_laws : (nodes : List Node) → IsTable nodes → HasTableLaws nodes
-table_laws nodes table = subst HasTableLaws (sym table.2) (table_laws_of_rows table.0 table.1)
+table_laws nodes table = subst HasTableLaws (sym table.1) (table_laws_of_rows (rows_of nodes) table.0)

@@ -1,11 +1,11 @@
 -- The table of the test order, a small order with a group of parties and a group of lines that holds a group of prices: what the definitions come to on it.
-use Rattle.std.proofs.Common.{◌≡◌, ℕ, Bool, true, false, List, [], ◌∷◌, Option, Some, None, refl}
+use Rattle.std.proofs.Common.{◌≡◌, ℕ, Bool, true, false, List, [], ◌∷◌, Option, Some, None, refl, sym, ap, ◌∙◌}
 use Rattle.std.specs.Prelude.{codes}
 use Rattle.edi_tables.specs.declared.tag.Tag.{Tag}
 use Rattle.edi_tables.specs.declared.segment.TableRow.{TableRow}
 use Rattle.edi_tables.specs.declared.table.Node.{Node}
-use Rattle.edi_tables.specs.Rows.{parent_of, end_of, table_faults, nodes_of, IsTable}
-use Rattle.edi_tables.specs.Walk.{parent_at, end_at, later_siblings, siblings_by_end, groups_round, candidates_of, later_nodes, missing_between, missing_past}
+use Rattle.edi_tables.specs.Rows.{parent_of, end_of, table_faults, nodes_of, rows_of, IsTable}
+use Rattle.edi_tables.specs.Walk.{parent_at, end_at, later_siblings, groups_round, candidates_of, later_nodes, missing_between, missing_past}
 use Rattle.edi_tables.specs.Extents.{Extent, message_extents, group_extents}
 
 abbrev pub tag_of : List ℕ → Option Tag
@@ -41,9 +41,14 @@ test_order_made : test_order ≡ nodes_of test_order_rows
 unfolding test_order test_order_rows parent_of end_of
 test_order_made = refl
 
+-- its nodes give the rows back
+test_order_back : rows_of test_order ≡ test_order_rows
+unfolding test_order test_order_rows rows_of groups_round
+test_order_back = refl
+
 -- it is a segment table
 pub test_order_is : IsTable test_order
-test_order_is = (test_order_rows, test_order_lawful, test_order_made)
+test_order_is = (ap table_faults test_order_back ∙ test_order_lawful, test_order_made ∙ ap nodes_of (sym test_order_back))
 
 -- the prices are held by the lines, and both end before UNS
 parent_of_price : parent_at test_order 10 ≡ Some 9
@@ -66,10 +71,6 @@ end_of_lines = refl
 siblings_of_quantity : later_siblings test_order 8 ≡ 9 ∷ []
 unfolding test_order later_siblings
 siblings_of_quantity = refl
-
-siblings_of_quantity_by_end : siblings_by_end test_order 8 ≡ 9 ∷ []
-unfolding test_order siblings_by_end
-siblings_of_quantity_by_end = refl
 
 groups_round_price : groups_round test_order 10 ≡ 9 ∷ 6 ∷ []
 unfolding test_order groups_round

@@ -1,16 +1,17 @@
 -- Later siblings, the groups round a node and the nodes behind it, by going from end to end.
-use Rattle.std.proofs.Common.{◌≡◌, ℕ, zero, suc, ◌+◌, ◌-◌, ◌<◌, ◌≤◌, Bool, true, false, List, [], ◌∷◌, ◌++◌, Option, Some, None, length, refl, sym, ap, subst, ◌∙◌, inl, inr, ⊎_elim, arith}
+use Rattle.std.proofs.Common.{◌≡◌, ℕ, ◌+◌, ◌<◌, ◌≤◌, Bool, true, false, List, [], ◌∷◌, ◌++◌, Option, Some, None, length, refl, sym, ap, subst, ◌∙◌, inl, inr, ⊎_elim, arith}
 use Rattle.std.specs.Prelude.{nat_eq, nat_lt, ◌&&◌, ◌||◌}
 use Rattle.std.specs.List.{list_any}
 use Rattle.std.specs.Option.{option_eq}
-use Rattle.std.proofs.lemmas.Bool.{eq-eqb, ne_eqb, lt-ltb, le-ltb, cases_lt, or_from, and_right}
+use Rattle.std.proofs.lemmas.Bool.{eq-eqb, ne_eqb, lt-ltb, cases_lt, or_from, and_right}
 use Rattle.std.proofs.lemmas.List.{append-nil}
 use Rattle.edi_tables.specs.declared.table.Node.{Node}
-use Rattle.edi_tables.specs.Rows.{IsTable}
-use Rattle.edi_tables.specs.Walk.{parent_at, end_at, are_siblings, later_siblings, level_end, by_end, siblings_by_end, groups_up, groups_round, later_nodes}
+use Rattle.edi_tables.specs.Rows.{rows_of, IsTable}
+use Rattle.edi_tables.specs.Walk.{parent_at, end_at, are_siblings, later_siblings, level_end, groups_round, later_nodes}
 use Rattle.edi_tables.proofs.Depths.{some_or_none}
 use Rattle.edi_tables.proofs.Lawful.{depth_bound}
-use Rattle.edi_tables.proofs.Restored.{groups_up_none, depth_at-rows}
+use Rattle.edi_tables.proofs.Groups as groups
+use Rattle.edi_tables.proofs.Restored.{depth_at-rows}
 use Rattle.edi_tables.proofs.Stretches.{passing, passing_yes, passing_skip, passing_none, passing_same, passing_split}
 use Rattle.edi_tables.proofs.TableLaws.{HasTableLaws, table_laws, level_end_none, level_end_some}
 
@@ -89,62 +90,18 @@ module _ (nodes : List Node) (table : IsTable nodes) where
   pub level_end_same : (i j : ℕ) → parent_at nodes i ≡ parent_at nodes j → level_end nodes i ≡ level_end nodes j
   level_end_same i j same = ap (λ (found : Option ℕ). elim found [ None ↦ length nodes | Some g ↦ end_at nodes g ]) same
 
-  by_end_step : (n i : ℕ) → i < length nodes → end_at nodes i < level_end nodes i
-      → by_end nodes (level_end nodes (end_at nodes i)) n (end_at nodes (end_at nodes i)) ≡ later_siblings nodes (end_at nodes i) → by_end nodes (level_end nodes i) (suc n) (end_at nodes i) ≡ later_siblings nodes i
-  by_end_step n i within more next =
-      let same = level_end_same (end_at nodes i) i (laws.sibling_at_end i within more) in
-      rw (lt-ltb (end_at nodes i) (level_end nodes i) more)
-      (ap (λ bound. end_at nodes i ∷ by_end nodes bound n (end_at nodes (end_at nodes i))) (sym same)
-      ∙ ap (λ rest. end_at nodes i ∷ rest) next ∙ sym (later_siblings_next i within more))
-
-  by_end_fuel : (n i : ℕ) → i < length nodes → level_end nodes i ≤ end_at nodes i + suc n → end_at nodes i < level_end nodes i
-      → (end_at nodes i < length nodes) × (level_end nodes (end_at nodes i) ≤ end_at nodes (end_at nodes i) + n)
-  by_end_fuel n i within fuel more =
-      let same = level_end_same (end_at nodes i) i (laws.sibling_at_end i within more) in
-      let here : end_at nodes i < length nodes = omega (arith, level_end_within i) in
-      (here, omega (arith, laws.end_behind (end_at nodes i) here))
-
-  by_end_more : (n i : ℕ) → i < length nodes → level_end nodes i ≤ end_at nodes i + n → by_end nodes (level_end nodes i) n (end_at nodes i) ≡ later_siblings nodes i
-  by_end_more zero i within fuel = sym (later_siblings_none i within (omega (arith, end_in_level i)))
-  by_end_more (suc n) i within fuel = elim (cases_lt (end_at nodes i) (level_end nodes i)) [
-    | inl more ↦ by_end_step n i within more (by_end_more n (end_at nodes i) (by_end_fuel n i within fuel more).0 (by_end_fuel n i within fuel more).1)
-    | inr last ↦ rw (le-ltb (end_at nodes i) (level_end nodes i) last) (sym (later_siblings_none i within (omega (arith, end_in_level i))))
-  ]
-
-  -- the later siblings are those that are found from end to end
-  pub later_siblings-by_end : (i : ℕ) → i < length nodes → later_siblings nodes i ≡ siblings_by_end nodes i
-  unfolding siblings_by_end
-  later_siblings-by_end i within = sym (by_end_more (length nodes) i within (omega (arith, level_end_within i)))
-
-  groups_up_more : (n g : ℕ) → 0 < n → groups_up nodes n (Some g) ≡ g ∷ groups_up nodes (n - 1) (parent_at nodes g)
-  groups_up_more zero g some = absurd (omega arith)
-  groups_up_more (suc n) g some = ap (λ m. g ∷ groups_up nodes m (parent_at nodes g)) (omega arith)
-
-  groups_up_fuel : (n m : ℕ) (found : Option ℕ) → ((g : ℕ) → found ≡ Some g → (g < n) × (g < m)) → groups_up nodes n found ≡ groups_up nodes m found
-  groups_up_fuel n m None small = groups_up_none nodes n ∙ sym (groups_up_none nodes m)
-  groups_up_fuel zero m (Some g) small = absurd (omega (arith, (small g refl).0))
-  groups_up_fuel (suc n) zero (Some g) small = absurd (omega (arith, (small g refl).1))
-  groups_up_fuel (suc n) (suc m) (Some g) small =
-      ap (λ more. g ∷ more) (groups_up_fuel n m (parent_at nodes g)
-      (λ h is. (omega (arith, (small g refl).0, laws.parent_before g h is), omega (arith, (small g refl).1, laws.parent_before g h is))))
-
   -- the groups round a node: its parent, and then those round that
   pub groups_round_none : (i : ℕ) → parent_at nodes i ≡ None → groups_round nodes i ≡ []
-  unfolding groups_round
-  groups_round_none i is = ap (groups_up nodes i) is ∙ groups_up_none nodes i
+  groups_round_none i is = groups.groups_round_none nodes laws i is
 
   pub groups_round_some : (i g : ℕ) → parent_at nodes i ≡ Some g → groups_round nodes i ≡ g ∷ groups_round nodes g
-  unfolding groups_round
-  groups_round_some i g is =
-      let before = laws.parent_before i g is in
-      ap (groups_up nodes i) is ∙ groups_up_more i g (omega arith)
-      ∙ ap (λ more. g ∷ more) (groups_up_fuel (i - 1) g (parent_at nodes g)
-      (λ h up. (omega (arith, laws.parent_before g h up), laws.parent_before g h up)))
+  groups_round_some i g is = groups.groups_round_some nodes laws i g is
 
   -- there are no more than 16
   pub length-groups_round : (i : ℕ) → length (groups_round nodes i) ≤ 16
   length-groups_round i =
-      subst (λ (made : List Node). length (groups_round made i) ≤ 16) (sym table.2) (omega (arith, depth_at-rows table.0 table.1 i, depth_bound table.0 table.1 i))
+      subst (λ (made : List Node). length (groups_round made i) ≤ 16) (sym table.1)
+      (omega (arith, depth_at-rows (rows_of nodes) table.0 i, depth_bound (rows_of nodes) table.0 i))
 
   -- a node inside a group has no sibling up to that group
   none_above : (g k i : ℕ) → g < k → k < end_at nodes g → i ≤ g → are_siblings nodes i k ≡ false
@@ -152,17 +109,10 @@ module _ (nodes : List Node) (table : IsTable nodes) where
       let held = laws.held_inside g k past below in
       siblings_differ nodes i k (λ same. absurd (omega (arith, held.1, laws.parent_before i held.0 (same ∙ held.2))))
 
-  groups_fail : (test : ℕ → Bool) (n b : ℕ) (found : Option ℕ) → ((g : ℕ) → found ≡ Some g → g ≤ b) → ((i : ℕ) → i ≤ b → test i ≡ false) → list_any test (groups_up nodes n found) ≡ false
-  groups_fail test zero b found small fails = refl
-  groups_fail test (suc n) b None small fails = refl
-  groups_fail test (suc n) b (Some g) small fails =
-      or_from _ _ (fails g (small g refl)) (groups_fail test n b (parent_at nodes g) (λ h is. omega (arith, laws.parent_before g h is, small g refl)) fails)
-
   levels_fail : (g k : ℕ) → g < k → k < end_at nodes g → stands_behind nodes (g ∷ groups_round nodes g) k ≡ false
-  unfolding groups_round
   levels_fail g k past below =
       let fails : (i : ℕ) → i ≤ g → (nat_lt i k && are_siblings nodes i k) ≡ false = λ i up. and_right _ _ (none_above g k i past below up) in
-      or_from _ _ (fails g (omega arith)) (groups_fail (λ i. nat_lt i k && are_siblings nodes i k) g g (parent_at nodes g) (λ h is. omega (arith, laws.parent_before g h is)) fails)
+      or_from _ _ (fails g (omega arith)) (groups.groups_fail nodes laws (λ i. nat_lt i k && are_siblings nodes i k) g (λ h before. fails h (omega arith)))
 
   first_level : (levels : List ℕ) (f k : ℕ) → f < k → stands_behind nodes (f ∷ levels) k ≡ (are_siblings nodes f k || stands_behind nodes levels k)
   first_level levels f k past = rw (lt-ltb f k past) refl

@@ -1,3 +1,4 @@
+pub mod Ascending
 pub mod Collisions
 pub mod Extents
 pub mod First

@@ -41,9 +41,6 @@ is_over nodes placed c =
     if is_repeat nodes (last_placed placed) c then nat_le (max_at nodes (c - 1)) (group_count nodes placed (c - 1))
     else (c == last_placed placed && nat_le (max_at nodes c) (entry_count nodes placed c))
 
-abbrev pub IsOver : List Node → List (Option ℕ) → ℕ → Type 0
-IsOver nodes placed c = is_over nodes placed c ≡ true
-
 -- whether a list has a member
 abbrev pub is_filled : {A : Type 0} → List A → Bool
 is_filled [] = false

@@ -1,14 +1,17 @@
 -- Which rows are a segment table, and the nodes that they stand for.
-use Rattle.std.specs.Prelude.{◌≡◌, ◌-◌, ◌+◌, ℕ, Bool, true, false, not, ◌==◌, ◌&&◌, ◌||◌, nat_le, nat_lt, List, [], ◌∷◌, ◌++◌, length, map, reverse, find, slice_get, Option, Some, None, unwrap_or, Result, Ok, Err, codes, if◌then◌else◌}
+use Rattle.std.specs.Prelude.{◌≡◌, ◌-◌, ◌+◌, ℕ, Bool, true, false, not, ◌==◌, ◌&&◌, ◌||◌, nat_le, nat_lt, List, [], ◌∷◌, ◌++◌, length, map, reverse, find, slice_get, Option, Some, None, unwrap_or, Result, codes, if◌then◌else◌}
 use Rattle.std.specs.List.{range_with_len, flat_map}
 use Rattle.std.specs.Str.{bytes_eq}
 use Rattle.edi_tables.specs.declared.tag.Tag.{Tag}
 use Rattle.edi_tables.specs.declared.segment.TableRow.{TableRow}
 use Rattle.edi_tables.specs.declared.table.Node.{Node}
+use Rattle.edi_tables.specs.declared.table.RowFault.{RowFault}
 use Rattle.edi_tables.specs.declared.table.TableKind.{TableKind}
 use Rattle.edi_tables.specs.declared.table.TableKind.TheVariants.{TooMany, NoUnhUnt, EnvelopeTag, BadMax, BadDepth, TooDeep, NoTrigger}
 use Rattle.edi_tables.specs.declared.table.TableStop.{TableStop}
 use Rattle.edi_tables.specs.declared.table.TableStop.TheVariants.{Fault, Memory}
+use Rattle.edi_tables.specs.First.{unless_faulty}
+use Rattle.edi_tables.specs.Walk.{groups_round}
 
 -- a tag with this name
 abbrev pub has_name : List ℕ → Option Tag → Bool
@@ -69,15 +72,15 @@ row_faults rows i row =
     when (breaks_frame rows i row) NoUnhUnt ++ when (breaks_envelope rows i row) EnvelopeTag ++ when (breaks_max row) BadMax
     ++ when (breaks_depth rows i row) BadDepth ++ when (nat_lt 16 row.depth) TooDeep ++ when (breaks_trigger rows i row) NoTrigger
 
-abbrev pub faults_at : List TableRow → ℕ → Option TableRow → List (ℕ × TableKind)
+abbrev pub faults_at : List TableRow → ℕ → Option TableRow → List RowFault
 faults_at rows i None = []
-faults_at rows i (Some row) = map (λ kind. (i, kind)) (row_faults rows i row)
+faults_at rows i (Some row) = map (λ kind. record { at = i; kind = kind }) (row_faults rows i row)
 
 -- all faults of rows in judging order: more than 2,000 rows are judged before any row, and no rows have no first one
-unfoldable pub table_faults : List TableRow → List (ℕ × TableKind)
+unfoldable pub table_faults : List TableRow → List RowFault
 table_faults rows =
-    if nat_lt 2000 (length rows) then (2000, TooMany) ∷ []
-    else (if length rows == 0 then (0, NoUnhUnt) ∷ [] else flat_map (λ i. faults_at rows i (slice_get rows i)) (range_with_len 0 (length rows)))
+    if nat_lt 2000 (length rows) then record { at = 2000; kind = TooMany } ∷ []
+    else (if length rows == 0 then record { at = 0; kind = NoUnhUnt } ∷ [] else flat_map (λ i. faults_at rows i (slice_get rows i)) (range_with_len 0 (length rows)))
 
 -- the depth of the row at i: the number of groups round it
 abbrev pub depth_at : List TableRow → ℕ → ℕ
@@ -105,19 +108,27 @@ nodes_from rows i (row ∷ more) = node_of rows i row ∷ nodes_from rows (i + 1
 abbrev pub nodes_of : List TableRow → List Node
 nodes_of rows = nodes_from rows 0 rows
 
--- a segment table: the nodes of rows that break no rule
+-- the row of the node at i: it is as deep as groups are round it
+abbrev pub row_of : List Node → ℕ → Node → TableRow
+row_of nodes i node = record { tag = node.tag; must = node.must; max = node.max; depth = length (groups_round nodes i) }
+
+abbrev pub rows_from : List Node → ℕ → List Node → List TableRow
+rows_from nodes i [] = []
+rows_from nodes i (node ∷ more) = row_of nodes i node ∷ rows_from nodes (i + 1) more
+
+-- the rows that nodes stand for, one a node
+unfoldable pub rows_of : List Node → List TableRow
+rows_of nodes = rows_from nodes 0 nodes
+
+-- a segment table: its rows break no rule, and it has their nodes
 abbrev pub IsTable : List Node → Type 0
-IsTable nodes = (rows : List TableRow) × (table_faults rows ≡ []) × (nodes ≡ nodes_of rows)
+IsTable nodes = (table_faults (rows_of nodes) ≡ []) × (nodes ≡ nodes_of (rows_of nodes))
 
--- what `build` answers: the nodes exactly where no rule is broken, else the first fault; memory may run out
-abbrev pub first_or : {A : Type 0} → List (ℕ × TableKind) → A → Result A (ℕ × TableKind)
-first_or [] nodes = Ok nodes
-first_or (fault ∷ faults) nodes = Err fault
+-- the table of rows: their nodes where no rule is broken, else the first fault
+abbrev pub table_of : List TableRow → Result (List Node) RowFault
+table_of rows = unless_faulty (table_faults rows) (nodes_of rows)
 
-abbrev pub table_of : List TableRow → Result (List Node) (ℕ × TableKind)
-table_of rows = first_or (table_faults rows) (nodes_of rows)
-
-abbrev pub Builds : Result (List Node) TableStop → Result (List Node) (ℕ × TableKind) → Type 0
-Builds (Ok nodes) table = table ≡ Ok nodes
-Builds (Err (Fault at kind)) table = table ≡ Err (at, kind)
-Builds (Err Memory) table = Unit {0}
+-- the fault that a stop tells; want of memory tells none
+abbrev pub fault_in : TableStop → Option RowFault
+fault_in (Fault at kind) = Some (record { at = at; kind = kind })
+fault_in Memory = None

@@ -1,5 +1,5 @@
 -- Where a segment may stand behind another: candidates in a segment table, and what going to one passes.
-use Rattle.std.specs.Prelude.{◌-◌, ◌+◌, ℕ, zero, suc, Bool, true, false, ◌==◌, ◌&&◌, nat_eq, nat_lt, List, [], ◌∷◌, ◌++◌, length, map, filter, slice_get, Option, Some, None, if◌then◌else◌}
+use Rattle.std.specs.Prelude.{◌-◌, ◌+◌, ℕ, Bool, true, false, ◌==◌, ◌&&◌, nat_eq, nat_lt, List, [], ◌∷◌, ◌++◌, length, map, filter, reverse, slice_get, Option, Some, None, if◌then◌else◌}
 use Rattle.std.specs.List.{range_with_len, list_any}
 use Rattle.std.specs.Option.{option_eq}
 use Rattle.edi_tables.specs.declared.tag.Tag.{Tag}
@@ -44,24 +44,10 @@ later_siblings nodes i = filter (are_siblings nodes i) (range_with_len (i + 1) (
 abbrev pub level_end : List Node → ℕ → ℕ
 level_end nodes i = elim (parent_at nodes i) [ None ↦ length nodes | Some g ↦ end_at nodes g ]
 
--- from a node on, each time to where the last one ends, while below a bound; no more than n of them
-abbrev pub by_end : List Node → ℕ → ℕ → ℕ → List ℕ
-by_end nodes bound zero j = []
-by_end nodes bound (suc n) j = if nat_lt j bound then j ∷ by_end nodes bound n (end_at nodes j) else []
-
--- the later siblings of a node, found from end to end
-unfoldable pub siblings_by_end : List Node → ℕ → List ℕ
-siblings_by_end nodes i = by_end nodes (level_end nodes i) (length nodes) (end_at nodes i)
-
--- the groups round a node, innermost first; no more than n of them
-abbrev pub groups_up : List Node → ℕ → Option ℕ → List ℕ
-groups_up nodes zero group = []
-groups_up nodes (suc n) None = []
-groups_up nodes (suc n) (Some g) = g ∷ groups_up nodes n (parent_at nodes g)
-
--- the groups round a node, innermost first; a group stands before what it holds, so a node has no more than its number
+-- the groups round a node, innermost first: the groups before it that end after it
 unfoldable pub groups_round : List Node → ℕ → List ℕ
-groups_round nodes i = groups_up nodes i (parent_at nodes i)
+groups_round nodes i =
+    reverse (filter (λ g. is_group_at nodes g && nat_lt i (end_at nodes g)) (range_with_len 0 i))
 
 -- an entry is a trigger where it is the first node of its group
 abbrev pub is_trigger_of : Option ℕ → ℕ → Bool

@@ -3,7 +3,7 @@ ghost use Rattle.std.specs.Prelude.{◌≡◌, ◌+◌, ◌-◌, ◌<◌, ◌≤
 ghost use Rattle.std.specs.List.{prefix_len};
 ghost use Rattle.edi_tables.specs.Rows.{has_name, is_frame_row, breaks_frame, breaks_envelope, breaks_max, breaks_depth, breaks_trigger, depth_behind, is_group_row, is_trigger_row, row_faults, table_faults, end_of, nodes_of};
 
-use crate::{Node, TableKind, TableRow, Tag};
+use crate::{Node, RowFault, TableKind, TableRow, Tag};
 use std::alloc::{AllocError, Global};
 
 /// The most rows that a segment table has.
@@ -19,18 +19,24 @@ const DEPTHS: usize = 17;
 const MAX_COUNT: u32 = 999_999;
 
 /// The first row that breaks a rule, from 0, and the first rule that it breaks.
-pub fn first_fault(rows: &[TableRow]) -> Option<(u16, TableKind)>
+pub fn first_fault(rows: &[TableRow]) -> Option<RowFault>
     ensures { result ≡ slice_get (table_faults rows.now) 0 }
 {
     if rows.len() > MAX_ROWS {
-        return Some((MAX_ROWS as u16, TableKind::TooMany));
+        return Some(RowFault {
+            at: MAX_ROWS as u16,
+            kind: TableKind::TooMany,
+        });
     }
     if rows.is_empty() {
-        return Some((0, TableKind::NoUnhUnt));
+        return Some(RowFault {
+            at: 0,
+            kind: TableKind::NoUnhUnt,
+        });
     }
     for (i, row) in rows.iter().enumerate() {
         if let Some(kind) = row_fault(rows, i, row) {
-            return Some((i as u16, kind));
+            return Some(RowFault { at: i as u16, kind });
         }
     }
     None

@@ -1,10 +1,26 @@
 //! Data elements, code lists and composites of a directory.
+ghost use Rattle.std.specs.Prelude.{◌≡◌, ◌==◌, Some, None, length, if◌then◌else◌};
+
 use crate::{Chunk, List};
 
 /// The name of a data element (four digits) or of a composite (`C` or `S` and three digits).
 #[derive(Clone, Copy, Debug, PartialEq, Eq, PartialOrd, Ord, Hash)]
 pub struct Code {
     pub octets: [u8; 4],
+}
+
+impl Code {
+    /// The code that four octets are; no other octets are one.
+    pub fn read(part: &[u8]) -> Option<Code>
+        ensures { result ≡ (if length part.now == 4 then Some (record { octets = part.now }) else None) }
+    {
+        match part {
+            [first, second, third, fourth] => Some(Code {
+                octets: [*first, *second, *third, *fourth],
+            }),
+            _ => None,
+        }
+    }
 }
 
 /// What characters a value has: letters, digits, or both.

@@ -13,5 +13,5 @@ pub use chunk::Chunk;
 pub use element::{Class, Code, CodeList, CompositeDef, ElementDef, PartDef, Repr};
 pub use list::List;
 pub use segment::{ItemDef, MessageDef, SegmentDef, TableRow};
-pub use table::{Node, Table, TableKind, TableStop};
+pub use table::{Node, RowFault, Table, TableKind, TableStop};
 pub use tag::{Tag, is_tag};

@@ -30,7 +30,16 @@ pub enum TableKind {
     NoTrigger,
 }
 
-/// Why rows are no segment table: the first row, from 0, that breaks a rule, and the first rule that it breaks.
+/// The first row, from 0, that breaks a rule of segment tables, and the first rule that it breaks.
+///
+/// Where there are more than 2,000 rows it is row 2,000, and where there are none, row 0.
+#[derive(Clone, Copy, Debug, PartialEq, Eq)]
+pub struct RowFault {
+    pub at: u16,
+    pub kind: TableKind,
+}
+
+/// Why rows are no segment table: their first fault, or no memory for the nodes.
 #[derive(Debug, Drop, Error)]
 pub enum TableStop {
     #[error("the rows are no segment table")]
@@ -65,17 +74,25 @@ impl Model for Table {
 
     ghost view = { λ t. t.nodes.items };
 
-    ghost invariant = { λ t. ∥ IsTable t.nodes.items ∥₁ };
+    ghost invariant = { λ t. IsTable t.nodes.items };
 }
 
 impl Table {
-    ghost use Rattle.edi_tables.specs.Rows.{Builds, IsTable, table_of};
+    ghost use Rattle.edi_tables.specs.First.{Answers};
+    ghost use Rattle.edi_tables.specs.Rows.{IsTable, fault_in, table_faults, table_of};
 
-    /// The table of these rows where they break no rule, else the first row that breaks one and the first rule that it breaks.
-    pub fn build(alloc: Global, rows: &[TableRow]) -> Result<Table, TableStop>
-        ensures { Builds result (table_of rows.now) }
+    /// The first fault of these rows, if they are no segment table. It takes no memory.
+    pub fn first_fault(rows: &[TableRow]) -> Option<RowFault>
+        ensures { result ≡ slice_get (table_faults rows.now) 0 }
     {
-        if let Some((at, kind)) = build::first_fault(rows) {
+        build::first_fault(rows)
+    }
+
+    /// The table of these rows where they break no rule, else their first fault.
+    pub fn build(alloc: Global, rows: &[TableRow]) -> Result<Table, TableStop>
+        ensures { Answers (λ table. table) fault_in result (table_of rows.now) }
+    {
+        if let Some(RowFault { at, kind }) = build::first_fault(rows) {
             return Err(TableStop::Fault { at, kind });
         }
         Ok(Table {

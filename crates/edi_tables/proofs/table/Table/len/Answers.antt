@@ -1,12 +1,11 @@
 use Rattle.std.proofs.Common.{arith}
-use Rattle.edi_tables.proofs.Restored.{table_restored}
 use Rattle.edi_tables.proofs.TableLaws.{table_laws}
 use Rattle.edi_tables.proofs.table.Table.len.Goals as goal
 
 pub returns-clause-some : goal.returns-clause-some
 returns-clause-some c =
-    omega (arith, c.self.inside.nodes.ok.0, (table_laws c.self.inside.nodes.items (table_restored c.self.inside.nodes.items c.self.invariant)).some)
+    omega (arith, c.self.inside.nodes.ok.0, (table_laws c.self.inside.nodes.items c.self.invariant).some)
 
 pub returns-clause-small : goal.returns-clause-small
 returns-clause-small c =
-    omega (arith, c.self.inside.nodes.ok.0, (table_laws c.self.inside.nodes.items (table_restored c.self.inside.nodes.items c.self.invariant)).small)
+    omega (arith, c.self.inside.nodes.ok.0, (table_laws c.self.inside.nodes.items c.self.invariant).small)

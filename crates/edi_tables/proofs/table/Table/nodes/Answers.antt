@@ -1,7 +1,6 @@
 use Rattle.std.proofs.Common.{subst}
 use Rattle.edi_tables.specs.Rows.{IsTable}
-use Rattle.edi_tables.proofs.Restored.{table_restored}
 use Rattle.edi_tables.proofs.table.Table.nodes.Goals as goal
 
 pub returns-clause-lawful : goal.returns-clause-lawful
-returns-clause-lawful c = subst IsTable c.self.view_is (table_restored _ c.self.invariant)
+returns-clause-lawful c = subst IsTable c.self.view_is c.self.invariant

@@ -3,8 +3,10 @@ pub mod MemShelf
 pub mod MemSink
 pub mod MemSource
 pub mod Memory
+pub mod Named
 pub mod Place
 pub mod Read
 pub mod Shelf
 pub mod Sink
 pub mod Source
+pub mod StdSink

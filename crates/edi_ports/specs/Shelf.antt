@@ -4,23 +4,29 @@ use Rattle.std.specs.Str.{bytes_eq}
 use Rattle.edi_ports.specs.declared.shelf.Opened.{Opened}
 use Rattle.edi_ports.specs.declared.shelf.Opened.TheVariants.{Open, Absent, Failed}
 use Rattle.edi_ports.specs.declared.shelf.ShelfFile.{ShelfFile}
-use Rattle.edi_ports.specs.Faults.{HasRisen}
+use Rattle.edi_ports.specs.Faults.{one_more}
 
 -- the octets of the first file of that name, if there is one
 abbrev pub file_named : List ℕ → List ShelfFile → Option (List ℕ)
 file_named name [] = None
 file_named name (file ∷ files) = if bytes_eq file.name name then Some file.octets else file_named name files
 
--- the whole of the named file is the rest; there is none, and the count stays; or the count rose
-abbrev pub IsOpening : Option (List ShelfFile) → List ℕ → Option (List ℕ) → ℕ → ℕ → Opened → Type 0
-IsOpening files name rest before now Open = IfSome files (λ files. (octets : List ℕ) × (file_named name files ≡ Some octets) × (rest ≡ Some octets))
-IsOpening files name rest before now Absent = IfSome files (λ files. file_named name files ≡ None) × (now ≡ before)
-IsOpening files name rest before now Failed = HasRisen before now
+-- the whole of the named file is the rest; or there is no such file; a fault tells nothing of the files
+abbrev pub IsOpening : Option (List ShelfFile) → List ℕ → Option (List ℕ) → Opened → Type 0
+IsOpening files name rest Open = IfSome files (λ files. (octets : List ℕ) × (file_named name files ≡ Some octets) × (rest ≡ Some octets))
+IsOpening files name rest Absent = IfSome files (λ files. file_named name files ≡ None)
+IsOpening files name rest Failed = Unit {0}
 
 abbrev pub is_opened : Opened → Bool
 is_opened Open = true
 is_opened Absent = false
 is_opened Failed = false
+
+-- a count of faults after an opening: one more where it failed
+abbrev pub count_after_opening : ℕ → Opened → ℕ
+count_after_opening faults Open = faults
+count_after_opening faults Absent = faults
+count_after_opening faults Failed = one_more faults
 
 abbrev pub IsFailedOpening : Opened → Type 0
 IsFailedOpening opened = opened ≡ Failed

@@ -2,6 +2,7 @@
 use Rattle.std.specs.Prelude.{◌≡◌, ◌<◌, ◌≤◌, ◌-◌, ◌++◌, ℕ, List, length, take, drop, Option, Some, IfSome}
 use Rattle.edi_ports.specs.declared.sink.Put.{Put}
 use Rattle.edi_ports.specs.declared.sink.Put.TheVariants.{Took, Failed}
+use Rattle.edi_ports.specs.Faults.{one_more}
 
 -- the first n octets of the part were appended; at a fault nothing was
 abbrev pub IsPut : Option (List ℕ) → Option (List ℕ) → List ℕ → Put → Type 0
@@ -11,6 +12,11 @@ IsPut before now part Failed = IfSome before (λ held. now ≡ Some held)
 
 abbrev pub IsFailedPut : Put → Type 0
 IsFailedPut put = put ≡ Failed
+
+-- a count of faults after a put: one more where it failed
+abbrev pub count_after_put : ℕ → Put → ℕ
+count_after_put faults (Took n) = faults
+count_after_put faults Failed = one_more faults
 
 -- of the room for n octets so much is left; a put with room doesn't fail
 abbrev pub KeepsRoom : (ℕ → Type 0) → ℕ → Put → Type 0

@@ -15,7 +15,7 @@ abbrev pub IsFailedTake : Taken → Type 0
 IsFailedTake taken = taken ≡ Failed
 
 -- a count of faults after a take: one more where it failed
-abbrev pub count_after : ℕ → Taken → ℕ
-count_after faults (Got n) = faults
-count_after faults End = faults
-count_after faults Failed = one_more faults
+abbrev pub count_after_take : ℕ → Taken → ℕ
+count_after_take faults (Got n) = faults
+count_after_take faults End = faults
+count_after_take faults Failed = one_more faults

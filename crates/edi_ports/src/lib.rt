@@ -3,6 +3,7 @@
 
 mod adapters;
 mod memory;
+mod named;
 mod read;
 mod shelf;
 mod sink;
@@ -12,6 +13,7 @@ mod tests;
 
 pub use adapters::{FolderShelf, StdSink, StdSource};
 pub use memory::{MemShelf, MemSink, MemSource};
+pub use named::{NamedStop, Unread, read_named};
 pub use read::{ReadStop, read_all, read_file};
 pub use shelf::{Opened, Shelf, ShelfFile};
 pub use sink::{Put, Sink, put_all};

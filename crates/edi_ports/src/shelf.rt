@@ -1,9 +1,8 @@
 //! Shelves of files.
-ghost use Rattle.std.specs.Prelude.{◌≡◌, ◌<◌, ◌≤◌, List, ℕ, Bool, true, Option, length};
+ghost use Rattle.std.specs.Prelude.{◌≡◌, ◌<◌, ◌^◌, List, ℕ, Bool, true, Option, length};
 ghost use Rattle.edi_ports.specs.declared.shelf.ShelfFile.{ShelfFile};
-ghost use Rattle.edi_ports.specs.Faults.{HasRisen};
-ghost use Rattle.edi_ports.specs.Source.{IsTake, IsFailedTake};
-ghost use Rattle.edi_ports.specs.Shelf.{IsOpening, IsFailedOpening, is_opened};
+ghost use Rattle.edi_ports.specs.Source.{IsTake, IsFailedTake, count_after_take};
+ghost use Rattle.edi_ports.specs.Shelf.{IsOpening, IsFailedOpening, count_after_opening, is_opened};
 
 use crate::Taken;
 use edi_tables::Chunk;
@@ -41,12 +40,12 @@ pub trait Shelf {
     ghost is_steady: { Self → Type 0 };
 
     /// Opens the file of that name at its first octet; after another answer no file is open.
-    /// `Absent` comes exactly where there is none and the count didn't rise; `Failed` only where it rose.
+    /// `Absent` comes only where there is none. At `Failed`, and only there, the count rises.
     fn open(&mut self, name: &[u8]) -> Opened
-        ensures opening { IsOpening (files self.old) name.now (rest self.new) (faults self.old) (faults self.new) result }
+        ensures opening { IsOpening (files self.old) name.now (rest self.new) result }
         ensures is_open { is_open self.new ≡ is_opened result }
         ensures files { files self.new ≡ files self.old }
-        ensures counted { faults self.old ≤ faults self.new }
+        ensures counted { faults self.new ≡ count_after_opening (faults self.old) result }
         ensures steady { is_steady self.old → (IsFailedOpening result → ⊥) × is_steady self.new };
 
     /// Moves octets of the open file, as a source does.
@@ -56,7 +55,9 @@ pub trait Shelf {
         ensures taken { IsTake (rest self.old) (rest self.new) buffer.new result }
         ensures is_open { is_open self.new ≡ true }
         ensures files { files self.new ≡ files self.old }
-        ensures counted { faults self.old ≤ faults self.new }
-        ensures cause { IsFailedTake result → HasRisen (faults self.old) (faults self.new) }
+        ensures counted { faults self.new ≡ count_after_take (faults self.old) result }
         ensures steady { is_steady self.old → (IsFailedTake result → ⊥) × is_steady self.new };
+
+    /// The count is a number of 64 bits.
+    ghost fits: { (shelf : Self) → faults shelf < 2 ^ 64 };
 }

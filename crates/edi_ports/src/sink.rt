@@ -1,8 +1,8 @@
 //! Sinks of octets.
-ghost use Rattle.std.specs.Prelude.{◌≡◌, ◌-◌, ◌++◌, ◌<◌, ◌≤◌, List, ℕ, Option, IfSome, IsTrue, Some, length};
+ghost use Rattle.std.specs.Prelude.{◌≡◌, ◌-◌, ◌++◌, ◌<◌, ◌≤◌, ◌^◌, List, ℕ, Option, IfSome, IsTrue, Some, length};
 ghost use Rattle.std.specs.Bool.{OnTrue, OnFalse};
 ghost use Rattle.edi_ports.specs.Faults.{HasRisen};
-ghost use Rattle.edi_ports.specs.Sink.{IsPut, IsFailedPut, KeepsRoom, IsCut};
+ghost use Rattle.edi_ports.specs.Sink.{IsPut, KeepsRoom, IsCut, count_after_put};
 
 /// What one call of `put` did: took so many octets, or failed.
 #[derive(Clone, Copy, Debug, PartialEq, Eq)]
@@ -23,13 +23,15 @@ pub trait Sink {
     ghost has_room: { Self → ℕ → Type 0 };
 
     /// Appends octets from the front of the part, one at least.
-    /// `Failed` comes only where the count rose, and then nothing is appended.
+    /// At `Failed`, and only there, the count rises, and nothing is appended.
     fn put(&mut self, part: &[u8]) -> Put
         requires { 0 < length part.now }
         ensures put { IsPut (held self.old) (held self.new) part.now result }
-        ensures counted { faults self.old ≤ faults self.new }
-        ensures cause { IsFailedPut result → HasRisen (faults self.old) (faults self.new) }
+        ensures counted { faults self.new ≡ count_after_put (faults self.old) result }
         ensures room { (n : ℕ) → has_room self.old n → length part.now ≤ n → KeepsRoom (has_room self.new) n result };
+
+    /// The count is a number of 64 bits.
+    ghost fits: { (sink : Self) → faults sink < 2 ^ 64 };
 }
 
 /// Appends the whole part. `false` comes only where the sink failed, and then a proper prefix was appended.

@@ -1,5 +1,5 @@
 //! The files of the folder that the program runs in.
-ghost use Rattle.std.specs.Prelude.{◌≡◌, None, false, is_some, option_and_then};
+ghost use Rattle.std.specs.Prelude.{◌≡◌, ◌<◌, ◌^◌, None, false, is_some, option_and_then};
 
 use crate::adapters::calls::{raise, take_once};
 use crate::{Opened, Shelf, Taken};
@@ -14,6 +14,7 @@ pub struct FolderShelf<R: Files> {
     files: R,
     file: Option<R::File>,
     faults: u64,
+    ghost fits: { faults < 2 ^ 64 },
 }
 
 impl<R: Files> FolderShelf<R> {
@@ -40,6 +41,8 @@ impl<R: Files> Shelf for FolderShelf<R> {
     ghost faults = { λ s. s.faults };
 
     ghost is_steady = { λ _. ⊥ };
+
+    ghost fits = { λ shelf. shelf.fits };
 
     fn open(&mut self, name: &[u8]) -> Opened {
         self.file = None;

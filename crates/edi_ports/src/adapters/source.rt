@@ -1,5 +1,5 @@
 //! A source over a reader of std.
-ghost use Rattle.std.specs.Prelude.{◌≡◌};
+ghost use Rattle.std.specs.Prelude.{◌≡◌, ◌<◌, ◌^◌};
 
 use crate::adapters::calls::take_once;
 use crate::{Source, Taken};
@@ -11,6 +11,7 @@ use std::io::Read;
 pub struct StdSource<R> {
     reader: R,
     faults: u64,
+    ghost fits: { faults < 2 ^ 64 },
 }
 
 impl<R: Read> StdSource<R> {
@@ -29,6 +30,8 @@ impl<R: Read> Source for StdSource<R> {
     ghost faults = { λ s. s.faults };
 
     ghost is_steady = { λ _. ⊥ };
+
+    ghost fits = { λ source. source.fits };
 
     fn take(&mut self, buffer: &mut [u8]) -> Taken {
         take_once(&mut self.reader, buffer, &mut self.faults)

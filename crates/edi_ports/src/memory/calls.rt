@@ -1,5 +1,5 @@
 //! The calls of an object in memory, and which of them fail.
-ghost use Rattle.std.specs.Prelude.{◌≡◌, ◌≤◌, length, take};
+ghost use Rattle.std.specs.Prelude.{◌≡◌, ◌≤◌, ◌<◌, ◌^◌, if◌then◌else◌, length, take};
 
 // How many calls there were, which of them fail, and how many failed.
 #[derive(Debug, Drop)]
@@ -11,6 +11,7 @@ pub(crate) struct Calls {
 
 impl Calls {
     ghost use Rattle.edi_ports.specs.Memory.{fails_next, after_call, after_fault};
+    ghost use Rattle.edi_ports.specs.Faults.{one_more};
 
     pub(crate) fn new(failing: Vec<u64>) -> Calls
         ensures { result ≡ record { failing = failing; made = 0; faults = 0 } }
@@ -26,7 +27,8 @@ impl Calls {
     pub(crate) fn next_fails(&mut self) -> bool
         ensures fails { result ≡ fails_next self.old }
         ensures after { self.new ≡ after_call self.old }
-        ensures counted { self.old.faults ≤ self.new.faults }
+        ensures counted { self.new.faults ≡ (if result then one_more self.old.faults else self.old.faults) }
+        ensures fits { self.old.faults < 2 ^ 64 → self.new.faults < 2 ^ 64 }
     {
         let call = self.made;
         self.made = self.made.saturating_add(1);
@@ -39,7 +41,7 @@ impl Calls {
 
     pub(crate) fn fail(&mut self)
         ensures after { self.new ≡ after_fault self.old }
-        ensures counted { self.old.faults ≤ self.new.faults }
+        ensures counted { self.new.faults ≡ one_more self.old.faults }
     {
         self.faults = self.faults.saturating_add(1);
     }

@@ -1,8 +1,7 @@
 //! A shelf in memory.
-ghost use Rattle.std.specs.Prelude.{◌≡◌, ◌≤◌, ◌<◌, [], true, false, Some, None, is_some, length, IfSome, MatchOption};
-ghost use Rattle.edi_ports.specs.Faults.{HasRisen};
-ghost use Rattle.edi_ports.specs.Source.{IsTake, IsFailedTake};
-ghost use Rattle.edi_ports.specs.Shelf.{IsOpening, IsFailedOpening, is_opened, file_named};
+ghost use Rattle.std.specs.Prelude.{◌≡◌, ◌≤◌, ◌<◌, ◌^◌, [], true, false, Some, None, is_some, length, IfSome, MatchOption};
+ghost use Rattle.edi_ports.specs.Source.{IsTake, IsFailedTake, count_after_take};
+ghost use Rattle.edi_ports.specs.Shelf.{IsOpening, IsFailedOpening, count_after_opening, is_opened, file_named};
 ghost use Rattle.edi_ports.specs.Place.{IsPlaced, octets_at};
 
 use crate::memory::calls::{Calls, copy_front};
@@ -24,6 +23,7 @@ pub struct MemShelf {
     calls: Calls,
     place: Option<Place>,
     ghost moves: { 0 < most },
+    ghost fits: { calls.faults < 2 ^ 64 },
     ghost placed: { IsPlaced files.items place },
 }
 
@@ -61,11 +61,13 @@ impl Shelf for MemShelf {
 
     ghost is_steady = { IsSteady };
 
+    ghost fits = { λ shelf. shelf.fits };
+
     fn open(&mut self, name: &[u8]) -> Opened
-        ensures opening { IsOpening (Some (files_of self.old)) name.now (Some (rest_of self.new)) (faults_of self.old) (faults_of self.new) result }
+        ensures opening { IsOpening (Some (files_of self.old)) name.now (Some (rest_of self.new)) result }
         ensures is_open { is_open_of self.new ≡ is_opened result }
         ensures files { Some (files_of self.new) ≡ Some (files_of self.old) }
-        ensures counted { faults_of self.old ≤ faults_of self.new }
+        ensures counted { faults_of self.new ≡ count_after_opening (faults_of self.old) result }
         ensures steady { IsSteady self.old → (IsFailedOpening result → ⊥) × IsSteady self.new }
         ensures exact { result ≡ opened_next self.old name.now }
         ensures next { IsNextCall self.old self.new }
@@ -89,8 +91,7 @@ impl Shelf for MemShelf {
         ensures taken { IsTake (Some (rest_of self.old)) (Some (rest_of self.new)) buffer.new result }
         ensures is_open { is_open_of self.new ≡ true }
         ensures files { Some (files_of self.new) ≡ Some (files_of self.old) }
-        ensures counted { faults_of self.old ≤ faults_of self.new }
-        ensures cause { IsFailedTake result → HasRisen (faults_of self.old) (faults_of self.new) }
+        ensures counted { faults_of self.new ≡ count_after_take (faults_of self.old) result }
         ensures steady { IsSteady self.old → (IsFailedTake result → ⊥) × IsSteady self.new }
         ensures exact { result ≡ taken_next self.old (length buffer.old) }
         ensures next { IsNextCall self.old self.new }

@@ -1,7 +1,6 @@
 //! A sink in memory.
-ghost use Rattle.std.specs.Prelude.{◌≡◌, ◌≤◌, ◌<◌, ◌+◌, ◌-◌, ℕ, [], Some, length, vec_len, vec_capacity, IfOk};
-ghost use Rattle.edi_ports.specs.Faults.{HasRisen};
-ghost use Rattle.edi_ports.specs.Sink.{IsPut, IsFailedPut, KeepsRoom};
+ghost use Rattle.std.specs.Prelude.{◌≡◌, ◌≤◌, ◌<◌, ◌+◌, ◌-◌, ◌^◌, ℕ, [], Some, length, vec_len, vec_capacity, IfOk};
+ghost use Rattle.edi_ports.specs.Sink.{IsPut, KeepsRoom, count_after_put};
 
 use crate::memory::calls::Calls;
 use crate::{Put, Sink};
@@ -18,6 +17,7 @@ pub struct MemSink {
     ghost within: { vec_len octets ≤ room },
     ghost reserved: { room ≤ vec_capacity octets },
     ghost moves: { 0 < most },
+    ghost fits: { calls.faults < 2 ^ 64 },
 }
 
 impl MemSink {
@@ -61,11 +61,12 @@ impl Sink for MemSink {
 
     ghost has_room = { HasRoom };
 
+    ghost fits = { λ sink. sink.fits };
+
     fn put(&mut self, part: &[u8]) -> Put
         requires { 0 < length part.now }
         ensures put { IsPut (Some (held_of self.old)) (Some (held_of self.new)) part.now result }
-        ensures counted { faults_of self.old ≤ faults_of self.new }
-        ensures cause { IsFailedPut result → HasRisen (faults_of self.old) (faults_of self.new) }
+        ensures counted { faults_of self.new ≡ count_after_put (faults_of self.old) result }
         ensures room { (n : ℕ) → HasRoom self.old n → length part.now ≤ n → KeepsRoom (HasRoom self.new) n result }
         ensures exact { result ≡ put_next self.old (length part.now) }
         ensures next { IsNextCall self.old self.new (length part.now) }

@@ -1,7 +1,6 @@
 //! A source in memory.
-ghost use Rattle.std.specs.Prelude.{◌≡◌, ◌<◌, ◌≤◌, [], Some, length, vec_len};
-ghost use Rattle.edi_ports.specs.Faults.{HasRisen};
-ghost use Rattle.edi_ports.specs.Source.{IsTake, IsFailedTake};
+ghost use Rattle.std.specs.Prelude.{◌≡◌, ◌<◌, ◌≤◌, ◌^◌, [], Some, length, vec_len};
+ghost use Rattle.edi_ports.specs.Source.{IsTake, IsFailedTake, count_after_take};
 
 use crate::memory::calls::{Calls, copy_front};
 use crate::{Source, Taken};
@@ -15,6 +14,7 @@ pub struct MemSource {
     calls: Calls,
     ghost placed: { from ≤ vec_len octets },
     ghost moves: { 0 < most },
+    ghost fits: { calls.faults < 2 ^ 64 },
 }
 
 impl MemSource {
@@ -46,11 +46,12 @@ impl Source for MemSource {
 
     ghost is_steady = { IsSteady };
 
+    ghost fits = { λ source. source.fits };
+
     fn take(&mut self, buffer: &mut [u8]) -> Taken
         requires { 0 < length buffer.old }
         ensures taken { IsTake (Some (rest_of self.old)) (Some (rest_of self.new)) buffer.new result }
-        ensures counted { faults_of self.old ≤ faults_of self.new }
-        ensures cause { IsFailedTake result → HasRisen (faults_of self.old) (faults_of self.new) }
+        ensures counted { faults_of self.new ≡ count_after_take (faults_of self.old) result }
         ensures steady { IsSteady self.old → (IsFailedTake result → ⊥) × IsSteady self.new }
         ensures exact { result ≡ taken_next self.old (length buffer.old) }
         ensures next { IsNextCall self.old self.new }

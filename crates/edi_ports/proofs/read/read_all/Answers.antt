@@ -7,6 +7,6 @@ loop-n-preserved g c =
     let more = c.in_ok-gather-in-Got.ensures in record {
       within = rw more.0 (rw length-append more.1);
       told = rw more.0 (taken_more _ _ _ _ _ _ _ c.loop-n.invariant.told c.in-Got.ensures.taken refl);
-      counted = omega arith;
+      counted = omega (arith, c.in-Got.ensures.counted);
       steady = λ was. (c.in-Got.ensures.steady (c.loop-n.invariant.steady was)).1;
     }

@@ -5,7 +5,7 @@ use Rattle.edi_ports.proofs.sink.put_all.Goals as goal
 pub loop-rest-preserved : goal.loop-rest-preserved
 loop-rest-preserved g c = record {
   put = put_more _ _ _ _ _ _ _ c.loop-rest.invariant.put c.in-Took.ensures.put c.split_at.ensures.back;
-  counted = omega arith;
+  counted = omega (arith, c.in-Took.ensures.counted);
   room = λ n was fits.
       let shorter = c.loop-rest.invariant.put.shorter in
       let after = c.split_at.ensures.back_len in

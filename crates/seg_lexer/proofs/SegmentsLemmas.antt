@@ -12,12 +12,11 @@ use Rattle.std.proofs.lemmas.Slice.Zip.{length-zip}
 use Rattle.memchr.specs.Find.{IsFirst}
 use Rattle.seg_lexer.specs.Released.{IsFree, is_free, is_release, is_released}
 use Rattle.seg_lexer.specs.Segments.{IsBoundary, IsLexed, boundaries_of, ends_of, is_break, is_end, lead, segments_of, tail_of}
-use Rattle.seg_lexer.specs.Service.{service_of}
+use Rattle.seg_lexer.specs.Service.{IsUsable}
 use Rattle.seg_lexer.specs.declared.service.Service.{Service}
 use Rattle.seg_lexer.specs.declared.segment.Lexed.TheVariants.{Ended, Tail, Nothing}
 use Rattle.seg_lexer.proofs.PlacesLemmas.{IsStart, start-at, end-at}
 use Rattle.seg_lexer.proofs.ReleasedLemmas.{is_released-start, is_released-more, is_released-from}
-use Rattle.seg_lexer.proofs.ServiceLemmas.{IsUsable, service_of-usable}
 
 -- the place that a skip of CR and LF comes to
 pub lead_is : (text : List ℕ) (a b start : ℕ) → a ≤ start → start ≤ b → b ≤ length text → ((k : ℕ) → a ≤ k → k < start → is_break (get_or text k 0) ≡ true) → (start < b → is_break (get_or text start 0) ≡ false) → start ≡ lead text a b
@@ -174,23 +173,20 @@ module _ (s : Service) (text : List ℕ) where
   pub first-boundary : IsBoundary s text s.body
   first-boundary = (0, boundary-zero)
 
-module _ (s : Service) (text : List ℕ) (is : s ≡ service_of text) where
-  pub is-usable : IsUsable s text
-  is-usable = subst (λ (t : Service). IsUsable t text) (sym is) (service_of-usable text)
-
+module _ (s : Service) (text : List ℕ) (usable : IsUsable s text) where
   pub boundary-high : (from : ℕ) → IsBoundary s text from → from ≤ length text
-  boundary-high from boundary = (boundary-at s text is-usable boundary.0 from boundary.1).high
+  boundary-high from boundary = (boundary-at s text usable boundary.0 from boundary.1).high
 
   module _ (from len start k : ℕ) (all : len ≡ length text) (h : slice_get (boundaries_of s text) k ≡ Some from) where
     -- what the first unreleased terminator from a boundary on shows, or that there is none
     pub ended-lexed : (end : ℕ) → IsFirst (IsFree s.release s.terminator s.terminator text from) from len (Some end) → start ≡ lead text from end → IsLexed s text k from (Ended start end)
     ended-lexed end first skipped =
         subst (λ (a : ℕ). IsLexed s text k from (Ended a end)) (sym skipped)
-        (ended-at s text is-usable k from end h (subst (λ (n : ℕ). IsFirst (IsFree s.release s.terminator s.terminator text from) from n (Some end)) all first))
+        (ended-at s text usable k from end h (subst (λ (n : ℕ). IsFirst (IsFree s.release s.terminator s.terminator text from) from n (Some end)) all first))
 
     past : IsFirst (IsFree s.release s.terminator s.terminator text from) from len None → start ≡ lead text from len → (length (segments_of s text) ≡ k) × (tail_of s text ≡ cond (ltb start len) (Some start) None)
     past first skipped =
-        let at = past-at s text is-usable k from h (subst (λ (n : ℕ). IsFirst (IsFree s.release s.terminator s.terminator text from) from n None) all first) in
+        let at = past-at s text usable k from h (subst (λ (n : ℕ). IsFirst (IsFree s.release s.terminator s.terminator text from) from n None) all first) in
         let same : lead text from (length text) ≡ start = sym (skipped ∙ ap (lead text from) all) in
         (at.0, at.1 ∙ (ap (λ (a : ℕ). cond (ltb a (length text)) (Some a) None) same ∙ ap (λ (n : ℕ). cond (ltb start n) (Some start) None) (sym all)))
 

@@ -2,18 +2,11 @@
 use Rattle.std.proofs.Common.{◌≡◌, ◌≢◌, ℕ, ◌≤◌, min, Bool, true, false, ◌&&◌, List, [], ◌∷◌, length, Option, Some, sym, ap, ◌∙◌, arith}
 use Rattle.std.specs.Prelude.{codes, nat_eq, nat_le}
 use Rattle.std.specs.List.{starts_with}
-use Rattle.std.specs.Option.{ForSome, option_to_list}
+use Rattle.std.specs.Option.{option_to_list}
 use Rattle.std.proofs.lemmas.Bool.{and_parts, cond_both, leb-true}
 use Rattle.std.proofs.lemmas.Bool.Decides.{nat_tests}
-use Rattle.seg_lexer.specs.Service.{service_of, advised_service, advice_in, default_service, is_acceptable, are_different, characters_of}
+use Rattle.seg_lexer.specs.Service.{IsUsable, service_of, advised_service, advice_in, default_service, is_acceptable, are_different, characters_of}
 use Rattle.seg_lexer.specs.declared.service.Service.{Service}
-
--- the body lies in the text, and the release character is neither the terminator nor a separator
-pub record IsUsable (s : Service) (text : List ℕ) : Type 0 where
-  pub body : s.body ≤ length text
-  pub from_terminator : ForSome s.release (λ r. r ≢ s.terminator)
-  pub from_element : ForSome s.release (λ r. r ≢ s.element)
-  pub from_component : ForSome s.release (λ r. r ≢ s.component)
 
 -- one number is none of three
 record IsNone (r t e c : ℕ) : Type 0 where
@@ -24,7 +17,7 @@ record IsNone (r t e c : ℕ) : Type 0 where
 IsNone-different : (c e t r : ℕ) → are_different (c ∷ e ∷ t ∷ r ∷ []) ≡ true → IsNone r t e c
 IsNone-different c e t r h = grind (arith, nat_tests)
 
-IsUsable-acceptable : (s : Service) (text : List ℕ) → s.body ≤ length text → is_acceptable s ≡ true → IsUsable s text
+pub IsUsable-acceptable : (s : Service) (text : List ℕ) → s.body ≤ length text → is_acceptable s ≡ true → IsUsable s text
 IsUsable-acceptable s text body ok =
     let different = (and_parts (are_different (characters_of s)) _ ok).0 in
     let none : (r : ℕ) → s.release ≡ Some r → IsNone r s.terminator s.element s.component = λ r some.

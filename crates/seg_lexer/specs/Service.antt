@@ -1,7 +1,7 @@
 -- Service string advice (`UNA`, ISO 9735): the characters that part, release and end what stands in a text.
-use Rattle.std.specs.Prelude.{ℕ, min, Bool, true, false, not, ◌&&◌, ◌||◌, ◌==◌, nat_le, nat_eq, List, [], ◌∷◌, length, slice_index, codes, Some, None, if◌then◌else◌}
+use Rattle.std.specs.Prelude.{ℕ, ◌≤◌, ◌≢◌, min, Bool, true, false, not, ◌&&◌, ◌||◌, ◌==◌, nat_le, nat_eq, List, [], ◌∷◌, length, slice_index, codes, Some, None, if◌then◌else◌}
 use Rattle.std.specs.List.{list_all, starts_with}
-use Rattle.std.specs.Option.{option_to_list}
+use Rattle.std.specs.Option.{ForSome, option_to_list}
 use Rattle.seg_lexer.specs.declared.service.Service.{Service}
 
 -- the default service characters `:` `+` `.` `?` `'`, over a text without service string advice
@@ -46,3 +46,10 @@ advised_service text =
 -- the service characters of a text: the default ones where it doesn't begin with `UNA`
 unfoldable pub service_of : List ℕ → Service
 service_of text = if starts_with nat_eq text (codes "UNA") then advised_service text else default_service
+
+-- a text can be read by these characters: the body lies in it, and the release character is neither the terminator nor a separator
+pub record IsUsable (s : Service) (text : List ℕ) : Type 0 where
+  pub body : s.body ≤ length text
+  pub from_terminator : ForSome s.release (λ r. r ≢ s.terminator)
+  pub from_element : ForSome s.release (λ r. r ≢ s.element)
+  pub from_component : ForSome s.release (λ r. r ≢ s.component)

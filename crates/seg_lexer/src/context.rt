@@ -4,7 +4,7 @@ ghost use Rattle.std.specs.Option.{option_map};
 ghost use Rattle.std.specs.Str.{bytes_eq};
 ghost use Rattle.seg_lexer.specs.Context.{context_in, context_of, level_in, opening_in, version_in};
 ghost use Rattle.seg_lexer.specs.Fields.{entries_at};
-ghost use Rattle.seg_lexer.specs.Service.{service_of};
+ghost use Rattle.seg_lexer.specs.Service.{IsUsable};
 ghost use Rattle.seg_lexer.specs.Value.{octets_of};
 
 use crate::LONGEST_TEXT;
@@ -66,7 +66,7 @@ fn unopened_context(service: &Service) -> Context
 
 /// The context that the segment `start..end` settles as the first one.
 fn opening_context<O: Octets>(text: &O, service: &Service, start: usize, end: usize) -> Context
-    requires service { service.now ≡ service_of (O.octets text.now) }
+    requires usable { IsUsable service.now (O.octets text.now) }
     requires short { length (O.octets text.now) ≤ LONGEST_TEXT }
     requires ordered { start ≤ end }
     requires within { end ≤ length (O.octets text.now) }

@@ -3,7 +3,7 @@ ghost use Rattle.std.specs.Prelude.{◌≡◌, ◌+◌, ◌-◌, ◌≤◌, ℕ,
 ghost use Rattle.seg_lexer.specs.Fields.{IsInOrder, entries_at, fields_at};
 ghost use Rattle.seg_lexer.specs.Parts.{entries_left, fields_left};
 ghost use Rattle.seg_lexer.specs.Segments.{IsBoundary, IsLexed, boundaries_of};
-ghost use Rattle.seg_lexer.specs.Service.{service_of};
+ghost use Rattle.seg_lexer.specs.Service.{IsUsable};
 
 use crate::LONGEST_TEXT;
 use crate::parts::Fields;
@@ -32,7 +32,7 @@ pub fn next_segment<O: Octets, L: Ledger>(
     from: usize,
     lexed: &mut Steps<L>,
 ) -> Lexed
-    requires service { service.now ≡ service_of (O.octets text.now) }
+    requires usable { IsUsable service.now (O.octets text.now) }
     requires short { length (O.octets text.now) ≤ LONGEST_TEXT }
     requires boundary { IsBoundary service.now (O.octets text.now) from }
     ensures lexed { (k : ℕ) → slice_get (boundaries_of service.now (O.octets text.now)) k ≡ Some from
@@ -66,7 +66,7 @@ pub fn fields<'a, O: Octets>(
     start: usize,
     end: usize,
 ) -> Fields<'a, O>
-    requires service { service.now ≡ service_of (O.octets text.now) }
+    requires usable { IsUsable service.now (O.octets text.now) }
     requires short { length (O.octets text.now) ≤ LONGEST_TEXT }
     requires ordered { start ≤ end }
     requires within { end ≤ length (O.octets text.now) }

@@ -1,7 +1,7 @@
 //! Service characters: what a service string advice (`UNA`) gives, and the default characters.
 ghost use Rattle.std.specs.Prelude.{◌≡◌, ◌≤◌, length, codes, nat_eq};
 ghost use Rattle.std.specs.List.{starts_with};
-ghost use Rattle.seg_lexer.specs.Service.{advice_in, is_acceptable as is_acceptable_of, is_plain as is_plain_of, service_of};
+ghost use Rattle.seg_lexer.specs.Service.{IsUsable, advice_in, is_acceptable as is_acceptable_of, is_plain as is_plain_of, service_of};
 
 use edi_octets::Octets;
 
@@ -41,7 +41,8 @@ const ADVICE_LEN: usize = 9;
 /// default characters `:` `+` `.` `?` `'`.
 #[tactic(auto, unfolding(crate::specs::Service::service_of))]
 pub fn read_service<O: Octets>(text: &O) -> Service
-    ensures { result ≡ service_of (O.octets text.now) }
+    ensures service { result ≡ service_of (O.octets text.now) }
+    ensures usable { IsUsable result (O.octets text.now) }
 {
     if !begins_with_advice(text) {
         return DEFAULT;

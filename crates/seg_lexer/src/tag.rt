@@ -5,7 +5,7 @@ ghost use Rattle.std.specs.Option.{option_map};
 ghost use Rattle.edi_tables.specs.Tag.{is_tag_of};
 ghost use Rattle.seg_lexer.specs.Fields.{IsInOrder, entries_at};
 ghost use Rattle.seg_lexer.specs.Parts.{entries_left};
-ghost use Rattle.seg_lexer.specs.Service.{service_of};
+ghost use Rattle.seg_lexer.specs.Service.{IsUsable};
 ghost use Rattle.seg_lexer.specs.Tag.{tag_field, tag_of};
 ghost use Rattle.seg_lexer.specs.Value.{octets_of};
 
@@ -20,7 +20,7 @@ use edi_tables::{Tag, is_tag};
 /// The tag of the segment `start..end`: the value of its tag field's first component, if that is a tag and every further
 /// component of the tag field is empty.
 pub fn read_tag<O: Octets>(text: &O, service: &Service, start: usize, end: usize) -> Option<Tag>
-    requires service { service.now ≡ service_of (O.octets text.now) }
+    requires usable { IsUsable service.now (O.octets text.now) }
     requires short { length (O.octets text.now) ≤ LONGEST_TEXT }
     requires ordered { start ≤ end }
     requires within { end ≤ length (O.octets text.now) }

@@ -14,10 +14,10 @@ opening_context-requires-clause-within g c = let below = (c.in-Ended.ensures.lex
 
 pub returns-in-Ended-clause-context : goal.returns-in-Ended-clause-context
 returns-in-Ended-clause-context g c =
-    c.opening_context.ensures ∙ sym (context-ended _ _ c.read_service-service.ensures _ _ (c.in-Ended.ensures.lexed 0 (boundary-zero _ _)).0)
+    c.opening_context.ensures ∙ sym (context-ended _ _ c.read_service-service.ensures.service _ _ (c.in-Ended.ensures.lexed 0 (boundary-zero _ _)).0)
 
 pub returns-in-Tail : goal.returns-in-Tail
 returns-in-Tail g c = record {
-  context = c.unopened_context.ensures ∙ sym (context-left _ _ c.read_service-service.ensures c.next_segment.result c.next_segment.ensures.lexed c.in-Tail.is);
+  context = c.unopened_context.ensures ∙ sym (context-left _ _ c.read_service-service.ensures.service c.next_segment.result c.next_segment.ensures.lexed c.in-Tail.is);
   counted = c.next_segment.ensures.counted;
 }

@@ -7,12 +7,11 @@ use Rattle.seg_lexer.specs.Fields.{Field, IsInOrder, entry, fields_of, placed}
 use Rattle.seg_lexer.specs.Parts.{fields_left}
 use Rattle.seg_lexer.proofs.CountLemmas.{length-fields_of, map-entry-placed}
 use Rattle.seg_lexer.proofs.OrderLemmas.{entries_of-in_order}
-use Rattle.seg_lexer.proofs.SegmentsLemmas.{is-usable}
 use Rattle.seg_lexer.proofs.segment.fields.Goals as goal
 
 pub new-requires-clause-apart : goal.new-requires-clause-apart
 new-requires-clause-apart g c r is =
-    let usable = is-usable c.args.service.now (g.O.Octets.octets c.args.text.now) c.requires.service in
+    let usable = c.requires.usable in
     (λ same. usable.from_element r is (sym same), λ same. usable.from_component r is (sym same))
 
 pub returns-clause-entries : goal.returns-clause-entries

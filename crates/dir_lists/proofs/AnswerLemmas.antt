@@ -3,7 +3,8 @@ use Rattle.std.proofs.Common.{◌≡◌, List, [], ◌∷◌, ◌++◌, Result, 
 use Rattle.edi_octets.specs.declared.fault.DirFault.{DirFault}
 use Rattle.edi_octets.specs.declared.fault.DirStop.{DirStop}
 use Rattle.edi_octets.specs.declared.fault.DirStop.TheVariants.{Fault, Memory}
-use Rattle.edi_octets.specs.DirStop.{Gives, unless_faulty}
+use Rattle.edi_tables.specs.First.{Answers, unless_faulty}
+use Rattle.edi_octets.specs.DirStop.{fault_in}
 
 module _ {A : Type 0} where
   -- there is no fault where there is an answer
@@ -26,11 +27,11 @@ module _ {A B : Type 0} where
   unless_faulty-behind front behind a found b is = let none = none_from_ok front a found is in rw none.0 refl
 
 -- who stops as a part did answers for the whole, where the part's fault is that of the whole
-pub Gives-stopped : {X Y A B : Type 0} (view : X → A) (shown : Y → B) (stop : DirStop) (part : Result A DirFault) (whole : Result B DirFault) → ((fault : DirFault) → part ≡ Err fault → whole ≡ Err fault) → Gives view (Err stop) part → Gives shown (Err stop) whole
-Gives-stopped view shown (Fault fault) part whole leads given = leads fault given
-Gives-stopped view shown Memory part whole leads given = tt
+pub Answers-stopped : {X Y A B : Type 0} (view : X → A) (shown : Y → B) (stop : DirStop) (part : Result A DirFault) (whole : Result B DirFault) → ((fault : DirFault) → part ≡ Err fault → whole ≡ Err fault) → Answers view fault_in (Err stop) part → Answers shown fault_in (Err stop) whole
+Answers-stopped view shown (Fault fault) part whole leads given = leads fault given
+Answers-stopped view shown Memory part whole leads given = tt
 
 -- who hands a stop on answers it
-pub Gives-handed_on : {Y B : Type 0} (shown : Y → B) (answer : Result Y DirStop) (stop : DirStop) (file : Result B DirFault) → (handed : DirStop) × (answer ≡ Err handed) × (handed ≡ stop) → Gives (λ (b : B). b) (Err stop) file → Gives shown answer file
-Gives-handed_on shown answer stop file p given =
-    rw (p.1, p.2) (Gives-stopped (λ b. b) shown stop file file (λ fault is. is) given)
+pub Answers-handed_on : {Y B : Type 0} (shown : Y → B) (answer : Result Y DirStop) (stop : DirStop) (file : Result B DirFault) → (handed : DirStop) × (answer ≡ Err handed) × (handed ≡ stop) → Answers (λ (b : B). b) fault_in (Err stop) file → Answers shown fault_in answer file
+Answers-handed_on shown answer stop file p given =
+    rw (p.1, p.2) (Answers-stopped (λ b. b) shown stop file file (λ fault is. is) given)

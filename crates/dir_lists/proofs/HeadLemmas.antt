@@ -7,7 +7,8 @@ use Rattle.edi_octets.specs.declared.fault.DirKind.TheVariants.{Twice}
 use Rattle.edi_octets.specs.DirStop.{at_line}
 use Rattle.edi_octets.specs.Head.{is_code_and_name, head_faults, head_field}
 use Rattle.edi_octets.specs.Lines.{Line}
-use Rattle.edi_octets.specs.Profile.{fields_of, first_field, is_element_code}
+use Rattle.edi_tables.specs.Forms.{is_element_code}
+use Rattle.edi_octets.specs.Profile.{fields_of, first_field}
 use Rattle.edi_octets.proofs.HeadLemmas.{is_code_and_name-parts}
 use Rattle.dir_lists.proofs.SeenLemmas.{bytes_eq-flip}
 

@@ -6,8 +6,10 @@ use Rattle.edi_tables.specs.declared.element.CodeList.{CodeList}
 use Rattle.edi_octets.specs.declared.fault.DirFault.{DirFault}
 use Rattle.edi_octets.specs.declared.fault.DirKind.TheVariants.{BadLine, Twice}
 use Rattle.edi_octets.specs.Lines.{Line, lines_of}
-use Rattle.edi_octets.specs.Profile.{fields_of, indentation_of, first_field, begins_with_word, entries_of, is_element_code, with_earlier}
-use Rattle.edi_octets.specs.DirStop.{at_line, unless_faulty}
+use Rattle.edi_tables.specs.Forms.{is_element_code}
+use Rattle.edi_octets.specs.Profile.{fields_of, indentation_of, first_field, begins_with_word, entries_of, with_earlier}
+use Rattle.edi_tables.specs.First.{unless_faulty}
+use Rattle.edi_octets.specs.DirStop.{at_line}
 use Rattle.edi_octets.specs.Head.{is_code_and_name, head_faults, code_of}
 
 -- text: a line that begins with `Desc:`, `Repr:` or `Note:`, or is indented by 10 or more

@@ -6,8 +6,10 @@ use Rattle.edi_tables.specs.declared.element.ElementDef.{ElementDef}
 use Rattle.edi_octets.specs.declared.fault.DirFault.{DirFault}
 use Rattle.edi_octets.specs.declared.fault.DirKind.TheVariants.{BadLine, BadRepr, NoRepr}
 use Rattle.edi_octets.specs.Lines.{Line, lines_of}
-use Rattle.edi_octets.specs.Profile.{fields_of, begins_with_word, entries_of, is_element_code, repr_in, with_earlier}
-use Rattle.edi_octets.specs.DirStop.{at_line, unless_faulty}
+use Rattle.edi_tables.specs.Forms.{is_element_code}
+use Rattle.edi_octets.specs.Profile.{fields_of, begins_with_word, entries_of, repr_in, with_earlier}
+use Rattle.edi_tables.specs.First.{unless_faulty}
+use Rattle.edi_octets.specs.DirStop.{at_line}
 use Rattle.edi_octets.specs.Head.{head_faults, code_of}
 
 -- a line whose first field is `Repr:`

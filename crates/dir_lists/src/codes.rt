@@ -1,7 +1,8 @@
 //! Code files.
 ghost use Rattle.std.specs.Prelude.{◌≡◌, ◌≤◌, ◌&&◌, nat_le, List, [], ◌∷◌, ◌++◌, length, map, OnOk};
 ghost use Rattle.std.specs.List.{flat_map};
-ghost use Rattle.edi_octets.specs.DirStop.{Gives, unless_faulty};
+ghost use Rattle.edi_tables.specs.First.{Answers, unless_faulty};
+ghost use Rattle.edi_octets.specs.DirStop.{fault_in};
 ghost use Rattle.edi_octets.specs.Head.{head_field, is_code_and_name};
 ghost use Rattle.edi_octets.specs.Left.{line_shown, body_left, entry_shown};
 ghost use Rattle.edi_octets.specs.Lines.{Line};
@@ -19,7 +20,7 @@ use std::alloc::{AllocError, Global};
 /// line that is neither text nor a code, `twice` at a code that its entry has already.
 pub fn read_codes(alloc: Global, file: &[u8]) -> Result<Vec<CodeList>, DirStop>
     requires { length file.now ≤ 4194304 }
-    ensures { Gives (λ lists. lists.items) result (codes.codes_in file.now) }
+    ensures { Answers (λ lists. lists.items) fault_in result (codes.codes_in file.now) }
 {
     let mut lists = Vec::new(alloc);
     let mut seen = Seen::new(alloc);
@@ -33,7 +34,7 @@ pub fn read_codes(alloc: Global, file: &[u8]) -> Result<Vec<CodeList>, DirStop>
 /// Reads an entry behind others, whose codes are seen.
 fn read_list<'a>(alloc: Global, entry: &Entry<'a>, seen: &mut Seen<'a>) -> Result<CodeList, DirStop>
     ensures judged { (earlier : List (List Line)) → seen.old ≡ map head_field earlier
-        → Gives (λ list. list) result (unless_faulty (codes.list_faults earlier (entry_shown entry.now))
+        → Answers (λ list. list) fault_in result (unless_faulty (codes.list_faults earlier (entry_shown entry.now))
         (codes.list_of (entry_shown entry.now))) }
     ensures joins { OnOk result (seen.new ≡ seen.old ++ head_field (entry_shown entry.now) ∷ []) }
 {
@@ -47,7 +48,7 @@ fn read_list<'a>(alloc: Global, entry: &Entry<'a>, seen: &mut Seen<'a>) -> Resul
 
 /// Reads the codes of an entry, from its lines behind its head.
 fn read_values(alloc: Global, body: Body<'_>) -> Result<Vec<Chunk>, DirStop>
-    ensures { Gives (λ values. values.items) result
+    ensures { Answers (λ values. values.items) fault_in result
         (unless_faulty (flat_map (λ p. codes.body_faults p.0 p.1) (with_earlier (body_left body.entry))) (codes.values_of (body_left body.entry))) }
 {
     let mut seen = Seen::new(alloc);
@@ -60,7 +61,7 @@ fn read_values(alloc: Global, body: Body<'_>) -> Result<Vec<Chunk>, DirStop>
 /// Reads a line of an entry behind others, whose codes are seen. Its code joins them.
 fn read_line<'a>(line: &LineText<'a>, seen: &mut Seen<'a>) -> Result<(), DirStop>
     ensures judged { (earlier : List Line) → seen.old ≡ codes.values_of earlier
-        → Gives (λ done. done) result (unless_faulty (codes.body_faults earlier (line_shown line.now)) tt) }
+        → Answers (λ done. done) fault_in result (unless_faulty (codes.body_faults earlier (line_shown line.now)) tt) }
     ensures joins { OnOk result (seen.new ≡ seen.old ++ codes.values_of (line_shown line.now ∷ [])) }
 {
     if is_text(line) {

@@ -1,7 +1,8 @@
 //! Element files.
 ghost use Rattle.std.specs.Prelude.{◌≡◌, ◌≤◌, Option, List, [], ◌∷◌, ◌++◌, length, map, is_some, OnOk};
 ghost use Rattle.std.specs.List.{list_any, flat_map};
-ghost use Rattle.edi_octets.specs.DirStop.{Gives, unless_faulty};
+ghost use Rattle.edi_tables.specs.First.{Answers, unless_faulty};
+ghost use Rattle.edi_octets.specs.DirStop.{fault_in};
 ghost use Rattle.edi_octets.specs.Head.{head_field};
 ghost use Rattle.edi_octets.specs.Left.{line_shown, cells_left, body_left, entry_shown};
 ghost use Rattle.edi_octets.specs.Lines.{Line};
@@ -19,7 +20,7 @@ use std::alloc::{AllocError, Global};
 /// `bad-repr` at a `Repr:` line without a representation, `no-repr` at the head of an entry without one.
 pub fn read_elements(alloc: Global, file: &[u8]) -> Result<Vec<ElementDef>, DirStop>
     requires { length file.now ≤ 4194304 }
-    ensures { Gives (λ elements. elements.items) result (elements_in file.now) }
+    ensures { Answers (λ elements. elements.items) fault_in result (elements_in file.now) }
 {
     let mut elements = Vec::new(alloc);
     let mut seen = Seen::new(alloc);
@@ -33,7 +34,7 @@ pub fn read_elements(alloc: Global, file: &[u8]) -> Result<Vec<ElementDef>, DirS
 /// Reads an entry behind others, whose codes are seen.
 fn read_element<'a>(entry: &Entry<'a>, seen: &mut Seen<'a>) -> Result<ElementDef, DirStop>
     ensures judged { (earlier : List (List Line)) → seen.old ≡ map head_field earlier
-        → Gives (λ element. Option.Some element) result (unless_faulty (element_faults earlier (entry_shown entry.now))
+        → Answers (λ element. Option.Some element) fault_in result (unless_faulty (element_faults earlier (entry_shown entry.now))
         (element_of (entry_shown entry.now))) }
     ensures joins { OnOk result (seen.new ≡ seen.old ++ head_field (entry_shown entry.now) ∷ []) }
 {
@@ -45,7 +46,7 @@ fn read_element<'a>(entry: &Entry<'a>, seen: &mut Seen<'a>) -> Result<ElementDef
 /// Reads the lines of an entry behind its head, and judges its end.
 fn read_body(entry: &Entry<'_>) -> Result<Repr, DirStop>
     ensures { let body = body_left entry.now.body in
-        Gives (λ repr. Option.Some repr) result
+        Answers (λ repr. Option.Some repr) fault_in result
         (unless_faulty (flat_map (λ p. body_faults p.0 p.1) (with_earlier body) ++ end_faults (line_shown entry.now.head) body)
         (repr_of_entry body)) }
 {
@@ -59,7 +60,7 @@ fn read_body(entry: &Entry<'_>) -> Result<Repr, DirStop>
 /// Reads a line of an entry behind others, in which this representation was found: what is found with it.
 fn read_line(line: &LineText<'_>, found: Option<Repr>) -> Result<Option<Repr>, DirStop>
     ensures { (earlier : List Line) → found ≡ repr_of_entry earlier → is_some found ≡ list_any is_repr_line earlier
-        → Gives (λ found. found) result (unless_faulty (body_faults earlier (line_shown line.now))
+        → Answers (λ found. found) fault_in result (unless_faulty (body_faults earlier (line_shown line.now))
         (repr_of_entry (earlier ++ line_shown line.now ∷ []))) }
 {
     if !line.begins_with(b"Repr:") {

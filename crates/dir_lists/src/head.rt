@@ -1,9 +1,11 @@
 //! The head of an entry.
 ghost use Rattle.std.specs.Prelude.{◌≡◌, List, [], ◌∷◌, ◌++◌, map, Some, None, OnOk, if◌then◌else◌};
-ghost use Rattle.edi_octets.specs.DirStop.{Gives, at_line, unless_faulty};
+ghost use Rattle.edi_tables.specs.First.{Answers, unless_faulty};
+ghost use Rattle.edi_octets.specs.DirStop.{at_line, fault_in};
 ghost use Rattle.edi_octets.specs.Head.{head_faults, head_field, is_code_and_name};
 ghost use Rattle.edi_octets.specs.Left.{line_shown};
 ghost use Rattle.edi_octets.specs.Lines.{Line};
+ghost use Rattle.edi_tables.specs.Forms.{is_element_code};
 ghost use Rattle.edi_octets.specs.Profile as profile;
 
 use crate::seen::Seen;
@@ -13,7 +15,7 @@ use edi_tables::Code;
 /// Reads the head of an entry: a code and a name. The code is none of those seen, and joins them.
 pub(crate) fn read_head<'a>(head: &LineText<'a>, seen: &mut Seen<'a>) -> Result<Code, DirStop>
     ensures judged { (earlier : List (List Line)) → seen.old ≡ map head_field earlier
-        → Gives (λ code. code) result (unless_faulty (head_faults profile.is_element_code earlier (line_shown head.now))
+        → Answers (λ code. code) fault_in result (unless_faulty (head_faults is_element_code earlier (line_shown head.now))
         (record { octets = head_field (line_shown head.now ∷ []) })) }
     ensures joins { OnOk result (seen.new ≡ seen.old ++ head_field (line_shown head.now ∷ []) ∷ []) }
 {
@@ -30,7 +32,7 @@ pub(crate) fn read_head<'a>(head: &LineText<'a>, seen: &mut Seen<'a>) -> Result<
 #[tactic(auto, using(crate::proofs::HeadLemmas::heads))]
 fn read_code(head: &LineText<'_>) -> Option<Code>
     ensures { let fields = profile.fields_of head.now.octets.now in
-        result ≡ (if is_code_and_name profile.is_element_code fields then Some (record { octets = profile.first_field fields }) else None) }
+        result ≡ (if is_code_and_name is_element_code fields then Some (record { octets = profile.first_field fields }) else None) }
 {
     let field = head.first_field();
     match field {

@@ -10,7 +10,8 @@ use Rattle.edi_octets.specs.declared.fault.DirStop.{DirStop}
 use Rattle.edi_octets.specs.declared.fault.DirStop.TheVariants.{Fault, Memory}
 use Rattle.edi_octets.specs.Lines.{Line, lines_of}
 use Rattle.edi_octets.specs.Profile.{with_earlier, with_earlier_from, fields_of}
-use Rattle.edi_octets.specs.DirStop.{Gives, unless_faulty}
+use Rattle.edi_tables.specs.First.{Answers, unless_faulty}
+use Rattle.edi_octets.specs.DirStop.{fault_in}
 use Rattle.edi_octets.proofs.EarlierLemmas.{judged-none, judged-first}
 use Rattle.dir_messages.specs.declared.drawing.Drawing.{Drawing}
 use Rattle.dir_messages.specs.Message.{name_on, is_type_line, is_table_line, is_group_line, line_faults, open_faults, rows_of, row_fault, message_behind, message_from, message_in}
@@ -53,21 +54,21 @@ unfolding answer
 answer-none type lines = refl
 
 -- a line at which the reading stops
-pub Gives-stopped : (type : Line) (lines seen rest : List Line) (line : Line) (old new : Drawing) (stop : DirStop) → lines ≡ seen ++ (line ∷ rest) → HasRead seen old → Judges seen line (Err stop) new → Gives (λ (m : MessageDef). m) (Err stop) (message_behind type lines)
-Gives-stopped type lines seen rest line old new (Fault fault) whole read first =
+pub Answers-stopped : (type : Line) (lines seen rest : List Line) (line : Line) (old new : Drawing) (stop : DirStop) → lines ≡ seen ++ (line ∷ rest) → HasRead seen old → Judges seen line (Err stop) new → Answers (λ (m : MessageDef). m) fault_in (Err stop) (message_behind type lines)
+Answers-stopped type lines seen rest line old new (Fault fault) whole read first =
     message_behind-is type lines ∙ ap (λ all. answer type lines (flat_map judge (with_earlier all))) whole
     ∙ ap (answer type lines) (judged-first judge seen line rest fault first.0 read.sound first.1)
     ∙ answer-fault type lines fault (first.0 ++ flat_map judge (with_earlier_from (seen ++ (line ∷ [])) rest))
-Gives-stopped type lines seen rest line old new Memory whole read first = tt
+Answers-stopped type lines seen rest line old new Memory whole read first = tt
 
 -- the lines end
-pub Gives-end : (type : Line) (lines : List Line) (name : List ℕ) (drawing : Drawing) (result : Result MessageDef DirStop) → name_on (fields_of type.octets) ≡ Some name → HasRead lines drawing → Gives (λ (m : MessageDef). m) result (unless_faulty (open_faults (filter is_table_line lines) ++ rows_faults type (filter is_table_line lines)) (record { name = name; rows = rows_of (filter is_table_line lines) })) → Gives (λ (m : MessageDef). m) result (message_behind type lines)
-Gives-end type lines name drawing result named read given =
+pub Answers-end : (type : Line) (lines : List Line) (name : List ℕ) (drawing : Drawing) (result : Result MessageDef DirStop) → name_on (fields_of type.octets) ≡ Some name → HasRead lines drawing → Answers (λ (m : MessageDef). m) fault_in result (unless_faulty (open_faults (filter is_table_line lines) ++ rows_faults type (filter is_table_line lines)) (record { name = name; rows = rows_of (filter is_table_line lines) })) → Answers (λ (m : MessageDef). m) fault_in result (message_behind type lines)
+Answers-end type lines name drawing result named read given =
     let drawn = filter is_table_line lines in
     let same : message_behind type lines ≡ unless_faulty (open_faults drawn ++ rows_faults type drawn) (record { name = name; rows = rows_of drawn }) =
     message_behind-is type lines ∙ ap (answer type lines) read.sound ∙ answer-none type lines
     ∙ ap (λ (n : List ℕ). unless_faulty (open_faults drawn ++ rows_faults type drawn) (record { name = n; rows = rows_of drawn })) (ap (λ o. unwrap_or o []) named) in
-    subst (λ file. Gives (λ (m : MessageDef). m) result file) (sym same) given
+    subst (λ file. Answers (λ (m : MessageDef). m) fault_in result file) (sym same) given
 
 -- the type line isn't among so many lines, and stands among those that are left, if anywhere
 pub record IsSought (file : List ℕ) (left : List Line) (count : ℕ) : Type 0 where

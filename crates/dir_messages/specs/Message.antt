@@ -3,7 +3,8 @@ use Rattle.std.specs.Prelude.{◌-◌, ◌+◌, ℕ, Bool, true, false, not, ◌
 use Rattle.std.specs.List.{slice_split, list_all, flat_map, before_last, after_last, prefix_len, join_with_byte}
 use Rattle.std.specs.Str.{all_ascii_digits, bytes_eq, str_eq_ignore_ascii_case}
 use Rattle.std.specs.Str.Parse.{digits_value}
-use Rattle.edi_tables.specs.Tag.{is_capital, is_digit, is_tag_octet_of, is_tag_of}
+use Rattle.edi_tables.specs.Forms.{is_message_name}
+use Rattle.edi_tables.specs.Tag.{is_digit, is_tag_of}
 use Rattle.edi_tables.specs.declared.tag.Tag.{Tag}
 use Rattle.edi_tables.specs.declared.segment.TableRow.{TableRow}
 use Rattle.edi_tables.specs.declared.segment.MessageDef.{MessageDef}
@@ -16,11 +17,8 @@ use Rattle.edi_octets.specs.declared.fault.DirKind.TheVariants.{BadLine, BadPosi
 use Rattle.edi_octets.specs.declared.fault.DirFault.{DirFault}
 use Rattle.edi_octets.specs.Lines.{Line, is_filled, lines_of}
 use Rattle.edi_octets.specs.Profile.{unmarked, fields_of, indentation_of, first_field, has_digits, status_in, after_position, with_earlier}
-use Rattle.edi_octets.specs.DirStop.{at_line, unless_faulty}
-
--- a message's name has six octets of `A` to `Z` and `0` to `9`, the first a letter
-abbrev pub is_message_name : List ℕ → Bool
-is_message_name name = length name == 6 && is_capital (slice_index name 0) && list_all is_tag_octet_of name
+use Rattle.edi_tables.specs.First.{unless_faulty}
+use Rattle.edi_octets.specs.DirStop.{at_line}
 
 -- the name on a type line: a line with exactly the fields `Message`, `Type`, `:` and a message's name
 abbrev pub name_on : List (List ℕ) → Option (List ℕ)

@@ -38,7 +38,8 @@ impl Drawing {
     ghost use Rattle.std.specs.Prelude.{◌≡◌, ◌≤◌, ◌<◌, ◌^◌, ◌++◌, ◌∷◌, [], List, filter, true, MatchOption, MatchResult, IfOk, OnOk, IsSome, unwrap_or, slice_get};
     ghost use Rattle.edi_octets.specs.Lines.{Line};
     ghost use Rattle.edi_octets.specs.Left.{line_shown};
-    ghost use Rattle.edi_octets.specs.DirStop.{Gives, unless_faulty};
+    ghost use Rattle.edi_tables.specs.First.{Answers, unless_faulty};
+    ghost use Rattle.edi_octets.specs.DirStop.{fault_in};
     ghost use Rattle.dir_messages.specs.Message.{is_table_line, position_of, open_faults, rows_of};
     ghost use Rattle.dir_messages.specs.Drawing.{IsDrawn, Judges, FirstOf, rows_faults, DrawsRow, Puts, BeginsWith, kinds_broken};
 
@@ -85,7 +86,7 @@ impl Drawing {
         type_line: u32,
     ) -> Result<MessageDef, DirStop>
         ensures { (type : Line) (drawn : List Line) → type.number ≡ type_line → IsDrawn drawn self
-            → Gives (λ m. m) result
+            → Answers (λ m. m) fault_in result
             (unless_faulty (open_faults drawn ++ rows_faults type drawn) (record { name = name.now; rows = rows_of drawn })) }
     {
         if let Some(line) = self.unclosed_line() {

@@ -1,6 +1,7 @@
 //! Reading a drawn message file.
 ghost use Rattle.std.specs.Prelude.{◌≡◌, ◌≤◌, Some, length};
-ghost use Rattle.edi_octets.specs.DirStop.{Gives};
+ghost use Rattle.edi_tables.specs.First.{Answers};
+ghost use Rattle.edi_octets.specs.DirStop.{fault_in};
 ghost use Rattle.edi_octets.specs.Left.{lines_left};
 ghost use Rattle.edi_octets.specs.Lines.{Line};
 ghost use Rattle.edi_octets.specs.Profile.{fields_of};
@@ -17,7 +18,7 @@ use std::alloc::Global;
 /// lines draw the rows, which have to be a segment table. Memory is taken for the rows alone.
 pub fn read_message(alloc: Global, file: &[u8]) -> Result<MessageDef, DirStop>
     requires { length file.now ≤ 4194304 }
-    ensures { Gives (λ m. m) result (message_in file.now) }
+    ensures { Answers (λ m. m) fault_in result (message_in file.now) }
 {
     let mut lines = Lines::of(file);
     let mut count = 0;
@@ -39,7 +40,7 @@ fn read_drawing(
 ) -> Result<MessageDef, DirStop>
     requires { length (lines_left lines) ≤ 4194304 }
     ensures { (type : Line) → type.number ≡ type_line → name_on (fields_of type.octets) ≡ Some name.now
-        → Gives (λ m. m) result (message_behind type (lines_left lines.entry)) }
+        → Answers (λ m. m) fault_in result (message_behind type (lines_left lines.entry)) }
 {
     let mut drawing = Drawing::new(alloc);
     for line in lines {

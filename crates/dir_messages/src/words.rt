@@ -4,6 +4,7 @@ ghost use Rattle.std.specs.List.{list_all};
 ghost use Rattle.std.specs.Str.{bytes_eq, all_ascii_digits, str_eq_ignore_ascii_case};
 ghost use Rattle.edi_octets.specs.Left.{line_shown};
 ghost use Rattle.edi_octets.specs.Profile.{fields_of};
+ghost use Rattle.edi_tables.specs.Forms.{is_message_name};
 ghost use Rattle.edi_tables.specs.Tag.{is_tag_octet_of};
 ghost use Rattle.dir_messages.specs.Message as message;
 ghost use Rattle.dir_messages.specs.Parts.{begins_type};
@@ -41,7 +42,7 @@ fn is_type(message: &[u8], kind: &[u8], colon: &[u8]) -> bool
 
 /// Whether these octets are a message's name: six of `A` to `Z` and `0` to `9`, the first a letter.
 fn is_message_name(name: &[u8]) -> bool
-    ensures { result ≡ message.is_message_name name.now }
+    ensures { result ≡ is_message_name name.now }
 {
     name.len() == 6 && name[0].is_ascii_uppercase() && are_name_octets(name)
 }

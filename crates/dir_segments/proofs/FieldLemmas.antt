@@ -3,7 +3,8 @@ use Rattle.std.proofs.Common.{◌≡◌, ℕ, Bool, true, false, ◌==◌, Some,
 use Rattle.std.specs.Str.{all_ascii_digits}
 use Rattle.std.proofs.lemmas.List.{reverse-append}
 use Rattle.std.proofs.lemmas.Bool.{and_parts, and_right}
-use Rattle.edi_octets.specs.Profile.{is_element_code, is_composite_code, first_field}
+use Rattle.edi_tables.specs.Forms.{is_element_code, is_composite_code}
+use Rattle.edi_octets.specs.Profile.{first_field}
 use Rattle.edi_octets.proofs.DecimalLemmas.{digit_between}
 use Rattle.dir_segments.specs.Parts.{field_from_end, is_element_form, is_composite_form}
 

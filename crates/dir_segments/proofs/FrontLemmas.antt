@@ -6,7 +6,8 @@ use Rattle.std.proofs.lemmas.List.{map_push, length-append}
 use Rattle.std.proofs.lemmas.List.Elements.{filter_map-append}
 use Rattle.edi_octets.specs.declared.fault.DirFault.{DirFault}
 use Rattle.edi_octets.specs.declared.fault.DirStop.{DirStop}
-use Rattle.edi_octets.specs.DirStop.{Gives, unless_faulty}
+use Rattle.edi_tables.specs.First.{Answers, unless_faulty}
+use Rattle.edi_octets.specs.DirStop.{fault_in}
 use Rattle.edi_octets.specs.Lines.{Line}
 use Rattle.edi_octets.specs.Profile.{with_earlier, with_earlier_from}
 use Rattle.edi_octets.proofs.EarlierLemmas.{judged-none, judged-at}
@@ -30,7 +31,7 @@ module _ {A : Type 0} where
 
   module _ (judge : List A × A → List DirFault) where
     -- nothing is broken before x, and what x breaks first is what all break first, whatever stands behind
-    pub first_at : {X Y X' Y' : Type 0} (view : X → Y) (outer : X' → Y') (stop : DirStop) (all front : List A) (x : A) (later : List A) (tail : List DirFault) (v : Y) (w : Y') → all ≡ front ++ x ∷ later → flat_map judge (with_earlier front) ≡ [] → Gives view (Err stop) (unless_faulty (judge (front, x)) v) → Gives outer (Err stop) (unless_faulty (flat_map judge (with_earlier all) ++ tail) w)
+    pub first_at : {X Y X' Y' : Type 0} (view : X → Y) (outer : X' → Y') (stop : DirStop) (all front : List A) (x : A) (later : List A) (tail : List DirFault) (v : Y) (w : Y') → all ≡ front ++ x ∷ later → flat_map judge (with_earlier front) ≡ [] → Answers view fault_in (Err stop) (unless_faulty (judge (front, x)) v) → Answers outer fault_in (Err stop) (unless_faulty (flat_map judge (with_earlier all) ++ tail) w)
     first_at view outer stop all front x later tail v w splits clean given =
         let before = flat_map judge (with_earlier front) in
         let behind = flat_map judge (with_earlier_from (front ++ x ∷ []) later) in
@@ -88,7 +89,7 @@ module _ {A D : Type 0} (judge : Option ℕ → A → List DirFault) (place : A 
       }
 
   -- x has come, and stops
-  pub read_stops : {X Y X' Y' : Type 0} (view : X → Y) (outer : X' → Y') (stop : DirStop) (all rest : List A) (x : A) (later : List A) (before : Option ℕ) (values : List D) (tail : List DirFault) (v : Y) (w : Y') → IsRead all rest before values → rest ≡ x ∷ later → Gives view (Err stop) (unless_faulty (judge before x) v) → Gives outer (Err stop) (unless_faulty (flat_map judge_behind (with_earlier all) ++ tail) w)
+  pub read_stops : {X Y X' Y' : Type 0} (view : X → Y) (outer : X' → Y') (stop : DirStop) (all rest : List A) (x : A) (later : List A) (before : Option ℕ) (values : List D) (tail : List DirFault) (v : Y) (w : Y') → IsRead all rest before values → rest ≡ x ∷ later → Answers view fault_in (Err stop) (unless_faulty (judge before x) v) → Answers outer fault_in (Err stop) (unless_faulty (flat_map judge_behind (with_earlier all) ++ tail) w)
   read_stops view outer stop all rest x later before values tail v w read here given =
       let same : judge before x ≡ judge_behind (read.front, x) = ap (λ b. judge b x) read.last in
       first_at judge_behind view outer stop all read.front x later tail v w (goes_at all read.front x rest later read.splits here) read.clean (rw same at given)
@@ -135,7 +136,7 @@ module _ {D : Type 0} (judge : List (List Line) → List Line → List DirFault)
       }
 
   -- an entry has come, and stops
-  pub entries_stop : {X Y X' Y' : Type 0} (view : X → Y) (outer : X' → Y') (stop : DirStop) (all rest : List (List Line)) (entry : List Line) (later : List (List Line)) (has : List ℕ → Bool) (values : List D) (v : Y) (w : Y') (read : AreRead all rest has values) → rest ≡ entry ∷ later → Gives view (Err stop) (unless_faulty (judge read.front entry) v) → Gives outer (Err stop) (unless_faulty (flat_map judge_entry (with_earlier all)) w)
+  pub entries_stop : {X Y X' Y' : Type 0} (view : X → Y) (outer : X' → Y') (stop : DirStop) (all rest : List (List Line)) (entry : List Line) (later : List (List Line)) (has : List ℕ → Bool) (values : List D) (v : Y) (w : Y') (read : AreRead all rest has values) → rest ≡ entry ∷ later → Answers view fault_in (Err stop) (unless_faulty (judge read.front entry) v) → Answers outer fault_in (Err stop) (unless_faulty (flat_map judge_entry (with_earlier all)) w)
   entries_stop view outer stop all rest entry later has values v w read here given =
       rw append-nil at (first_at judge_entry view outer stop all read.front entry later [] v w (goes_at all read.front entry rest later read.splits here) read.clean given)
 

@@ -11,7 +11,8 @@ use Rattle.edi_tables.specs.declared.element.PartDef.{PartDef}
 use Rattle.edi_tables.specs.declared.segment.ItemDef.{ItemDef}
 use Rattle.edi_tables.specs.declared.segment.ItemDef.TheVariants.{Alone, Composite}
 use Rattle.edi_octets.specs.declared.fault.DirStop.{DirStop}
-use Rattle.edi_octets.specs.DirStop.{Gives, unless_faulty}
+use Rattle.edi_tables.specs.First.{Answers, unless_faulty}
+use Rattle.edi_octets.specs.DirStop.{fault_in}
 use Rattle.edi_octets.specs.Lines.{Line}
 use Rattle.edi_octets.specs.Profile.{fields_of, first_field}
 use Rattle.dir_segments.specs.Parts.{is_item_line, part_in, has_position, fields_behind, is_element_form, is_composite_form, composite_status, element_fault, composite_fault, fault_list}
@@ -85,7 +86,7 @@ module _ (below_composite : Bool) where
       }
 
   -- a line has come, and stops
-  pub details_stop : {X Y X' Y' : Type 0} (view : X → Y) (outer : X' → Y') (stop : DirStop) (all rest : List Line) (line : Line) (later : List Line) (parts : List PartDef) (v : Y) (w : Y') → AreDetails all rest parts → rest ≡ line ∷ later → Gives view (Err stop) (unless_faulty (detail_faults below_composite line) v) → Gives outer (Err stop) (unless_faulty (flat_map (detail_faults below_composite) all) w)
+  pub details_stop : {X Y X' Y' : Type 0} (view : X → Y) (outer : X' → Y') (stop : DirStop) (all rest : List Line) (line : Line) (later : List Line) (parts : List PartDef) (v : Y) (w : Y') → AreDetails all rest parts → rest ≡ line ∷ later → Answers view fault_in (Err stop) (unless_faulty (detail_faults below_composite line) v) → Answers outer fault_in (Err stop) (unless_faulty (flat_map (detail_faults below_composite) all) w)
   details_stop view outer stop all rest line later parts v w read here given =
       let judge = detail_faults below_composite in
       let is : flat_map judge all ≡ flat_map judge read.front ++ (judge line ++ flat_map judge later) =

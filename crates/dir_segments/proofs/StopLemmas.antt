@@ -4,32 +4,33 @@ use Rattle.std.specs.Prelude.{Option}
 use Rattle.edi_octets.specs.declared.fault.DirFault.{DirFault}
 use Rattle.edi_octets.specs.declared.fault.DirStop.{DirStop}
 use Rattle.edi_octets.specs.declared.fault.DirStop.TheVariants.{Fault, Memory}
-use Rattle.edi_octets.specs.DirStop.{Gives, unless_faulty}
+use Rattle.edi_tables.specs.First.{Answers, unless_faulty}
+use Rattle.edi_octets.specs.DirStop.{fault_in}
 use Rattle.dir_segments.specs.Parts.{GivesPlaced, Passes}
 
 module _ {X Y : Type 0} (view : X → Y) where
   -- a value is answered where there is no fault
-  pub no_faults : (x : X) (faults : List DirFault) (v : Y) → Gives view (Ok x) (unless_faulty faults v) → faults ≡ []
+  pub no_faults : (x : X) (faults : List DirFault) (v : Y) → Answers view fault_in (Ok x) (unless_faulty faults v) → faults ≡ []
   no_faults x [] v is = refl
   no_faults x (fault ∷ faults) v is = cc
 
-  pub value_given : (x : X) (faults : List DirFault) (v : Y) → Gives view (Ok x) (unless_faulty faults v) → v ≡ view x
+  pub value_given : (x : X) (faults : List DirFault) (v : Y) → Answers view fault_in (Ok x) (unless_faulty faults v) → v ≡ view x
   value_given x [] v is = cc
   value_given x (fault ∷ faults) v is = cc
 
-  pub gives : (x : X) (faults : List DirFault) (v : Y) → faults ≡ [] → v ≡ view x → Gives view (Ok x) (unless_faulty faults v)
+  pub gives : (x : X) (faults : List DirFault) (v : Y) → faults ≡ [] → v ≡ view x → Answers view fault_in (Ok x) (unless_faulty faults v)
   gives x faults v none value = rw (none, value) refl
 
   module _ {X' Y' : Type 0} (outer : X' → Y') where
     -- what stops is the first fault of all, where nothing stands before it
-    pub stops : (stop : DirStop) (before faults later all : List DirFault) (v : Y) (w : Y') → before ≡ [] → all ≡ before ++ (faults ++ later) → Gives view (Err stop) (unless_faulty faults v) → Gives outer (Err stop) (unless_faulty all w)
+    pub stops : (stop : DirStop) (before faults later all : List DirFault) (v : Y) (w : Y') → before ≡ [] → all ≡ before ++ (faults ++ later) → Answers view fault_in (Err stop) (unless_faulty faults v) → Answers outer fault_in (Err stop) (unless_faulty all w)
     stops Memory before faults later all v w none is given = tt
     stops (Fault fault) before [] later all v w none is given = cc
     stops (Fault fault) before (first ∷ faults) later all v w none is given =
         let same : first ≡ fault = cc in
         rw (is, none, same) refl
 
-    pub stops_same : (stop : DirStop) (faults all : List DirFault) (v : Y) (w : Y') → all ≡ faults → Gives view (Err stop) (unless_faulty faults v) → Gives outer (Err stop) (unless_faulty all w)
+    pub stops_same : (stop : DirStop) (faults all : List DirFault) (v : Y) (w : Y') → all ≡ faults → Answers view fault_in (Err stop) (unless_faulty faults v) → Answers outer fault_in (Err stop) (unless_faulty all w)
     stops_same stop faults all v w is given =
         stops stop [] faults [] all v w refl (is ∙ sym (append-nil faults)) given
 

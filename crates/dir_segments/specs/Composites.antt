@@ -5,8 +5,9 @@ use Rattle.edi_tables.specs.declared.element.PartDef.{PartDef}
 use Rattle.edi_tables.specs.declared.element.CompositeDef.{CompositeDef}
 use Rattle.edi_octets.specs.declared.fault.DirFault.{DirFault}
 use Rattle.edi_octets.specs.Lines.{Line, lines_of}
-use Rattle.edi_octets.specs.Profile.{entries_of, is_composite_code, with_earlier}
-use Rattle.edi_octets.specs.DirStop.{unless_faulty}
+use Rattle.edi_tables.specs.Forms.{is_composite_code}
+use Rattle.edi_octets.specs.Profile.{entries_of, with_earlier}
+use Rattle.edi_tables.specs.First.{unless_faulty}
 use Rattle.edi_octets.specs.Head.{head_faults, code_of}
 use Rattle.dir_segments.specs.Parts.{is_item_line, fields_behind, position_of, last_of, part_in, part_faults, count_faults}
 

@@ -10,9 +10,11 @@ use Rattle.edi_octets.specs.declared.fault.DirFault.{DirFault}
 use Rattle.edi_octets.specs.declared.fault.DirKind.{DirKind}
 use Rattle.edi_octets.specs.declared.fault.DirKind.TheVariants.{BadLine, BadPosition, BadStatus, BadRepr}
 use Rattle.edi_octets.specs.declared.fault.DirStop.{DirStop}
-use Rattle.edi_octets.specs.DirStop.{Gives, at_line, unless_faulty}
+use Rattle.edi_tables.specs.First.{Answers, unless_faulty}
+use Rattle.edi_octets.specs.DirStop.{at_line, fault_in}
 use Rattle.edi_octets.specs.Lines.{Line}
-use Rattle.edi_octets.specs.Profile.{fields_of, indentation_of, first_field, after_position, has_digits, is_element_code, is_composite_code, repr_in, status_in}
+use Rattle.edi_tables.specs.Forms.{is_element_code, is_composite_code}
+use Rattle.edi_octets.specs.Profile.{fields_of, indentation_of, first_field, after_position, has_digits, repr_in, status_in}
 
 -- a line of a part or an item: indented by at most 4
 abbrev pub is_item_line : Line → Bool
@@ -109,8 +111,8 @@ pub record IsComposite (composite : CompositeFields) (fields : List (List ℕ)) 
 -- what was read of a line: its position and what it defines where no rule is broken, else the first fault, unless memory ran out
 abbrev pub GivesPlaced : {A : Type 0} → Result (ℕ × A) DirStop → List DirFault → ℕ → Option A → Type 0
 GivesPlaced {A} result faults position found =
-    Gives {Y = ℕ × Option A} (λ p. (p.0, Some p.1)) result (unless_faulty {A = ℕ × Option A} faults (position, found))
+    Answers {Y = ℕ × Option A} (λ p. (p.0, Some p.1)) fault_in result (unless_faulty {A = ℕ × Option A} faults (position, found))
 
 -- what was answered: nothing where no rule is broken, else the first fault, unless memory ran out
 abbrev pub Passes : {A : Type 0} → Result A DirStop → List DirFault → Type 0
-Passes result faults = Gives {Y = Unit {0}} (λ _. tt) result (unless_faulty faults tt)
+Passes result faults = Answers {Y = Unit {0}} (λ _. tt) fault_in result (unless_faulty faults tt)

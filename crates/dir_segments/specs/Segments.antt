@@ -14,8 +14,10 @@ use Rattle.edi_tables.specs.declared.segment.SegmentDef.{SegmentDef}
 use Rattle.edi_octets.specs.declared.fault.DirFault.{DirFault}
 use Rattle.edi_octets.specs.declared.fault.DirKind.TheVariants.{BadLine, PartsDiffer}
 use Rattle.edi_octets.specs.Lines.{Line, is_filled, lines_of}
-use Rattle.edi_octets.specs.Profile.{fields_of, first_field, entries_of, is_element_code, with_earlier}
-use Rattle.edi_octets.specs.DirStop.{at_line, unless_faulty}
+use Rattle.edi_tables.specs.Forms.{is_element_code}
+use Rattle.edi_octets.specs.Profile.{fields_of, first_field, entries_of, with_earlier}
+use Rattle.edi_tables.specs.First.{unless_faulty}
+use Rattle.edi_octets.specs.DirStop.{at_line}
 use Rattle.edi_octets.specs.Head.{head_faults, head_field}
 use Rattle.dir_segments.specs.Parts.{is_item_line, fields_behind, has_position, position_of, last_of, count_faults, is_element_form, is_composite_form, part_in, composite_status, element_fault, composite_fault, fault_list}
 

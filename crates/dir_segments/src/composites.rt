@@ -3,7 +3,8 @@ ghost use Rattle.std.specs.Prelude.{◌≡◌, ◌≤◌, List, [], ◌∷◌, �
 ghost use Rattle.std.specs.List.{flat_map};
 ghost use Rattle.std.specs.HashSet.{contains};
 ghost use Rattle.std.specs.Str.{bytes_eq};
-ghost use Rattle.edi_octets.specs.DirStop.{Gives, unless_faulty};
+ghost use Rattle.edi_tables.specs.First.{Answers, unless_faulty};
+ghost use Rattle.edi_octets.specs.DirStop.{fault_in};
 ghost use Rattle.edi_octets.specs.Left.{line_shown, body_left, entry_shown};
 ghost use Rattle.edi_octets.specs.Lines.{Line};
 ghost use Rattle.edi_octets.specs.Profile.{with_earlier};
@@ -25,7 +26,7 @@ use std::collections::HashSet;
 /// `bad-repr` at a part line, `bad-line` at the head of an entry with no part or more than 99.
 pub fn read_composites(alloc: Global, file: &[u8]) -> Result<Vec<CompositeDef>, DirStop>
     requires { length file.now ≤ 4194304 }
-    ensures { Gives (λ found. found.items) result (composites.composites_in file.now) }
+    ensures { Answers (λ found. found.items) fault_in result (composites.composites_in file.now) }
 {
     let mut found = Vec::new(alloc);
     let mut seen = HashSet::new(alloc);
@@ -43,7 +44,7 @@ fn read_entry(
     entry: &Entry<'_>,
 ) -> Result<CompositeDef, DirStop>
     ensures judged { (earlier : List (List Line)) → HasHeads (contains bytes_eq seen.old) earlier
-        → Gives (λ composite. composite) result
+        → Answers (λ composite. composite) fault_in result
         (unless_faulty (composites.composite_faults earlier (entry_shown entry.now)) (composites.composite_of (entry_shown entry.now))) }
     ensures joins { (earlier : List (List Line)) → HasHeads (contains bytes_eq seen.old) earlier
         → OnOk result (HasHeads (contains bytes_eq seen.new) (earlier ++ entry_shown entry.now ∷ [])) }
@@ -59,7 +60,7 @@ fn read_entry(
 /// Reads the part lines of an entry, and judges its end.
 fn read_parts(alloc: Global, entry: &Entry<'_>) -> Result<Vec<PartDef>, DirStop>
     ensures { let body = body_left entry.now.body in
-        Gives (λ parts. parts.items) result
+        Answers (λ parts. parts.items) fault_in result
         (unless_faulty (composites.parts_faults body ++ count_faults (line_shown entry.now.head) (length (composites.part_lines body))) (composites.parts_in body)) }
 {
     let mut parts = Vec::new(alloc);

@@ -2,7 +2,8 @@
 ghost use Rattle.std.specs.Prelude.{◌≡◌, ℕ, List, Some, IsTrue};
 ghost use Rattle.std.specs.List.{flat_map};
 ghost use Rattle.std.specs.Cmp.Lexicographic.{pointwise};
-ghost use Rattle.edi_octets.specs.DirStop.{Gives, unless_faulty};
+ghost use Rattle.edi_tables.specs.First.{Answers, unless_faulty};
+ghost use Rattle.edi_octets.specs.DirStop.{fault_in};
 ghost use Rattle.edi_octets.specs.Left.{line_shown, body_left};
 ghost use Rattle.edi_octets.specs.Profile.{fields_of};
 ghost use Rattle.dir_segments.specs.Parts.{Passes, fields_behind, is_composite_form, part_in};
@@ -23,7 +24,7 @@ pub(crate) fn read_details(
     behind: Body<'_>,
 ) -> Result<Vec<PartDef>, DirStop>
     ensures { let details = segments.details_of (body_left behind.entry) in
-        Gives (λ parts. parts.items) result
+        Answers (λ parts. parts.items) fault_in result
         (unless_faulty (flat_map (segments.detail_faults below_composite) details) (segments.repeated_parts details)) }
 {
     let mut parts = Vec::new(alloc);
@@ -88,7 +89,7 @@ fn is_part_line(line: &LineText<'_>) -> bool
 /// Reads a part line below an item: the part that it repeats.
 fn read_repeated(below_composite: bool, line: &LineText<'_>) -> Result<PartDef, DirStop>
     requires { IsTrue (segments.is_part_line (line_shown line.now)) }
-    ensures { Gives (λ part. Some part) result
+    ensures { Answers (λ part. Some part) fault_in result
         (unless_faulty (segments.detail_faults below_composite (line_shown line.now)) (part_in (fields_of line.now.octets.now))) }
 {
     match read_whole_element(line) {

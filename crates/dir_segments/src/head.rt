@@ -3,11 +3,13 @@ ghost use Rattle.std.specs.Prelude.{◌≡◌, ◌==◌, ℕ, List, [], ◌∷�
 ghost use Rattle.std.specs.HashSet.{contains};
 ghost use Rattle.std.specs.Str.{bytes_eq};
 ghost use Rattle.edi_tables.specs.Tag.{is_tag_of};
-ghost use Rattle.edi_octets.specs.DirStop.{Gives, unless_faulty};
+ghost use Rattle.edi_tables.specs.First.{Answers, unless_faulty};
+ghost use Rattle.edi_octets.specs.DirStop.{fault_in};
 ghost use Rattle.edi_octets.specs.Head.{head_faults};
 ghost use Rattle.edi_octets.specs.Left.{line_shown};
 ghost use Rattle.edi_octets.specs.Lines.{Line};
-ghost use Rattle.edi_octets.specs.Profile.{fields_of, first_field, is_composite_code};
+ghost use Rattle.edi_tables.specs.Forms.{is_composite_code};
+ghost use Rattle.edi_octets.specs.Profile.{fields_of, first_field};
 ghost use Rattle.dir_segments.specs.Heads.{HasHeads};
 
 use crate::part_line::stop_at;
@@ -22,7 +24,7 @@ pub(crate) fn read_code_head(
     head: &LineText<'_>,
 ) -> Result<Code, DirStop>
     ensures judged { (earlier : List (List Line)) → HasHeads (contains bytes_eq seen.old) earlier
-        → Gives (λ code. code.octets) result
+        → Answers (λ code. code.octets) fault_in result
         (unless_faulty (head_faults is_composite_code earlier (line_shown head.now)) (first_field (fields_of head.now.octets.now))) }
     ensures joins { (earlier : List (List Line)) (body : List Line) → HasHeads (contains bytes_eq seen.old) earlier
         → OnOk result (HasHeads (contains bytes_eq seen.new) (earlier ++ (line_shown head.now ∷ body) ∷ [])) }
@@ -46,7 +48,7 @@ pub(crate) fn read_tag_head(
     head: &LineText<'_>,
 ) -> Result<Tag, DirStop>
     ensures judged { (earlier : List (List Line)) → HasHeads (contains bytes_eq seen.old) earlier
-        → Gives (λ tag. tag.octets) result
+        → Answers (λ tag. tag.octets) fault_in result
         (unless_faulty (head_faults is_tag_of earlier (line_shown head.now)) (first_field (fields_of head.now.octets.now))) }
     ensures joins { (earlier : List (List Line)) (body : List Line) → HasHeads (contains bytes_eq seen.old) earlier
         → OnOk result (HasHeads (contains bytes_eq seen.new) (earlier ++ (line_shown head.now ∷ body) ∷ [])) }

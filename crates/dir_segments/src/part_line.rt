@@ -1,6 +1,7 @@
 //! Lines of parts and items, judged behind the position before them.
 ghost use Rattle.std.specs.Prelude.{◌≡◌, Some, IsTrue};
-ghost use Rattle.edi_octets.specs.DirStop.{Gives, at_line, unless_faulty};
+ghost use Rattle.edi_tables.specs.First.{Answers, unless_faulty};
+ghost use Rattle.edi_octets.specs.DirStop.{at_line, fault_in};
 ghost use Rattle.edi_octets.specs.declared.fault.DirStop.TheVariants.{Fault};
 ghost use Rattle.edi_octets.specs.Left.{line_shown};
 ghost use Rattle.dir_segments.specs.Parts as parts;
@@ -68,7 +69,7 @@ fn judge_element(
     requires form { IsTrue (parts.is_element_form (parts.fields_behind (line_shown line.now))) }
     requires element { parts.IsElement element.now (parts.fields_behind (line_shown line.now)) }
     ensures { let shown = line_shown line.now in
-        Gives (λ part. Some part) result
+        Answers (λ part. Some part) fault_in result
         (unless_faulty (parts.fault_list shown (parts.element_fault before shown)) (parts.part_in (parts.fields_behind shown))) }
 {
     if !is_behind(before, position) {
@@ -98,7 +99,7 @@ fn judge_composite(
     requires form { IsTrue (parts.is_composite_form (parts.fields_behind (line_shown line.now))) }
     requires composite { parts.IsComposite composite.now (parts.fields_behind (line_shown line.now)) }
     ensures { let shown = line_shown line.now in
-        Gives (λ item. Some item) result
+        Answers (λ item. Some item) fault_in result
         (unless_faulty (parts.fault_list shown (parts.composite_fault before shown)) (segments.item_in (parts.fields_behind shown))) }
 {
     if !is_behind(before, position) {

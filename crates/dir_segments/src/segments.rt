@@ -2,7 +2,8 @@
 ghost use Rattle.std.specs.Prelude.{◌≡◌, ◌≤◌, List, [], ◌∷◌, ◌++◌, length, map, OnOk};
 ghost use Rattle.std.specs.HashSet.{contains};
 ghost use Rattle.std.specs.Str.{bytes_eq};
-ghost use Rattle.edi_octets.specs.DirStop.{Gives, unless_faulty};
+ghost use Rattle.edi_tables.specs.First.{Answers, unless_faulty};
+ghost use Rattle.edi_octets.specs.DirStop.{fault_in};
 ghost use Rattle.edi_octets.specs.Left.{line_shown, body_left, entry_shown};
 ghost use Rattle.edi_octets.specs.Lines.{Line};
 ghost use Rattle.dir_segments.specs.Heads.{HasHeads};
@@ -31,7 +32,7 @@ pub fn read_segments(
     known: &[CompositeDef],
 ) -> Result<Vec<SegmentDef>, DirStop>
     requires { length file.now ≤ 4194304 }
-    ensures { Gives (λ found. found.items) result (segments.segments_in known.now file.now) }
+    ensures { Answers (λ found. found.items) fault_in result (segments.segments_in known.now file.now) }
 {
     let composites = KnownComposites::new(alloc, known)?;
     let mut found = Vec::new(alloc);
@@ -51,7 +52,7 @@ fn read_entry(
     entry: &Entry<'_>,
 ) -> Result<SegmentDef, DirStop>
     ensures judged { (earlier : List (List Line)) → HasHeads (contains bytes_eq seen.old) earlier
-        → Gives (λ segment. segment) result
+        → Answers (λ segment. segment) fault_in result
         (unless_faulty (segments.segment_faults known.now.composites.now earlier (entry_shown entry.now)) (segments.segment_of (entry_shown entry.now))) }
     ensures joins { (earlier : List (List Line)) → HasHeads (contains bytes_eq seen.old) earlier
         → OnOk result (HasHeads (contains bytes_eq seen.new) (earlier ++ entry_shown entry.now ∷ [])) }
@@ -71,7 +72,7 @@ fn read_items(
     entry: &Entry<'_>,
 ) -> Result<Vec<ItemDef>, DirStop>
     ensures { let body = body_left entry.now.body in
-        Gives (λ items. items.items) result
+        Answers (λ items. items.items) fault_in result
         (unless_faulty (segments.items_faults known.now.composites.now body ++ parts.count_faults (line_shown entry.now.head) (length (segments.items_of body))) (segments.items_in body)) }
 {
     let mut items = Vec::new(alloc);

@@ -4,7 +4,7 @@ use Rattle.std.specs.List.{flat_map}
 use Rattle.std.proofs.lemmas.List.{take_more}
 use Rattle.std.proofs.lemmas.List.Concat.{flat_map-append}
 use Rattle.edi_octets.specs.declared.fault.DirFault.{DirFault}
-use Rattle.edi_octets.specs.DirStop.{unless_faulty}
+use Rattle.edi_tables.specs.First.{unless_faulty}
 use Rattle.edi_octets.specs.Profile.{with_earlier, with_earlier_from}
 
 module _ {A : Type 0} where

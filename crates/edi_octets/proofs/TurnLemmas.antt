@@ -7,7 +7,7 @@ use Rattle.std.proofs.lemmas.List.{map_push}
 use Rattle.std.proofs.lemmas.List.Elements.{filter-append}
 use Rattle.std.proofs.lemmas.List.Folds.{list_any-append}
 use Rattle.edi_octets.specs.declared.fault.DirFault.{DirFault}
-use Rattle.edi_octets.specs.DirStop.{unless_faulty}
+use Rattle.edi_tables.specs.First.{unless_faulty}
 use Rattle.edi_octets.specs.Profile.{with_earlier}
 use Rattle.edi_octets.proofs.EarlierLemmas.{judged-none, unless_faulty-first}
 

@@ -74,14 +74,6 @@ after_position (field ∷ fields) = if is_lone_mark field then fields else field
 abbrev pub has_digits : ℕ → List ℕ → Bool
 has_digits n field = length field == n && all_ascii_digits field
 
--- a data element's code is four digits
-abbrev pub is_element_code : List ℕ → Bool
-is_element_code field = has_digits 4 field
-
--- a composite's code is `C` and three digits
-abbrev pub is_composite_code : List ℕ → Bool
-is_composite_code field = length field == 4 && slice_index field 0 == 67 && all_ascii_digits (drop 1 field)
-
 -- a length is a number from 1 to 9999 without leading zero
 abbrev pub length_in : List ℕ → Option ℕ
 length_in field =

@@ -1,5 +1,6 @@
 //! The words of the directory text profile.
 ghost use Rattle.std.specs.Prelude.{◌≡◌, ◌==◌, drop, slice_index, if◌then◌else◌};
+ghost use Rattle.edi_tables.specs.Forms as forms;
 ghost use Rattle.edi_octets.specs.Profile as profile;
 ghost use Rattle.edi_octets.specs.Left.{cells_left};
 
@@ -39,14 +40,14 @@ pub fn is_lone_mark(field: &[u8]) -> bool
 
 /// Whether a field is a data element's code: four digits.
 pub fn is_element_code(field: &[u8]) -> bool
-    ensures { result ≡ profile.is_element_code field.now }
+    ensures { result ≡ forms.is_element_code field.now }
 {
     field.len() == 4 && are_digits(field)
 }
 
 /// Whether a field is a composite's code: `C` and three digits.
 pub fn is_composite_code(field: &[u8]) -> bool
-    ensures { result ≡ profile.is_composite_code field.now }
+    ensures { result ≡ forms.is_composite_code field.now }
 {
     field.len() == 4 && field[0] == b'C' && are_digits(&field[1..])
 }

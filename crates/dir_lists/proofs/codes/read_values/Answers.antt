@@ -4,7 +4,7 @@ use Rattle.std.proofs.lemmas.Result.{err_from_is_err_and}
 use Rattle.edi_octets.specs.Left.{line_shown, body_left}
 use Rattle.edi_octets.proofs.TurnLemmas.{judged-turn, rest-end}
 use Rattle.dir_lists.specs.Codes.{body_faults, values_of}
-use Rattle.dir_lists.proofs.AnswerLemmas.{none_from_ok, Gives-handed_on}
+use Rattle.dir_lists.proofs.AnswerLemmas.{none_from_ok, Answers-handed_on}
 use Rattle.dir_lists.proofs.CodeLemmas.{values_of-append}
 use Rattle.dir_lists.proofs.LoopLemmas.{stopped-turn}
 use Rattle.dir_lists.proofs.codes.read_values.Goals as goal
@@ -28,7 +28,7 @@ returns-in_err-read_line c =
     let stop = c.in_err-read_line.field-0.0 in
     let given = c.in_err-read_line.ensures.judged (map line_shown seen) c.loop-line.invariant.seen in
     let stopped = stopped-turn line_shown body_left (λ p. body_faults p.0 p.1) c.into_iter-line-iterator.result seen c.loop-line.line-iterator c.loop-line.yielded_by line c.next.new.self c.in-Some.ensures.steps c.loop-line.invariant.none (λ (done : Unit {0}). done) tt stop given body (sym (ap body_left c.into_iter-line-iterator.ensures.into_iter_gives)) (values_of body) in
-    Gives-handed_on _ c.from_residual.result stop _ (err_from_is_err_and c.from_residual.result c.from_residual.ensures.1) stopped
+    Answers-handed_on _ c.from_residual.result stop _ (err_from_is_err_and c.from_residual.result c.from_residual.ensures.1) stopped
 
 pub returns : goal.returns
 returns c =

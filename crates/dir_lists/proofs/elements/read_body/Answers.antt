@@ -2,12 +2,12 @@ use Rattle.std.proofs.Common.{[], ◌∷◌, ◌++◌, map, sym, ap, ◌∙◌}
 use Rattle.std.specs.List.{flat_map}
 use Rattle.std.proofs.lemmas.List.{map_push}
 use Rattle.std.proofs.lemmas.Result.{err_from_is_err_and}
-use Rattle.edi_octets.specs.DirStop.{unless_faulty}
+use Rattle.edi_tables.specs.First.{unless_faulty}
 use Rattle.edi_octets.specs.Left.{line_shown, body_left}
 use Rattle.edi_octets.specs.Profile.{with_earlier}
 use Rattle.edi_octets.proofs.TurnLemmas.{judged-turn, rest-end}
 use Rattle.dir_lists.specs.Elements.{body_faults, end_faults, repr_of_entry}
-use Rattle.dir_lists.proofs.AnswerLemmas.{none_from_ok, unless_faulty-front, Gives-stopped, Gives-handed_on}
+use Rattle.dir_lists.proofs.AnswerLemmas.{none_from_ok, unless_faulty-front, Answers-stopped, Answers-handed_on}
 use Rattle.dir_lists.proofs.ElementLemmas.{entry-end, found-turn}
 use Rattle.dir_lists.proofs.LoopLemmas.{stopped-turn}
 use Rattle.dir_lists.proofs.elements.read_body.Goals as goal
@@ -38,8 +38,8 @@ returns-in_err-found c =
     let ends = end_faults (line_shown c.args.entry.now.head) body in
     let given = c.in_err-found.ensures earlier c.loop-line.invariant.found c.loop-line.invariant.any in
     let stopped = stopped-turn line_shown body_left (λ p. body_faults p.0 p.1) c.into_iter-line-iterator.result seen c.loop-line.line-iterator c.loop-line.yielded_by line c.next.new.self c.in-Some.ensures.steps c.loop-line.invariant.none (λ found. found) (repr_of_entry (earlier ++ line_shown line ∷ [])) stop given body (sym (ap body_left c.into_iter-line-iterator.ensures.into_iter_gives)) (repr_of_entry body) in
-    let whole = Gives-stopped (λ repr. repr) (λ repr. repr) stop (unless_faulty faults (repr_of_entry body)) (unless_faulty (faults ++ ends) (repr_of_entry body)) (λ fault is. unless_faulty-front faults ends (repr_of_entry body) (repr_of_entry body) fault is) stopped in
-    Gives-handed_on _ c.from_residual.result stop (unless_faulty (faults ++ ends) (repr_of_entry body)) (err_from_is_err_and c.from_residual.result c.from_residual.ensures.1) whole
+    let whole = Answers-stopped (λ repr. repr) (λ repr. repr) stop (unless_faulty faults (repr_of_entry body)) (unless_faulty (faults ++ ends) (repr_of_entry body)) (λ fault is. unless_faulty-front faults ends (repr_of_entry body) (repr_of_entry body) fault is) stopped in
+    Answers-handed_on _ c.from_residual.result stop (unless_faulty (faults ++ ends) (repr_of_entry body)) (err_from_is_err_and c.from_residual.result c.from_residual.ensures.1) whole
 
 pub returns : goal.returns
 returns c =

@@ -7,7 +7,7 @@ use Rattle.edi_octets.specs.Lines.{lines_of}
 use Rattle.edi_octets.specs.Profile.{entries_of}
 use Rattle.edi_octets.proofs.TurnLemmas.{judged-turn, rest-end}
 use Rattle.dir_lists.specs.Elements.{elements_in, element_faults, element_of}
-use Rattle.dir_lists.proofs.AnswerLemmas.{none_from_ok, Gives-handed_on}
+use Rattle.dir_lists.proofs.AnswerLemmas.{none_from_ok, Answers-handed_on}
 use Rattle.dir_lists.proofs.LoopLemmas.{map-turn, filter_map-turn, stopped-turn}
 use Rattle.dir_lists.proofs.elements.read_elements.Goals as goal
 
@@ -35,7 +35,7 @@ returns-in_err-element c =
     let given = c.in_err-element.ensures.judged earlier c.loop-entry.invariant.seen in
     let all = sym (ap entries_left c.into_iter-entry-iterator.ensures.into_iter_gives ∙ c.of-entry-items.ensures.entries) in
     let stopped = stopped-turn entry_shown entries_left (λ p. element_faults p.0 p.1) c.into_iter-entry-iterator.result seen c.loop-entry.entry-iterator c.loop-entry.yielded_by entry c.next.new.self c.in-Some.ensures.steps c.loop-entry.invariant.none (λ element. element) (element_of (entry_shown entry)) stop given entries all (filter_map element_of entries) in
-    Gives-handed_on _ c.from_residual.result stop _ (err_from_is_err_and c.from_residual.result c.from_residual.ensures.1) stopped
+    Answers-handed_on _ c.from_residual.result stop _ (err_from_is_err_and c.from_residual.result c.from_residual.ensures.1) stopped
 
 pub returns : goal.returns
 unfolding elements_in

@@ -1,6 +1,7 @@
 use Rattle.std.proofs.Common.{◌≡◌, true, false, length, sym, ap, subst, arith, is_some, refl}
 use Rattle.edi_tables.specs.declared.segment.MessageDef.{MessageDef}
-use Rattle.edi_octets.specs.DirStop.{Gives}
+use Rattle.edi_tables.specs.First.{Answers}
+use Rattle.edi_octets.specs.DirStop.{fault_in}
 use Rattle.edi_octets.specs.Left.{lines_left, line_shown}
 use Rattle.dir_messages.specs.Message.{is_type_line}
 use Rattle.dir_messages.proofs.DrawingLemmas.{no_type_line}
@@ -18,7 +19,7 @@ returns-in-Some-type_name c =
     let line = line_shown c.in-Some.line in
     let type : is_type_line line ≡ true = ap (λ o. is_some o) (sym c.in-Some-type_name.ensures) in
     let found = sought-found c.args.file.now line (lines_left c.loop-line.lines) (lines_left c.next.new.self) c.loop-line.count c.loop-line.invariant c.in-Some.ensures.steps type in
-    subst (λ file. Gives (λ (m : MessageDef). m) c.read_drawing.result file) (sym found) (c.read_drawing.ensures line refl (sym c.in-Some-type_name.ensures))
+    subst (λ file. Answers (λ (m : MessageDef). m) fault_in c.read_drawing.result file) (sym found) (c.read_drawing.ensures line refl (sym c.in-Some-type_name.ensures))
 
 pub overflow_add-count : goal.overflow_add-count
 overflow_add-count c = omega (arith, c.loop-line.invariant.counted, ap length c.in-Some.ensures.steps, c.of-lines.ensures.few, ap length c.of-lines.ensures.lines)

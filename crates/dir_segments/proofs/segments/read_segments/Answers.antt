@@ -4,7 +4,8 @@ use Rattle.std.specs.Str.{bytes_eq}
 use Rattle.std.proofs.lemmas.Result.{err_from_is_err_and}
 use Rattle.edi_tables.specs.declared.element.CompositeDef.{CompositeDef}
 use Rattle.edi_tables.specs.declared.segment.SegmentDef.{SegmentDef}
-use Rattle.edi_octets.specs.DirStop.{Gives, unless_faulty}
+use Rattle.edi_tables.specs.First.{Answers, unless_faulty}
+use Rattle.edi_octets.specs.DirStop.{fault_in}
 use Rattle.edi_octets.specs.Left.{entry_shown, entries_left}
 use Rattle.edi_octets.specs.Lines.{lines_of}
 use Rattle.edi_octets.specs.Profile.{entries_of}
@@ -22,7 +23,7 @@ returns-in_err-segment c =
     let entry = entry_shown c.in-Some.entry in
     let same = λ (k : SegmentDef). k in
     let stop = c.in_err-segment.field-0.0 in
-    let Stops : List CompositeDef → Type 0 = λ known. Gives same (Err stop) (unless_faulty (segment_faults known read.front entry) (segment_of entry)) in
+    let Stops : List CompositeDef → Type 0 = λ known. Answers same fault_in (Err stop) (unless_faulty (segment_faults known read.front entry) (segment_of entry)) in
     let given : Stops c.args.known.now = subst Stops c.in_ok-composites.ensures (c.in_err-segment.ensures.judged read.front read.heads) in
     rw (err.1, err.2) (entries_stop (segment_faults c.args.known.now) segment_of same (λ (found : Vec SegmentDef Global). found.items) stop all (entries_left c.loop-entry.entry-iterator) entry (entries_left c.next.new.self) (contains bytes_eq c.loop-entry.seen) c.loop-entry.found.items (segment_of entry) (map segment_of all) read c.in-Some.ensures.steps given)
 
@@ -33,7 +34,7 @@ loop-entry-preserved c =
     let entry = entry_shown c.in-Some.entry in
     let same = λ (k : SegmentDef). k in
     let segment = c.in_ok-segment.segment in
-    let Read : List CompositeDef → Type 0 = λ known. Gives same (Ok segment) (unless_faulty (segment_faults known read.front entry) (segment_of entry)) in
+    let Read : List CompositeDef → Type 0 = λ known. Answers same fault_in (Ok segment) (unless_faulty (segment_faults known read.front entry) (segment_of entry)) in
     let judged : Read c.args.known.now = subst Read c.in_ok-composites.ensures (c.in_ok-segment.ensures.judged read.front read.heads) in
     let none = no_faults same segment (segment_faults c.args.known.now read.front entry) (segment_of entry) judged in
     let value = value_given same segment (segment_faults c.args.known.now read.front entry) (segment_of entry) judged in

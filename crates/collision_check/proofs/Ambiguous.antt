@@ -14,7 +14,7 @@ use Rattle.edi_tables.specs.Collisions.{front_of, is_follower, followers_of, hav
 use Rattle.collision_check.specs.Shared.{pair_with, pair_at, pairs_of}
 use Rattle.collision_check.specs.Listed.{collisions_at, IsAmbiguous}
 use Rattle.collision_check.proofs.Made.{of_pair, behind_by_pairs}
-use Rattle.collision_check.proofs.Distinct.{apart_take, followers_apart}
+use Rattle.edi_tables.proofs.Distinct.{apart_take, followers_apart}
 use Rattle.collision_check.proofs.Placed.{same_tags, IsFollower, placement}
 
 -- what holds of all that each place makes holds of all that they make

@@ -9,10 +9,10 @@ use Rattle.edi_tables.specs.Rows.{IsTable}
 use Rattle.edi_tables.specs.Walk.{parent_at, end_at, is_must_at, is_group_at, is_trigger_at, is_repeat, reached_node, entry_for, are_siblings, groups_round, outward, candidates_of, later_nodes, missing_between}
 use Rattle.edi_tables.specs.Collisions.{is_in_front}
 use Rattle.edi_tables.proofs.TableLaws.{HasTableLaws, table_laws}
-use Rattle.collision_check.proofs.Ascending.{Passes, passing_each, AreNeighbours}
-use Rattle.collision_check.proofs.Stepping.{is_round, round_some, trigger_round}
-use Rattle.collision_check.proofs.Reaching.{inside_round, StandsFor, stands, in_outward, level_outer}
-use Rattle.collision_check.proofs.Single.{repeat_round, round_below}
+use Rattle.edi_tables.proofs.Places.{Passes, passing_each, AreNeighbours}
+use Rattle.edi_tables.proofs.Stepping.{is_round, round_some, trigger_round}
+use Rattle.edi_tables.proofs.Reaching.{inside_round, StandsFor, stands, in_outward, level_outer}
+use Rattle.edi_tables.proofs.Placements.{repeat_round, round_below}
 
 -- what all members pass, each one does
 all_at : (test : ℕ → Bool) (groups : List ℕ) → list_all test groups ≡ true → (g : ℕ) → list_any (nat_eq g) groups ≡ true → test g ≡ true

@@ -1,16 +1,9 @@
-pub mod Outward
 pub mod Following
 pub mod Pairs
 pub mod Made
-pub mod Within
 pub mod Alone
-pub mod Stepping
-pub mod Counting
 pub mod Single
 pub mod TwoDates
-pub mod Ascending
-pub mod Distinct
-pub mod Reaching
 pub mod Fronts
 pub mod Placed
 pub mod Ambiguous

@@ -17,9 +17,9 @@ use Rattle.edi_tables.specs.Collisions.{is_in_front, front_of, is_follower, are_
 use Rattle.edi_tables.proofs.NodeReads.{tag_at_is, is_group_at_is}
 use Rattle.edi_tables.proofs.TableLaws.{HasTableLaws, table_laws}
 use Rattle.collision_check.proofs.Pairs.{filter_push}
-use Rattle.collision_check.proofs.Stepping.{round_none}
-use Rattle.collision_check.proofs.Single.{last_of, tagged, first_outside}
-use Rattle.collision_check.proofs.Ascending.{Passes, passing_each, AreNeighbours, neighbours, starts_with, count_once, count_drop}
+use Rattle.edi_tables.proofs.Stepping.{round_none}
+use Rattle.edi_tables.proofs.Placements.{last_of, tagged, first_outside}
+use Rattle.edi_tables.proofs.Places.{Passes, passing_each, AreNeighbours, neighbours, starts_with, count_once, count_drop}
 use Rattle.collision_check.proofs.Fronts.{front_entry, in_front, front_itself, IsNextCandidate, next_is}
 
 -- where each entry has a tag, their tags stand in the same places

@@ -2,7 +2,7 @@
 use Rattle.std.specs.Prelude.{◌-◌, ℕ, Bool, true, false, nat_lt, ◌==◌, ◌≡◌, nat_le, if◌then◌else◌, List, [], ◌∷◌, ◌++◌, Option, Some, None, map, cond, length, take, filter, slice_index}
 use Rattle.std.specs.List.{flat_map, range_with_len}
 use Rattle.edi_tables.specs.declared.table.Node.{Node}
-use Rattle.edi_tables.specs.Walk.{max_at, is_trigger_at, is_repeat, entry_for, later_siblings}
+use Rattle.edi_tables.specs.Walk.{max_at, is_repeat, entry_for, itself, later_siblings}
 use Rattle.edi_tables.specs.Collisions.{have_same_tag}
 use Rattle.std.specs.Str.{bytes_eq}
 use Rattle.edi_tables.specs.declared.tag.Tag.{Tag}
@@ -20,9 +20,6 @@ may_stand_again nodes f c =
     if is_repeat nodes f c then nat_le 2 (max_at nodes (c - 1)) else (if c == f then nat_le 2 (max_at nodes f) else true)
 
 -- the first candidates behind an entry: itself unless it is a trigger, and its later siblings
-abbrev pub itself : List Node → ℕ → List ℕ
-itself nodes f = if is_trigger_at nodes f then [] else f ∷ []
-
 abbrev pub own_level : List Node → ℕ → List ℕ
 own_level nodes f = itself nodes f ++ map (entry_for nodes) (later_siblings nodes f)
 

@@ -2,9 +2,9 @@
 ghost use Rattle.std.specs.Prelude.{◌≡◌, ◌<◌, ◌≤◌, ◌+◌, ◌==◌, ◌&&◌, length, IfOk};
 ghost use Rattle.std.specs.List.{find, list_any};
 ghost use Rattle.edi_tables.specs.Rows.{IsTable};
-ghost use Rattle.edi_tables.specs.Walk.{is_must_at, is_trigger_at, is_repeat, reached_node, candidates_of, later_nodes, groups_round};
+ghost use Rattle.edi_tables.specs.Walk.{is_must_at, is_trigger_at, is_repeat, reached_node, candidates_of, itself, later_nodes, groups_round};
 ghost use Rattle.edi_tables.specs.Collisions.{is_follower, followers_of};
-ghost use Rattle.collision_check.specs.Shared.{lies_before, may_stand_again, itself, own_level};
+ghost use Rattle.collision_check.specs.Shared.{lies_before, may_stand_again, own_level};
 
 use crate::levels;
 use edi_tables::Node;

@@ -1,5 +1,7 @@
 pub mod AscendingLemmas
+pub mod Counting
 pub mod Depths
+pub mod Distinct
 pub mod Faults
 pub mod Finding
 pub mod Groups
@@ -7,8 +9,14 @@ pub mod Lawful
 pub mod Made
 pub mod NodeReads
 pub mod OrderPlaced
+pub mod Outward
+pub mod Placements
+pub mod Places
+pub mod Reaching
 pub mod Restored
+pub mod Stepping
 pub mod Stretches
 pub mod TableLaws
 pub mod TestOrder
 pub mod Walking
+pub mod Within

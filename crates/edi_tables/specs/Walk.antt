@@ -62,9 +62,13 @@ abbrev pub outward : List Node → ℕ → List ℕ → List ℕ
 outward nodes i [] = map (entry_for nodes) (later_siblings nodes i)
 outward nodes i (g ∷ groups) = map (entry_for nodes) (later_siblings nodes i) ++ (g + 1) ∷ outward nodes g groups
 
--- the candidates behind a placed entry, in processing order: itself unless it is a trigger, then outwards
+-- an entry itself, unless it is a trigger
+abbrev pub itself : List Node → ℕ → List ℕ
+itself nodes f = if is_trigger_at nodes f then [] else f ∷ []
+
+-- the candidates after a placed entry, in processing order: itself unless it is a trigger, then outwards
 unfoldable pub candidates_of : List Node → ℕ → List ℕ
-candidates_of nodes f = (if is_trigger_at nodes f then [] else f ∷ []) ++ outward nodes f (groups_round nodes f)
+candidates_of nodes f = itself nodes f ++ outward nodes f (groups_round nodes f)
 
 -- the nodes behind an entry up to the table's end, each level that is left with its later siblings, ascending
 unfoldable pub later_nodes : List Node → ℕ → List ℕ

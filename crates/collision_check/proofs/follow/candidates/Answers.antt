@@ -1,6 +1,6 @@
 use Rattle.std.proofs.Common.{ℕ, ◌++◌, map, sym, ap, ◌∙◌, arith}
 use Rattle.edi_tables.specs.Walk.{entry_for, later_siblings}
-use Rattle.collision_check.proofs.Outward.{beyond, parent_within, candidates_begin, candidates_step, candidates_end}
+use Rattle.edi_tables.proofs.Outward.{beyond, parent_within, candidates_begin, candidates_step, candidates_end}
 use Rattle.collision_check.proofs.follow.candidates.Goals as goal
 
 pub loop-group-init : goal.loop-group-init

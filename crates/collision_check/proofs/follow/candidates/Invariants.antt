@@ -1,6 +1,6 @@
 use Rattle.std.proofs.Common.{◌≡◌, ◌<◌, ◌++◌, length}
 use Rattle.edi_tables.specs.Walk.{candidates_of}
-use Rattle.collision_check.proofs.Outward.{beyond}
+use Rattle.edi_tables.proofs.Outward.{beyond}
 use Rattle.collision_check.proofs.follow.candidates.Given as goal
 
 abbrev pub invariant-loop-group : goal.invariant-loop-group

@@ -4,7 +4,7 @@ use Rattle.std.proofs.lemmas.List.{take_all}
 use Rattle.std.proofs.lemmas.List.Elements.{All-get_or, All-same}
 use Rattle.edi_tables.specs.Walk.{candidates_of}
 use Rattle.edi_tables.specs.Collisions.{is_follower, followers_of}
-use Rattle.collision_check.proofs.Within.{candidates_within}
+use Rattle.edi_tables.proofs.Within.{candidates_within}
 use Rattle.collision_check.proofs.follow.followers.Goals as goal
 
 pub is_follower-requires-clause-candidate : goal.is_follower-requires-clause-candidate

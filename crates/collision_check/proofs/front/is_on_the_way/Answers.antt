@@ -2,7 +2,7 @@ use Rattle.std.proofs.Common.{sym, ◌∙◌, arith}
 use Rattle.std.specs.Prelude.{◌||◌, nat_eq}
 use Rattle.std.specs.List.{list_any}
 use Rattle.edi_tables.specs.Walk.{is_must_at}
-use Rattle.collision_check.proofs.Outward.{parent_within, all_round_none, test_passes, test_fails}
+use Rattle.edi_tables.proofs.Outward.{parent_within, all_round_none, test_passes, test_fails}
 use Rattle.collision_check.proofs.front.is_on_the_way.Goals as goal
 
 pub is_must_or_among-requires : goal.is_must_or_among-requires

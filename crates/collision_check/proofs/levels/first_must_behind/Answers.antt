@@ -1,7 +1,7 @@
 use Rattle.std.proofs.Common.{ℕ, Some, None, sym, ap, ◌∙◌, arith}
 use Rattle.std.specs.List.{find}
 use Rattle.edi_tables.specs.Walk.{is_must_at, later_nodes}
-use Rattle.collision_check.proofs.Outward.{parent_within, must_on_level, must_not_on_level}
+use Rattle.edi_tables.proofs.Outward.{parent_within, must_on_level, must_not_on_level}
 use Rattle.collision_check.proofs.levels.first_must_behind.Goals as goal
 
 pub returns-in-Some : goal.returns-in-Some

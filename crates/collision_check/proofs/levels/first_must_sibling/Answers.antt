@@ -1,5 +1,5 @@
 use Rattle.std.proofs.Common.{sym, ◌∙◌, arith}
-use Rattle.collision_check.proofs.Outward.{next_sibling, no_sibling, must_passed, must_found, must_none}
+use Rattle.edi_tables.proofs.Outward.{next_sibling, no_sibling, must_passed, must_found, must_none}
 use Rattle.collision_check.proofs.levels.first_must_sibling.Goals as goal
 
 pub is_must_at-requires : goal.is_must_at-requires

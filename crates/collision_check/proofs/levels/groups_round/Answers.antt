@@ -1,6 +1,6 @@
 use Rattle.std.proofs.Common.{arith, ℕ, ◌++◌, sym, ap, ◌∙◌}
 use Rattle.edi_tables.specs.Walk.{groups_round}
-use Rattle.collision_check.proofs.Outward.{parent_within, groups_step, groups_end}
+use Rattle.edi_tables.proofs.Outward.{parent_within, groups_step, groups_end}
 use Rattle.collision_check.proofs.levels.groups_round.Goals as goal
 
 pub loop-group-smaller : goal.loop-group-smaller

@@ -1,5 +1,5 @@
 use Rattle.std.proofs.Common.{arith}
-use Rattle.collision_check.proofs.Outward.{parent_within}
+use Rattle.edi_tables.proofs.Outward.{parent_within}
 use Rattle.collision_check.proofs.levels.level_end.Goals as goal
 
 pub end_at-requires : goal.end_at-requires

@@ -1,5 +1,5 @@
 use Rattle.std.proofs.Common.{sym, ◌∙◌, arith}
-use Rattle.collision_check.proofs.Outward.{next_sibling, no_sibling, siblings_step, siblings_end}
+use Rattle.edi_tables.proofs.Outward.{next_sibling, no_sibling, siblings_step, siblings_end}
 use Rattle.collision_check.proofs.levels.push_later_siblings.Goals as goal
 
 pub entry_for-requires-clause-within : goal.entry_for-requires-clause-within

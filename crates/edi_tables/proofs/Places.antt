@@ -1,6 +1,6 @@
 -- Ascending places that pass a test: each one, neighbours, and how often one is placed.
-use Rattle.std.proofs.Common.{◌≡◌, ℕ, zero, suc, ◌+◌, ◌<◌, ◌≤◌, Bool, true, false, cond, List, ◌∷◌, Option, Some, map, length, drop, get_or, refl, sym, ap, subst, ◌∙◌, inl, inr, arith}
-use Rattle.std.specs.Prelude.{count_by, filter}
+use Rattle.std.proofs.Common.{◌≡◌, ℕ, zero, suc, ◌+◌, ◌<◌, ◌≤◌, Bool, true, false, cond, List, [], ◌∷◌, Option, Some, map, length, drop, get_or, refl, sym, ap, subst, ◌∙◌, inl, inr, arith}
+use Rattle.std.specs.Prelude.{count_by, filter, Contains}
 use Rattle.std.specs.List.{All, range_with_len}
 use Rattle.std.proofs.lemmas.Bool.{cond_both, cases_eq, eqb-true, ne_eqb}
 use Rattle.std.proofs.lemmas.List.Elements.{All-nil, All-cons, All-weaker}
@@ -113,3 +113,15 @@ count_once p x (suc n) a =
 -- nor behind the first few
 pub count_drop : (q : Option ℕ → Bool) (n : ℕ) (xs : List (Option ℕ)) → count_by q (drop n xs) ≤ count_by q xs
 count_drop q n xs = omega (arith, sum_by-take-drop (λ y. cond (q y) 1 0) xs n)
+
+kept_more : (p : ℕ → Bool) (h : ℕ) (t : List ℕ) (c : ℕ) (passes : Bool) → p h ≡ passes → Contains (filter p t) c → Contains (filter p (h ∷ t)) c
+kept_more p h t c true is found = rw is (suc found.0, omega (arith, found.1), found.2)
+kept_more p h t c false is found = rw is found
+
+-- a member that passes is kept
+pub kept : (p : ℕ → Bool) (xs : List ℕ) (c k : ℕ) → k < length xs → get_or xs k c ≡ c → p c ≡ true → Contains (filter p xs) c
+kept p [] c k within at passes = absurd (omega arith)
+kept p (h ∷ t) c zero within at passes =
+    let first : p h ≡ true = ap p at ∙ passes in
+    rw first (0, omega arith, at)
+kept p (h ∷ t) c (suc k) within at passes = kept_more p h t c (p h) refl (kept p t c k (omega arith) at passes)

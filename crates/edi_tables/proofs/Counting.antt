@@ -10,20 +10,21 @@ use Rattle.edi_tables.specs.Walk.{parent_at, max_at, is_repeat, missing_between}
 use Rattle.edi_tables.specs.Placement.{is_at, from_last, placed_since, placed_behind, entry_count, group_count, last_placed, is_over, is_filled, rank_of}
 use Rattle.edi_tables.specs.Collisions.{is_follower}
 
-abbrev one_if : Bool → ℕ
+-- a test as a number
+abbrev pub one_if : Bool → ℕ
 one_if b = cond b 1 0
 
 one_more : (n : ℕ) → 0 + n ≡ n
 one_more n = omega arith
 
-count_push : (p : Option ℕ → Bool) (xs : List (Option ℕ)) (x : Option ℕ) → count_by p (xs ++ x ∷ []) ≡ count_by p xs + cond (p x) 1 0
+pub count_push : (p : Option ℕ → Bool) (xs : List (Option ℕ)) (x : Option ℕ) → count_by p (xs ++ x ∷ []) ≡ count_by p xs + cond (p x) 1 0
 count_push p xs x = sum_by-append (λ y. cond (p y) 1 0) xs (x ∷ []) ∙ ap (λ n. count_by p xs + n) (one_more (cond (p x) 1 0))
 
-suffix_push : (r : Option ℕ → Bool) (xs : List (Option ℕ)) (x : Option ℕ) → r x ≡ true → suffix_len r (xs ++ x ∷ []) ≡ 1 + suffix_len r xs
+pub suffix_push : (r : Option ℕ → Bool) (xs : List (Option ℕ)) (x : Option ℕ) → r x ≡ true → suffix_len r (xs ++ x ∷ []) ≡ 1 + suffix_len r xs
 suffix_push r xs x passes = ap (prefix_len r) (reverse-append xs (x ∷ [])) ∙ ap (λ b. cond b (1 + prefix_len r (reverse xs)) 0) passes
 
 -- what stands behind the last that passes, one behind it more
-after_push : (q : Option ℕ → Bool) (xs : List (Option ℕ)) (x : Option ℕ) → q x ≡ false → after_last q (xs ++ x ∷ []) ≡ after_last q xs ++ x ∷ []
+pub after_push : (q : Option ℕ → Bool) (xs : List (Option ℕ)) (x : Option ℕ) → q x ≡ false → after_last q (xs ++ x ∷ []) ≡ after_last q xs ++ x ∷ []
 after_push q xs x fails =
     let suffix = suffix_push (λ y. not (q y)) xs x (ap not fails) in
     let long : length (xs ++ x ∷ []) ≡ length xs + 1 = length-append xs (x ∷ []) in
@@ -31,13 +32,13 @@ after_push q xs x fails =
     ap (λ (n : ℕ). drop n (xs ++ x ∷ [])) from ∙ drop-append-le (length xs - suffix_len (λ y. not (q y)) xs) xs (x ∷ []) (omega arith)
 
 -- what stands from the last that passes on ends with the last
-from_push : (q : Option ℕ → Bool) (xs : List (Option ℕ)) (x : Option ℕ) → (n : ℕ) × (from_last q (xs ++ x ∷ []) ≡ drop n xs ++ x ∷ [])
+pub from_push : (q : Option ℕ → Bool) (xs : List (Option ℕ)) (x : Option ℕ) → (n : ℕ) × (from_last q (xs ++ x ∷ []) ≡ drop n xs ++ x ∷ [])
 from_push q xs x =
     let n : ℕ = length (xs ++ x ∷ []) - suffix_len (λ y. not (q y)) (xs ++ x ∷ []) - 1 in
     let long : length (xs ++ x ∷ []) ≡ length xs + 1 = length-append xs (x ∷ []) in
     (n, drop-append-le n xs (x ∷ []) (omega (arith, long)))
 
-at_itself : (c : ℕ) → is_at c (Some c) ≡ true
+pub at_itself : (c : ℕ) → is_at c (Some c) ≡ true
 at_itself c = eq-eqb c c refl
 
 module _ (nodes : List Node) where
@@ -71,7 +72,7 @@ module _ (nodes : List Node) where
   unfolding entry_count
   entry_counted front f = since_push front f (parent_at nodes f)
 
-zero_parts : (a b : Bool) → (if a then 1 else 0) + (if b then 2 else 0) ≡ 0 → (a ≡ false) × (b ≡ false)
+pub zero_parts : (a b : Bool) → (if a then 1 else 0) + (if b then 2 else 0) ≡ 0 → (a ≡ false) × (b ≡ false)
 zero_parts false false none = (refl, refl)
 zero_parts true b none = absurd (omega arith)
 zero_parts false true none = absurd (omega arith)

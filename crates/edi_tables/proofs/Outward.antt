@@ -7,10 +7,9 @@ use Rattle.std.proofs.lemmas.List.{append-nil, append_assoc}
 use Rattle.std.proofs.lemmas.List.Folds.{find-append}
 use Rattle.edi_tables.specs.declared.table.Node.{Node}
 use Rattle.edi_tables.specs.Rows.{IsTable}
-use Rattle.edi_tables.specs.Walk.{parent_at, end_at, is_must_at, entry_for, later_siblings, level_end, groups_round, outward, candidates_of, later_nodes}
+use Rattle.edi_tables.specs.Walk.{parent_at, end_at, is_must_at, entry_for, later_siblings, level_end, groups_round, itself, outward, candidates_of, later_nodes}
 use Rattle.edi_tables.proofs.TableLaws.{HasTableLaws, table_laws, level_end_none, level_end_some}
 use Rattle.edi_tables.proofs.Walking.{level_end_within, end_in_level, level_end_same, later_siblings_none, later_siblings_next, groups_round_none, groups_round_some, later_nodes_none, later_nodes_some}
-use Rattle.collision_check.specs.Shared.{itself, own_level}
 
 -- the candidates outside the level that holds a node
 abbrev pub beyond_groups : List Node → List ℕ → List ℕ
@@ -20,7 +19,7 @@ beyond_groups nodes (g ∷ groups) = (g + 1) ∷ outward nodes g groups
 abbrev pub beyond : List Node → ℕ → List ℕ
 beyond nodes i = beyond_groups nodes (groups_round nodes i)
 
-outward_parts : (nodes : List Node) (i : ℕ) (groups : List ℕ) → outward nodes i groups ≡ map (entry_for nodes) (later_siblings nodes i) ++ beyond_groups nodes groups
+pub outward_parts : (nodes : List Node) (i : ℕ) (groups : List ℕ) → outward nodes i groups ≡ map (entry_for nodes) (later_siblings nodes i) ++ beyond_groups nodes groups
 outward_parts nodes i [] = sym (append-nil _)
 outward_parts nodes i (g ∷ groups) = refl
 
@@ -46,7 +45,7 @@ module _ (nodes : List Node) (table : IsTable nodes) where
   level_end_of i (Some g) n is value = value ∙ sym (level_end_some nodes i g (sym is))
 
   -- where candidates stand that are found level by level
-  pub candidates_begin : (f : ℕ) (level : List ℕ) → level ≡ own_level nodes f → level ++ beyond nodes f ≡ candidates_of nodes f
+  pub candidates_begin : (f : ℕ) (level : List ℕ) → level ≡ itself nodes f ++ map (entry_for nodes) (later_siblings nodes f) → level ++ beyond nodes f ≡ candidates_of nodes f
   unfolding candidates_of
   candidates_begin f level is =
       ap (λ items. items ++ beyond nodes f) is ∙ append_assoc (itself nodes f) (map (entry_for nodes) (later_siblings nodes f)) (beyond nodes f)

@@ -9,12 +9,12 @@ use Rattle.edi_tables.specs.Rows.{IsTable}
 use Rattle.edi_tables.specs.Walk.{parent_at, end_at, is_group_at, is_trigger_at, entry_for, are_siblings, later_siblings, groups_round, outward, candidates_of}
 use Rattle.edi_tables.specs.Collisions.{is_follower, followers_of}
 use Rattle.edi_tables.proofs.TableLaws.{HasTableLaws, table_laws}
-use Rattle.collision_check.proofs.Ascending.{Passes, passing_each}
-use Rattle.collision_check.proofs.Stepping.{same_parent, parent_of_round}
-use Rattle.collision_check.proofs.Reaching.{trigger_is}
+use Rattle.edi_tables.proofs.Places.{Passes, passing_each}
+use Rattle.edi_tables.proofs.Stepping.{same_parent, parent_of_round}
+use Rattle.edi_tables.proofs.Reaching.{trigger_is}
 
 -- a number that is none of these
-abbrev NotIn : List ℕ → ℕ → Type 0
+abbrev pub NotIn : List ℕ → ℕ → Type 0
 NotIn xs x = All (λ y. x ≡ y → ⊥) xs
 
 -- no two of these are the same
@@ -62,7 +62,7 @@ module _ (nodes : List Node) (table : IsTable nodes) where
   laws = table_laws nodes table
 
   -- the entry of a later sibling of i
-  abbrev IsLater : ℕ → ℕ → Type 0
+  abbrev pub IsLater : ℕ → ℕ → Type 0
   IsLater i x = (end_at nodes i ≤ x) × (i < x) × ((g : ℕ) → parent_at nodes i ≡ Some g → x < end_at nodes g)
 
   -- an entry stands no earlier than its node
@@ -90,11 +90,11 @@ module _ (nodes : List Node) (table : IsTable nodes) where
       (omega (arith, not_inside i j past same, entry_low j), omega (arith, entry_low j), λ g up. in_parent i j g same up)
 
   -- the entries of the later siblings
-  abbrev level : ℕ → List ℕ
+  abbrev pub level : ℕ → List ℕ
   level i = map (entry_for nodes) (later_siblings nodes i)
 
   -- each of them is such an entry
-  level_later : (i : ℕ) → All (IsLater i) (level i)
+  pub level_later : (i : ℕ) → All (IsLater i) (level i)
   unfolding later_siblings
   level_later i =
       let count : ℕ = length nodes - (i + 1) in
@@ -118,11 +118,11 @@ module _ (nodes : List Node) (table : IsTable nodes) where
   level_apart i = apart_made (entry_for nodes) (are_siblings nodes i) (entries_differ i) (length nodes - (i + 1)) (i + 1)
 
   -- a candidate outwards of i: the trigger of a group round it, or it stands behind the end of i
-  abbrev IsOutward : ℕ → ℕ → Type 0
+  abbrev pub IsOutward : ℕ → ℕ → Type 0
   IsOutward i c = ((c ≤ i) × (is_trigger_at nodes c ≡ true)) ⊎ ((end_at nodes i ≤ c) × (i < c))
 
   -- each candidate outwards is of one of these two kinds
-  outward_parts : (groups : List ℕ) (i : ℕ) → groups ≡ groups_round nodes i → All (IsOutward i) (outward nodes i groups)
+  pub outward_parts : (groups : List ℕ) (i : ℕ) → groups ≡ groups_round nodes i → All (IsOutward i) (outward nodes i groups)
   outward_parts [] i is = All-weaker (IsLater i) (IsOutward i) (λ x later. inr (later.0, later.1)) (level i) (level_later i)
   outward_parts (g ∷ groups) i is =
       let up = parent_of_round nodes table i g groups (parent_at nodes i) refl is in

@@ -12,8 +12,8 @@ use Rattle.edi_tables.specs.Walk.{parent_at, end_at, is_group_at, is_trigger_of,
 use Rattle.edi_tables.proofs.Depths.{some_or_none}
 use Rattle.edi_tables.proofs.TableLaws.{HasTableLaws, table_laws}
 use Rattle.edi_tables.proofs.Walking.{siblings_same}
-use Rattle.collision_check.proofs.Stepping.{is_round, same_parent, round_some, same_groups, parent_of_round}
-use Rattle.collision_check.proofs.Single.{kept}
+use Rattle.edi_tables.proofs.Stepping.{is_round, same_parent, round_some, same_groups, parent_of_round}
+use Rattle.edi_tables.proofs.Places.{kept}
 
 -- a node is one of a range
 in_range : (a n k : ℕ) → a ≤ k → k < a + n → (i : ℕ) × (i < length (range_with_len a n)) × (get_or (range_with_len a n) i k ≡ k)

@@ -1,0 +1,12 @@
+//! The printed form of a text: its segments, or these with their values.
+#![tactic(auto)]
+
+mod segment_line;
+mod tag_field;
+mod text;
+mod value_lines;
+
+pub use text::{Detail, PrintedText, print_text};
+
+#[cfg(test)]
+mod tests;

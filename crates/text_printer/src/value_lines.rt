@@ -1,0 +1,102 @@
+//! The printed lines of values.
+ghost use Rattle.std.specs.Prelude.{◌≡◌, ◌++◌, ◌<◌, OnOk, false};
+ghost use Rattle.std.specs.List.{flat_map};
+ghost use Rattle.std.specs.Fmt.{digit_glyph};
+ghost use Rattle.seg_lexer.specs.Fields.{IsInOrder, entry};
+ghost use Rattle.seg_lexer.specs.Parts.{entries_left, field_in};
+ghost use Rattle.seg_lexer.specs.Value.{octets_of};
+ghost use Rattle.text_printer.specs.Printing.{value_line, part_line, octet_shown};
+ghost use Rattle.text_printer.specs.TagField.{left_of, pending};
+ghost use Rattle.text_printer.specs.declared.tag_field.TagField.TheVariants.{Unread};
+
+use crate::segment_line::put_tag;
+use crate::tag_field::TagField;
+use edi_octets::{Octets, put_decimal};
+use edi_tables::Chunk;
+use seg_lexer::{Fields, Part, Value};
+use std::alloc::AllocError;
+
+/// The last part of a segment's line, which is its tag, and the lines of its values. Each component is lexed once.
+pub fn put_tag_and_values<O: Octets>(
+    lines: &mut Chunk,
+    parts: Fields<'_, O>,
+) -> Result<(), AllocError>
+    requires { IsInOrder 0 (entries_left parts) }
+    ensures { OnOk result (lines.new ≡ lines.old ++ left_of Unread (entries_left parts.entry)) }
+{
+    let mut tag_field = TagField::Unread;
+    for part in parts {
+        if part.element == 0 {
+            tag_field = tag_field.after(&part.value);
+        } else {
+            put_read_tag(lines, tag_field)?;
+            tag_field = TagField::Put;
+            put_part(lines, &part)?;
+        }
+    }
+    put_read_tag(lines, tag_field)
+}
+
+// The tag that was read, unless it is there already.
+fn put_read_tag(lines: &mut Chunk, tag_field: TagField) -> Result<(), AllocError>
+    ensures { OnOk result (lines.new ≡ lines.old ++ pending tag_field) }
+{
+    match tag_field {
+        TagField::Unread => put_tag(lines, None),
+        TagField::Read(tag) => put_tag(lines, tag),
+        TagField::Put => Ok(()),
+    }
+}
+
+// The line of a component after the tag field, if it is printed.
+fn put_part<O: Octets>(lines: &mut Chunk, part: &Part<'_, O>) -> Result<(), AllocError>
+    requires { 0 < part.now.element }
+    ensures { OnOk result (lines.new ≡ lines.old ++ part_line (entry (field_in part.now))) }
+{
+    if part.value.is_empty() {
+        return Ok(());
+    }
+    put_value(lines, part)
+}
+
+#[tactic(auto, unfolding(crate::specs::Printing::value_line))]
+fn put_value<O: Octets>(lines: &mut Chunk, part: &Part<'_, O>) -> Result<(), AllocError>
+    ensures { OnOk result (lines.new ≡ lines.old ++ value_line (entry (field_in part.now))) }
+{
+    lines.add(b"  ")?;
+    put_decimal(lines, u64::from(part.element))?;
+    lines.add(b" ")?;
+    put_decimal(lines, u64::from(part.component))?;
+    lines.add(b" ")?;
+    put_octets(lines, &part.value)?;
+    lines.add(b"\n")
+}
+
+// The octets of a value, as they are shown.
+fn put_octets<O: Octets>(lines: &mut Chunk, value: &Value<'_, O>) -> Result<(), AllocError>
+    ensures { OnOk result (lines.new ≡ lines.old ++ flat_map octet_shown (octets_of value.now)) }
+{
+    for octet in value.octets() {
+        put_shown(lines, octet)?;
+    }
+    Ok(())
+}
+
+// An octet as it is shown: itself from 32 to 126 except the backslash, any other is a backslash and two hexadecimal digits.
+fn put_shown(lines: &mut Chunk, octet: u8) -> Result<(), AllocError>
+    ensures { OnOk result (lines.new ≡ lines.old ++ octet_shown octet) }
+{
+    if (32..=126).contains(&octet) && octet != b'\\' {
+        lines.add(&[octet])
+    } else {
+        lines.add(&[b'\\', hex_digit(octet / 16), hex_digit(octet % 16)])
+    }
+}
+
+// The lower-case hexadecimal digit of a number below 16.
+fn hex_digit(n: u8) -> u8
+    requires { n < 16 }
+    ensures { result ≡ digit_glyph false n }
+{
+    if n < 10 { b'0' + n } else { b'a' + (n - 10) }
+}

@@ -2,6 +2,7 @@ mod ContextLemmas
 mod CountLemmas
 mod CutLemmas
 pub mod FieldsLemmas
+pub mod ForwardLemmas
 pub mod OrderLemmas
 mod PartsLemmas
 pub mod PlacesLemmas
@@ -9,6 +10,8 @@ pub mod ReleasedLemmas
 mod ScanLemmas
 pub mod SegmentsLemmas
 pub mod ServiceLemmas
+mod StretchLemmas
 mod TagLemmas
-pub mod ValueLemmas
-mod Worked
+mod WorkedContext
+mod WorkedFields
+mod WorkedSegments

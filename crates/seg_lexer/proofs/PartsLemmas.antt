@@ -3,19 +3,20 @@ use Rattle.std.proofs.Common.{◌≡◌, ◌+◌, ◌-◌, ◌≤◌, ◌∷◌,
 use Rattle.std.specs.List.{between}
 use Rattle.std.proofs.lemmas.List.Edits.{length-between}
 use Rattle.edi_octets.specs.declared.octets.Octets.{Ghosts}
-use Rattle.seg_lexer.specs.Fields.{Field, field_of, placed, value_of}
-use Rattle.seg_lexer.specs.Parts.{fields_left}
+use Rattle.seg_lexer.specs.Fields.{PlacedComponent, component_in, placed, value_of}
+use Rattle.seg_lexer.specs.Left.{fields_left}
 use Rattle.seg_lexer.specs.Place.{IsPlace, rest_of}
+use Rattle.seg_lexer.specs.Stretch.{Stretch}
 use Rattle.seg_lexer.specs.Value.{octets_of, span_of}
 use Rattle.seg_lexer.specs.declared.value.Value.{Value}
-use Rattle.seg_lexer.specs.declared.parts.Fields.{Fields}
-use Rattle.seg_lexer.specs.declared.parts.Place.{Place}
+use Rattle.seg_lexer.specs.declared.components.Fields.{Fields}
+use Rattle.seg_lexer.specs.declared.components.Place.{Place}
 use Rattle.seg_lexer.proofs.CutLemmas.{Stands}
 use Rattle.seg_lexer.proofs.ReleasedLemmas.{between-between, is_released-start}
 
 -- the next component begins at place p of the segment, and its numbers are small
 pub record Reads {O : Type 0} {o : Ghosts O} (f : Fields O o) (p : Place) : Type 0 where
-  pub stands : Stands f.release (o.octets f.text.now) f.start f.end p.at
+  pub stands : Stands f.separators.release (o.octets f.text.now) f.start f.end p.at
   pub inside : f.start + p.at ≤ f.end
   pub short : f.end ≤ 4194304
   pub element : p.element ≤ p.at
@@ -38,32 +39,32 @@ reads {o = o} f p is =
     }
 
 -- a component as it is seen, by its parts
-abbrev field : ℕ → ℕ → ℕ × ℕ → List ℕ → Field
-field element component span octets = record { element = element; component = component; from = span.0; to = span.1; octets = octets }
+abbrev field : ℕ → ℕ → Stretch → List ℕ → PlacedComponent
+field element component place octets = record { element = element; component = component; place = place; octets = octets }
 
 -- the component that was cut off is the first of those that were left
 pub fields_left-first : {O : Type 0} {o : Ghosts O} (f : Fields O o) (p : Place) (stop : ℕ) (next : Option Place) (v : Value O o)
     → f.place ≡ Some p → (p.at ≤ stop) × (stop ≤ f.end - f.start)
     → (let xs = between f.start f.end (o.octets f.text.now) in
-    rest_of f.release f.element_separator f.component_separator xs (Some p)
-    ≡ field_of f.release xs p.element (p.component, (p.at, stop)) ∷ rest_of f.release f.element_separator f.component_separator xs next)
-    → octets_of v ≡ value_of f.release (between (f.start + p.at) (f.start + stop) (o.octets f.text.now)) → span_of v ≡ (f.start + p.at, f.start + stop)
+    rest_of f.separators xs (Some p)
+    ≡ component_in f.separators.release xs p.element (p.component, record { from = p.at; to = stop }) ∷ rest_of f.separators xs next)
+    → octets_of v ≡ value_of f.separators.release (between (f.start + p.at) (f.start + stop) (o.octets f.text.now)) → span_of v ≡ record { from = f.start + p.at; to = f.start + stop }
     → fields_left f ≡ field p.element p.component (span_of v) (octets_of v)
-    ∷ map (placed f.start) (rest_of f.release f.element_separator f.component_separator (between f.start f.end (o.octets f.text.now)) next)
+    ∷ map (placed f.start) (rest_of f.separators (between f.start f.end (o.octets f.text.now)) next)
 unfolding fields_left
 fields_left-first {o = o} f p stop next v is bounds rest octets span =
     let xs : List ℕ = between f.start f.end (o.octets f.text.now) in
-    let later : List Field = map (placed f.start) (rest_of f.release f.element_separator f.component_separator xs next) in
+    let later : List PlacedComponent = map (placed f.start) (rest_of f.separators xs next) in
     let low = bounds.0 in
     let high = bounds.1 in
     let ordered = f.ordered in
     let within = f.within in
     let same : between p.at stop xs ≡ between (f.start + p.at) (f.start + stop) (o.octets f.text.now) = between-between f.start f.end (o.octets f.text.now) p.at stop low (omega arith) within in
-    ap (λ (q : Option Place). map (placed f.start) (rest_of f.release f.element_separator f.component_separator xs q)) is
+    ap (λ (q : Option Place). map (placed f.start) (rest_of f.separators xs q)) is
     ∙ (ap (map (placed f.start)) rest
-    ∙ (ap (λ (ys : List ℕ). field p.element p.component (f.start + p.at, f.start + stop) (value_of f.release ys) ∷ later) same
-    ∙ (ap (λ (ys : List ℕ). field p.element p.component (f.start + p.at, f.start + stop) ys ∷ later) (sym octets)
-    ∙ ap (λ (q : ℕ × ℕ). field p.element p.component q (octets_of v) ∷ later) (sym span))))
+    ∙ (ap (λ (ys : List ℕ). field p.element p.component (record { from = f.start + p.at; to = f.start + stop }) (value_of f.separators.release ys) ∷ later) same
+    ∙ (ap (λ (ys : List ℕ). field p.element p.component (record { from = f.start + p.at; to = f.start + stop }) ys ∷ later) (sym octets)
+    ∙ ap (λ (q : Stretch). field p.element p.component q (octets_of v) ∷ later) (sym span))))
 
 abbrev pub first : Place
 first = record { at = 0; element = 0; component = 1 }

@@ -111,7 +111,8 @@ end-at p a (suc n) k from r h first =
       | inr fails ↦ ap (λ (zs : List ℕ). slice_get zs k) (filter-fail p a n fails) ∙ end-fail p a n r xs later k from fails (start _ (filter-fail p a n fails)) first
     ]
 
-map-cond : (f : ℕ → ℕ) (b : Bool) (x : ℕ) (xs : List ℕ) → map f (cond b (x ∷ xs) xs) ≡ cond b (f x ∷ map f xs) (map f xs)
+-- a map over a list that may begin with one more
+pub map-cond : (f : ℕ → ℕ) (b : Bool) (x : ℕ) (xs : List ℕ) → map f (cond b (x ∷ xs) xs) ≡ cond b (f x ∷ map f xs) (map f xs)
 map-cond f true x xs = refl
 map-cond f false x xs = refl
 

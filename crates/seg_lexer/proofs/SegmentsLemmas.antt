@@ -1,5 +1,5 @@
 -- Boundaries, segments and the tail of a text.
-use Rattle.std.proofs.Common.{◌≡◌, ℕ, zero, suc, ◌+◌, ◌-◌, ◌<◌, ◌≤◌, min, Bool, true, false, not, ◌&&◌, ◌||◌, cond, eqb, ltb, List, [], ◌∷◌, length, get_or, Option, Some, None, refl, sym, ap, ◌∙◌, subst, ⊎_elim, arith}
+use Rattle.std.proofs.Common.{◌≡◌, ℕ, zero, suc, ◌+◌, ◌-◌, ◌<◌, ◌≤◌, min, Bool, true, false, not, ◌&&◌, cond, eqb, ltb, List, [], ◌∷◌, length, get_or, Option, Some, None, refl, sym, ap, ◌∙◌, subst, ⊎_elim, arith}
 use Rattle.std.specs.Prelude.{map}
 use Rattle.std.specs.List.{between, prefix_len, slice_get, zip}
 use Rattle.std.specs.Option.{option_map}
@@ -10,10 +10,12 @@ use Rattle.std.proofs.lemmas.List.Sums.{prefix_len_is, prefix_len-le-length}
 use Rattle.std.proofs.lemmas.Option.{slice_get-map, slice_get_within, get_or_from_slice_get}
 use Rattle.std.proofs.lemmas.Slice.Zip.{length-zip}
 use Rattle.memchr.specs.Find.{IsFirst}
-use Rattle.seg_lexer.specs.Released.{IsFree, is_free, is_release, is_released}
-use Rattle.seg_lexer.specs.Segments.{IsBoundary, IsLexed, boundaries_of, ends_of, is_break, is_end, lead, segments_of, tail_of}
+use Rattle.seg_lexer.specs.Released.{is_release, is_released}
+use Rattle.seg_lexer.specs.Scan.{IsFree, is_free}
+use Rattle.seg_lexer.specs.Segments.{IsBoundary, IsLexed, boundaries_of, ends_of, is_break, is_end, lead, segment_in, segments_of, tail_of}
 use Rattle.seg_lexer.specs.Service.{IsUsable}
 use Rattle.seg_lexer.specs.declared.service.Service.{Service}
+use Rattle.seg_lexer.specs.declared.scan.Sought.TheVariants.{One}
 use Rattle.seg_lexer.specs.declared.segment.Lexed.TheVariants.{Ended, Tail, Nothing}
 use Rattle.seg_lexer.proofs.PlacesLemmas.{IsStart, start-at, end-at}
 use Rattle.seg_lexer.proofs.ReleasedLemmas.{is_released-start, is_released-more, is_released-from}
@@ -52,10 +54,6 @@ first-agree P Q i j to back (Some k) h =
     let high = first.high in
     (record { low = low; high = high; before = λ m a b q. first.before m a b (back m a (omega arith) q) }, to k low high h.1)
 
-or_same : (x : Bool) → (x || x) ≡ x
-or_same true = refl
-or_same false = refl
-
 -- of two lists, the pair at a place
 slice_get-zip : {A B : Type 0} (xs : List A) (ys : List B) (k : ℕ) (x : A) (y : B) → slice_get xs k ≡ Some x → slice_get ys k ≡ Some y → slice_get (zip xs ys) k ≡ Some (x, y)
 slice_get-zip [] ys k x y hx hy = absurd (cc)
@@ -76,7 +74,7 @@ pub record IsAt (s : Service) (text : List ℕ) (from : ℕ) : Type 0 where
   pub free : is_released s.release text s.body from ≡ false
 
 module _ (s : Service) (text : List ℕ) (usable : IsUsable s text) where
-  -- behind an end nothing is released
+  -- after an end nothing is released
   after-end : (e : ℕ) → is_end s text e ≡ true → s.body ≤ e → e < length text → is_released s.release text s.body (e + 1) ≡ false
   after-end e ends low high =
       let terminator : get_or text e 0 ≡ s.terminator = eqb-true _ _ (and_parts _ _ ends).0 in
@@ -106,18 +104,17 @@ module _ (s : Service) (text : List ℕ) (usable : IsUsable s text) where
       }
 
   -- from a boundary on, an octet that isn't released by octets from there on isn't released by any of the body
-  free-end : (from k : ℕ) → IsAt s text from → from ≤ k → k < length text → is_free s.release s.terminator s.terminator text from k ≡ is_end s text k
+  free-end : (from k : ℕ) → IsAt s text from → from ≤ k → k < length text → is_free s.release (One s.terminator) text from k ≡ is_end s text k
   free-end from k at low high =
       let start = at.low in
       let e : from + (k - from) ≡ k = omega arith in
       let same : is_released s.release text from k ≡ is_released s.release text s.body k =
       sym (ap (is_released s.release text from) e)
       ∙ (sym (is_released-from s.release text s.body from (k - from) start (omega arith) at.free) ∙ ap (is_released s.release text s.body) e) in
-      ap (λ (v : Bool). v && not (is_released s.release text from k)) (or_same (eqb (get_or text k 0) s.terminator))
-      ∙ ap (λ (v : Bool). eqb (get_or text k 0) s.terminator && not v) same
+      ap (λ (v : Bool). eqb (get_or text k 0) s.terminator && not v) same
 
   -- the first unreleased terminator from boundary k on is end k
-  pub first-end : (k from : ℕ) (r : Option ℕ) → slice_get (boundaries_of s text) k ≡ Some from → IsFirst (IsFree s.release s.terminator s.terminator text from) from (length text) r → slice_get (ends_of s text) k ≡ r
+  pub first-end : (k from : ℕ) (r : Option ℕ) → slice_get (boundaries_of s text) k ≡ Some from → IsFirst (IsFree s.release (One s.terminator) text from) from (length text) r → slice_get (ends_of s text) k ≡ r
   unfolding boundaries_of ends_of
   first-end k from r h first =
       let body = usable.body in
@@ -127,8 +124,8 @@ module _ (s : Service) (text : List ℕ) (usable : IsUsable s text) where
       first-agree _ _ from (length text) (λ i low high free. sym (free-end from i at low high) ∙ free) (λ i low high ends. free-end from i at low high ∙ ends) r first in
       end-at (is_end s text) s.body (length text - s.body) k from r h (subst (λ (n : ℕ). IsFirst (λ i. is_end s text i ≡ true) from n r) all ends)
 
-  -- segment k stands between boundary k and end k
-  pub ended-at : (k from end : ℕ) → slice_get (boundaries_of s text) k ≡ Some from → IsFirst (IsFree s.release s.terminator s.terminator text from) from (length text) (Some end) → IsLexed s text k from (Ended (lead text from end) end)
+  -- segment k lies between boundary k and end k
+  pub ended-at : (k from end : ℕ) → slice_get (boundaries_of s text) k ≡ Some from → IsFirst (IsFree s.release (One s.terminator) text from) from (length text) (Some end) → IsLexed s text k from (Ended (lead text from end) end)
   unfolding boundaries_of segments_of
   ended-at k from end h first =
       let ends : slice_get (ends_of s text) k ≡ Some end = first-end k from (Some end) h first in
@@ -137,8 +134,8 @@ module _ (s : Service) (text : List ℕ) (usable : IsUsable s text) where
       let within = lead-within text from end low (omega arith) in
       let pair : slice_get (zip (boundaries_of s text) (ends_of s text)) k ≡ Some (from, end) = slice_get-zip (boundaries_of s text) (ends_of s text) k from end h ends in
       let place : k + 1 ≡ suc k = omega arith in (
-        slice_get-map (λ (p : ℕ × ℕ). (lead text p.0 p.1, p.1)) (zip (boundaries_of s text) (ends_of s text)) k
-            ∙ ap (option_map (λ (p : ℕ × ℕ). (lead text p.0 p.1, p.1))) pair,
+        slice_get-map (segment_in text) (zip (boundaries_of s text) (ends_of s text)) k
+            ∙ ap (option_map (segment_in text)) pair,
         ap (slice_get (boundaries_of s text)) place
             ∙ (slice_get-map (λ (e : ℕ). e + 1) (ends_of s text) k ∙ ap (option_map (λ (e : ℕ). e + 1)) ends),
         within.low,
@@ -146,8 +143,8 @@ module _ (s : Service) (text : List ℕ) (usable : IsUsable s text) where
         high,
       )
 
-  -- behind the last end stands the tail, or nothing
-  pub past-at : (k from : ℕ) → slice_get (boundaries_of s text) k ≡ Some from → IsFirst (IsFree s.release s.terminator s.terminator text from) from (length text) None
+  -- after the last end comes the tail, or nothing
+  pub past-at : (k from : ℕ) → slice_get (boundaries_of s text) k ≡ Some from → IsFirst (IsFree s.release (One s.terminator) text from) from (length text) None
       → (length (segments_of s text) ≡ k) × (tail_of s text ≡ cond (ltb (lead text from (length text)) (length text)) (Some (lead text from (length text))) None)
   unfolding boundaries_of segments_of tail_of
   past-at k from h first =
@@ -157,7 +154,7 @@ module _ (s : Service) (text : List ℕ) (usable : IsUsable s text) where
       let starts : length (map (λ (e : ℕ). e + 1) (ends_of s text)) ≡ length (ends_of s text) = length-map (ends_of s text) (λ (e : ℕ). e + 1) in
       let all : length (ends_of s text) ≡ k = omega arith in
       let count : length (segments_of s text) ≡ min (length (boundaries_of s text)) (length (ends_of s text)) =
-      length-map (zip (boundaries_of s text) (ends_of s text)) (λ (p : ℕ × ℕ). (lead text p.0 p.1, p.1)) ∙ length-zip (boundaries_of s text) (ends_of s text) in
+      length-map (zip (boundaries_of s text) (ends_of s text)) (segment_in text) ∙ length-zip (boundaries_of s text) (ends_of s text) in
       let last : get_or (boundaries_of s text) (length (ends_of s text)) 0 ≡ from =
       ap (λ (i : ℕ). get_or (boundaries_of s text) i 0) all ∙ get_or_from_slice_get (boundaries_of s text) k from 0 h in (
         omega arith,
@@ -179,23 +176,23 @@ module _ (s : Service) (text : List ℕ) (usable : IsUsable s text) where
 
   module _ (from len start k : ℕ) (all : len ≡ length text) (h : slice_get (boundaries_of s text) k ≡ Some from) where
     -- what the first unreleased terminator from a boundary on shows, or that there is none
-    pub ended-lexed : (end : ℕ) → IsFirst (IsFree s.release s.terminator s.terminator text from) from len (Some end) → start ≡ lead text from end → IsLexed s text k from (Ended start end)
+    pub ended-lexed : (end : ℕ) → IsFirst (IsFree s.release (One s.terminator) text from) from len (Some end) → start ≡ lead text from end → IsLexed s text k from (Ended start end)
     ended-lexed end first skipped =
         subst (λ (a : ℕ). IsLexed s text k from (Ended a end)) (sym skipped)
-        (ended-at s text usable k from end h (subst (λ (n : ℕ). IsFirst (IsFree s.release s.terminator s.terminator text from) from n (Some end)) all first))
+        (ended-at s text usable k from end h (subst (λ (n : ℕ). IsFirst (IsFree s.release (One s.terminator) text from) from n (Some end)) all first))
 
-    past : IsFirst (IsFree s.release s.terminator s.terminator text from) from len None → start ≡ lead text from len → (length (segments_of s text) ≡ k) × (tail_of s text ≡ cond (ltb start len) (Some start) None)
+    past : IsFirst (IsFree s.release (One s.terminator) text from) from len None → start ≡ lead text from len → (length (segments_of s text) ≡ k) × (tail_of s text ≡ cond (ltb start len) (Some start) None)
     past first skipped =
-        let at = past-at s text usable k from h (subst (λ (n : ℕ). IsFirst (IsFree s.release s.terminator s.terminator text from) from n None) all first) in
+        let at = past-at s text usable k from h (subst (λ (n : ℕ). IsFirst (IsFree s.release (One s.terminator) text from) from n None) all first) in
         let same : lead text from (length text) ≡ start = sym (skipped ∙ ap (lead text from) all) in
         (at.0, at.1 ∙ (ap (λ (a : ℕ). cond (ltb a (length text)) (Some a) None) same ∙ ap (λ (n : ℕ). cond (ltb start n) (Some start) None) (sym all)))
 
-    pub tail-lexed : IsFirst (IsFree s.release s.terminator s.terminator text from) from len None → start ≡ lead text from len → start < len → IsLexed s text k from (Tail start)
+    pub tail-lexed : IsFirst (IsFree s.release (One s.terminator) text from) from len None → start ≡ lead text from len → start < len → IsLexed s text k from (Tail start)
     tail-lexed first skipped below =
         let at = past first skipped in
         (at.0, at.1 ∙ ap (λ (b : Bool). cond b (Some start) None) (lt-ltb start len below))
 
-    pub nothing-lexed : IsFirst (IsFree s.release s.terminator s.terminator text from) from len None → start ≡ lead text from len → len ≤ start → IsLexed s text k from Nothing
+    pub nothing-lexed : IsFirst (IsFree s.release (One s.terminator) text from) from len None → start ≡ lead text from len → len ≤ start → IsLexed s text k from Nothing
     nothing-lexed first skipped above =
         let at = past first skipped in
         (at.0, at.1 ∙ ap (λ (b : Bool). cond b (Some start) None) (le-ltb start len above))

@@ -1,8 +1,25 @@
--- Where a reading of a segment's components stands.
-use Rattle.std.specs.Prelude.{ℕ, ◌+◌, ◌≡◌, ◌≤◌, false, List, [], length, Option, Some, None}
-use Rattle.seg_lexer.specs.Fields.{Field, fields_from}
+-- For bodies and their invariants: the components of a segment that come after those that were read.
+use Rattle.std.specs.Prelude.{ℕ, ◌+◌, ◌≡◌, ◌≢◌, ◌≤◌, false, List, [], ◌∷◌, ◌++◌, length, Option, Some, None}
+use Rattle.std.specs.List.{enumerate_from, flat_map}
+use Rattle.std.specs.Option.{ForSome}
+use Rattle.seg_lexer.specs.Fields.{PlacedComponent, components_in, cut, element_in}
 use Rattle.seg_lexer.specs.Released.{is_released}
-use Rattle.seg_lexer.specs.declared.parts.Place.{Place}
+use Rattle.seg_lexer.specs.Stretch.{Stretch}
+use Rattle.seg_lexer.specs.declared.components.Place.{Place}
+use Rattle.seg_lexer.specs.declared.service.Separators.{Separators}
+
+-- the release character is no separator
+abbrev pub AreApart : Separators → Type 0
+AreApart sp = ForSome sp.release (λ r. (sp.element ≢ r) × (sp.component ≢ r))
+
+-- from component c of an element on: the components of the first of these stretches, which belongs to that element, and those of the later elements
+abbrev pub fields_after : Separators → List ℕ → ℕ → List (ℕ × Stretch) → List PlacedComponent
+fields_after sp xs c [] = []
+fields_after sp xs c (p ∷ ps) = components_in sp xs p.0 c p.1.from p.1.to ++ flat_map (element_in sp xs) ps
+
+-- the components of a segment from component c of an element on, which begins at place a
+unfoldable pub fields_from : Separators → List ℕ → ℕ → ℕ → ℕ → List PlacedComponent
+fields_from sp xs element c a = fields_after sp xs c (enumerate_from element (cut sp.release xs sp.element a (length xs)))
 
 -- a component may begin there: no octet of the segment releases the one there, and its numbers are no greater than its place allows
 pub record IsPlace (release : Option ℕ) (xs : List ℕ) (p : Place) : Type 0 where
@@ -12,6 +29,6 @@ pub record IsPlace (release : Option ℕ) (xs : List ℕ) (p : Place) : Type 0 w
   pub free : is_released release xs 0 p.at ≡ false
 
 -- the components of a segment from there on
-abbrev pub rest_of : Option ℕ → ℕ → ℕ → List ℕ → Option Place → List Field
-rest_of release separator inner xs None = []
-rest_of release separator inner xs (Some p) = fields_from release separator inner xs p.element p.component p.at
+abbrev pub rest_of : Separators → List ℕ → Option Place → List PlacedComponent
+rest_of sp xs None = []
+rest_of sp xs (Some p) = fields_from sp xs p.element p.component p.at

@@ -1,5 +1,5 @@
--- Released octets: a release character takes away the meaning of the octet behind it, unless it is released itself.
-use Rattle.std.specs.Prelude.{ℕ, ◌%◌, Bool, true, false, not, ◌&&◌, ◌||◌, ◌==◌, ◌≡◌, List, slice_index, slice_range, Option, Some, None}
+-- Released octets: a release character takes away the meaning of the octet after it, unless it is released itself.
+use Rattle.std.specs.Prelude.{ℕ, ◌%◌, Bool, false, ◌==◌, List, slice_range, Option, Some, None}
 use Rattle.std.specs.List.{suffix_len}
 
 -- an octet is the release character, if there is one
@@ -14,10 +14,3 @@ run_before release xs a i = suffix_len (is_release release) (slice_range xs a i)
 -- the octet at place i is released by octets from place a on: that run has odd length
 unfoldable pub is_released : Option ℕ → List ℕ → ℕ → ℕ → Bool
 is_released release xs a i = run_before release xs a i % 2 == 1
-
--- the octet at place i is one of two, and isn't released by octets from place a on
-abbrev pub is_free : Option ℕ → ℕ → ℕ → List ℕ → ℕ → ℕ → Bool
-is_free release one two xs a i = (slice_index xs i == one || slice_index xs i == two) && not (is_released release xs a i)
-
-abbrev pub IsFree : Option ℕ → ℕ → ℕ → List ℕ → ℕ → ℕ → Type 0
-IsFree release one two xs a i = is_free release one two xs a i ≡ true

@@ -1,4 +1,4 @@
--- Service string advice (`UNA`, ISO 9735): the characters that part, release and end what stands in a text.
+-- Service string advice (`UNA`, ISO 9735): the characters that separate, release and end the parts of a text.
 use Rattle.std.specs.Prelude.{ℕ, ◌≤◌, ◌≢◌, min, Bool, true, false, not, ◌&&◌, ◌||◌, ◌==◌, nat_le, nat_eq, List, [], ◌∷◌, length, slice_index, codes, Some, None, if◌then◌else◌}
 use Rattle.std.specs.List.{list_all, starts_with}
 use Rattle.std.specs.Option.{ForSome, option_to_list}

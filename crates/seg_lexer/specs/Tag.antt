@@ -2,11 +2,11 @@
 use Rattle.std.specs.Prelude.{ℕ, ◌&&◌, ◌==◌, List, [], ◌∷◌, map, filter, length, Option, Some, None, if◌then◌else◌}
 use Rattle.std.specs.List.{list_all}
 use Rattle.edi_tables.specs.Tag.{is_tag_of}
-use Rattle.seg_lexer.specs.Fields.{Entry}
+use Rattle.seg_lexer.specs.Fields.{Component}
 
 -- the values of the tag field, which is element 0
-abbrev pub tag_field : List Entry → List (List ℕ)
-tag_field entries = map (λ e. e.octets) (filter (λ e. e.element == 0) entries)
+abbrev pub tag_field : List Component → List (List ℕ)
+tag_field components = map (λ e. e.octets) (filter (λ e. e.element == 0) components)
 
 -- the tag that these values of a tag field give: the first one, if it is a tag and every further one is empty
 abbrev pub tag_in : List (List ℕ) → Option (List ℕ)
@@ -14,5 +14,5 @@ tag_in [] = None
 tag_in (first ∷ further) = if is_tag_of first && list_all (λ octets. length octets == 0) further then Some first else None
 
 -- the tag of a segment, or none
-unfoldable pub tag_of : List Entry → Option (List ℕ)
-tag_of entries = tag_in (tag_field entries)
+unfoldable pub tag_of : List Component → Option (List ℕ)
+tag_of components = tag_in (tag_field components)

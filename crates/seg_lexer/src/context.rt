@@ -3,7 +3,7 @@ ghost use Rattle.std.specs.Prelude.{[], ◌≡◌, ◌+◌, ◌≤◌, length};
 ghost use Rattle.std.specs.Option.{option_map};
 ghost use Rattle.std.specs.Str.{bytes_eq};
 ghost use Rattle.seg_lexer.specs.Context.{context_in, context_of, level_in, opening_in, version_in};
-ghost use Rattle.seg_lexer.specs.Fields.{entries_at};
+ghost use Rattle.seg_lexer.specs.Fields.{components_at};
 ghost use Rattle.seg_lexer.specs.Service.{IsUsable};
 ghost use Rattle.seg_lexer.specs.Value.{octets_of};
 
@@ -70,16 +70,16 @@ fn opening_context<O: Octets>(text: &O, service: &Service, start: usize, end: us
     requires short { length (O.octets text.now) ≤ LONGEST_TEXT }
     requires ordered { start ≤ end }
     requires within { end ≤ length (O.octets text.now) }
-    ensures { result ≡ context_in service.now (opening_in (entries_at service.now (O.octets text.now) start end)) }
+    ensures { result ≡ context_in service.now (opening_in (components_at service.now (O.octets text.now) start end)) }
 {
     if read_tag(text, service, start, end) != Some(UNB) {
         return unopened_context(service);
     }
-    let parts = fields(text, service, start, end);
+    let components = fields(text, service, start, end);
     Context {
         service: *service,
-        level: level_named(parts.value_at(1, 1)),
-        version: version_named(parts.value_at(1, 2)),
+        level: level_named(components.value_at(1, 1)),
+        version: version_named(components.value_at(1, 2)),
     }
 }
 

@@ -1,20 +1,21 @@
 //! The reading of a text: service characters, segments, fields and values, context.
 #![tactic(auto)]
 
+mod components;
 mod context;
-mod parts;
 mod scan;
 mod segment;
 mod service;
+mod stretch;
 mod tag;
 #[cfg(test)]
 mod tests;
 mod value;
 
+pub use components::{Component, Fields};
 pub use context::{Context, Level, read_context};
-pub use parts::{Fields, Part};
 pub use segment::{Lexed, fields, next_segment};
-pub use service::{Service, read_service};
+pub use service::{Separators, Service, read_service};
 pub use tag::read_tag;
 pub use value::{Value, ValueOctets};
 

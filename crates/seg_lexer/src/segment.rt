@@ -1,19 +1,19 @@
 //! Segments, one after another.
 ghost use Rattle.std.specs.Prelude.{◌≡◌, ◌+◌, ◌-◌, ◌≤◌, ℕ, Some, length, slice_get};
-ghost use Rattle.seg_lexer.specs.Fields.{IsInOrder, entries_at, fields_at};
-ghost use Rattle.seg_lexer.specs.Parts.{entries_left, fields_left};
+ghost use Rattle.seg_lexer.specs.Fields.{IsInOrder, components_at, fields_at};
+ghost use Rattle.seg_lexer.specs.Left.{components_left, fields_left};
 ghost use Rattle.seg_lexer.specs.Segments.{IsBoundary, IsLexed, boundaries_of};
 ghost use Rattle.seg_lexer.specs.Service.{IsUsable};
 
 use crate::LONGEST_TEXT;
-use crate::parts::Fields;
-use crate::scan::{find_free, skip_breaks};
+use crate::components::Fields;
+use crate::scan::{Sought, find_free, skip_breaks};
 use crate::service::Service;
 use edi_octets::Octets;
 use std::sync::ledger::Ledger;
 use step_counter::Steps;
 
-/// What stands at a boundary of a text.
+/// What is found at a boundary of a text.
 #[derive(Clone, Copy, Debug, PartialEq, Eq)]
 pub enum Lexed {
     /// A segment: its first octet, and its terminator's place.
@@ -24,8 +24,8 @@ pub enum Lexed {
     Nothing,
 }
 
-/// The segment that begins at a boundary, which is the body's start or the octet behind a terminator; or else the tail
-/// or nothing. The segments of a text are found by going on from the octet behind each terminator.
+/// The segment that begins at a boundary, which is the body's start or the octet after a terminator; or else the tail
+/// or nothing. The segments of a text are found by going on from the octet after each terminator.
 pub fn next_segment<O: Octets, L: Ledger>(
     text: &O,
     service: &Service,
@@ -41,11 +41,11 @@ pub fn next_segment<O: Octets, L: Ledger>(
 {
     lexed.tick();
     let len = text.len();
-    let terminator = service.terminator;
-    match find_free(text, service.release, terminator, terminator, from, len) {
-        Some(end) => Lexed::Ended {
-            start: skip_breaks(text, from, end),
-            end,
+    let sought = Sought::One(service.terminator);
+    match find_free(text, service.release, sought, from, len) {
+        Some(found) => Lexed::Ended {
+            start: skip_breaks(text, from, found.place),
+            end: found.place,
         },
         None => {
             let start = skip_breaks(text, from, len);
@@ -71,8 +71,8 @@ pub fn fields<'a, O: Octets>(
     requires ordered { start ≤ end }
     requires within { end ≤ length (O.octets text.now) }
     ensures fields { fields_left result ≡ fields_at service.now (O.octets text.now) start end }
-    ensures entries { entries_left result ≡ entries_at service.now (O.octets text.now) start end }
-    ensures in_order { IsInOrder 0 (entries_left result) }
+    ensures components { components_left result ≡ components_at service.now (O.octets text.now) start end }
+    ensures in_order { IsInOrder 0 (components_left result) }
     ensures few { length (fields_left result) ≤ end - start + 1 }
 {
     Fields::new(text, service, start, end)

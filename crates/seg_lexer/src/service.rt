@@ -8,20 +8,43 @@ use edi_octets::Octets;
 /// The service characters of a text, and where its body begins.
 #[derive(Clone, Copy, Debug, PartialEq, Eq)]
 pub struct Service {
-    /// Parts the components of a composite.
+    /// Separates the components of an element.
     pub component: u8,
-    /// Parts the data elements of a segment.
+    /// Separates the data elements of a segment.
     pub element: u8,
     /// The decimal mark.
     pub mark: u8,
-    /// Takes away the meaning of the octet behind it; a text may have none.
+    /// Takes away the meaning of the octet after it; a text may have none.
     pub release: Option<u8>,
     /// Ends a segment.
     pub terminator: u8,
-    /// The first octet behind the service string advice.
+    /// The first octet after the service string advice.
     pub body: usize,
-    /// False where a service string advice stands there and isn't acceptable: the default characters are used then.
+    /// False where there is a service string advice that isn't acceptable: the default characters are used then.
     pub sound: bool,
+}
+
+/// The service characters that a segment is cut by.
+#[derive(Clone, Copy, Debug, PartialEq, Eq)]
+pub struct Separators {
+    pub release: Option<u8>,
+    pub element: u8,
+    pub component: u8,
+}
+
+impl Service {
+    ghost use Rattle.seg_lexer.specs.Fields.{separators_of};
+
+    /// Those that a segment is cut by.
+    pub fn separators(&self) -> Separators
+        ensures { result ≡ separators_of self.now }
+    {
+        Separators {
+            release: self.release,
+            element: self.element,
+            component: self.component,
+        }
+    }
 }
 
 const DEFAULT: Service = Service {

@@ -3,14 +3,14 @@ ghost use Rattle.std.specs.Prelude.{Some, None, ◌≡◌, ◌≤◌, ◌==◌, 
 ghost use Rattle.std.specs.List.{list_all};
 ghost use Rattle.std.specs.Option.{option_map};
 ghost use Rattle.edi_tables.specs.Tag.{is_tag_of};
-ghost use Rattle.seg_lexer.specs.Fields.{IsInOrder, entries_at};
-ghost use Rattle.seg_lexer.specs.Parts.{entries_left};
+ghost use Rattle.seg_lexer.specs.Fields.{IsInOrder, components_at};
+ghost use Rattle.seg_lexer.specs.Left.{components_left};
 ghost use Rattle.seg_lexer.specs.Service.{IsUsable};
 ghost use Rattle.seg_lexer.specs.Tag.{tag_field, tag_of};
 ghost use Rattle.seg_lexer.specs.Value.{octets_of};
 
 use crate::LONGEST_TEXT;
-use crate::parts::Fields;
+use crate::components::Fields;
 use crate::segment::fields;
 use crate::service::Service;
 use crate::value::Value;
@@ -24,12 +24,12 @@ pub fn read_tag<O: Octets>(text: &O, service: &Service, start: usize, end: usize
     requires short { length (O.octets text.now) ≤ LONGEST_TEXT }
     requires ordered { start ≤ end }
     requires within { end ≤ length (O.octets text.now) }
-    ensures { option_map (λ t. t.octets) result ≡ tag_of (entries_at service.now (O.octets text.now) start end) }
+    ensures { option_map (λ t. t.octets) result ≡ tag_of (components_at service.now (O.octets text.now) start end) }
 {
-    let mut parts = fields(text, service, start, end);
-    let first = parts.next()?;
+    let mut components = fields(text, service, start, end);
+    let first = components.next()?;
     let tag = tag_in(&first.value)?;
-    if is_rest_empty(parts) {
+    if is_rest_empty(components) {
         Some(tag)
     } else {
         None
@@ -52,15 +52,15 @@ fn tag_in<O: Octets>(value: &Value<'_, O>) -> Option<Tag>
 }
 
 /// Whether each component of the tag field that is left is empty.
-fn is_rest_empty<O: Octets>(parts: Fields<'_, O>) -> bool
-    requires { IsInOrder 0 (entries_left parts) }
-    ensures { result ≡ list_all (λ octets. length octets == 0) (tag_field (entries_left parts.entry)) }
+fn is_rest_empty<O: Octets>(components: Fields<'_, O>) -> bool
+    requires { IsInOrder 0 (components_left components) }
+    ensures { result ≡ list_all (λ octets. length octets == 0) (tag_field (components_left components.entry)) }
 {
-    for part in parts {
-        if part.element > 0 {
+    for component in components {
+        if component.element > 0 {
             return true;
         }
-        if !part.value.is_empty() {
+        if !component.value.is_empty() {
             return false;
         }
     }

@@ -302,19 +302,20 @@ fn values_of_every_octet(rt: HostRuntime) -> Result<(), Fail> {
     let segment = segment.as_slice();
     assert!(rt; segment.len() <= LONGEST_TEXT);
     let text = Flat { octets: segment };
-    let parts = fields(&text, &read_service(&text), 0, segment.len());
-    let value = parts.value_at(1, 2).ok_or("no value")?;
+    let components = fields(&text, &read_service(&text), 0, segment.len());
+    let value = components.value_at(1, 2).ok_or("no value")?;
     assert!(rt; value.is(&octets));
     assert_eq!(rt; value.len(), 256);
     assert_eq!(rt; value.octet(255), 255);
     assert_eq!(rt; value.span(), (6, 266));
     assert_eq!(rt; value.octets().count(), 256);
+    assert!(rt; value.copy(rt.alloc())?.octets() == octets.as_slice());
 
-    let one = parts.value_at(2, 1).ok_or("no value")?;
-    let two = parts.value_at(2, 2).ok_or("no value")?;
-    let three = parts.value_at(2, 3).ok_or("no value")?;
+    let one = components.value_at(2, 1).ok_or("no value")?;
+    let two = components.value_at(2, 2).ok_or("no value")?;
+    let three = components.value_at(2, 3).ok_or("no value")?;
     assert!(rt; one.same(&two) && one.is(b"XY") && !one.is_empty());
     assert!(rt; !one.same(&three) && !three.same(&one) && !one.is(b"X?Y"));
-    assert!(rt; parts.value_at(3, 1).is_none());
+    assert!(rt; components.value_at(3, 1).is_none());
     Ok(())
 }

@@ -1,14 +1,16 @@
 //! Values of components, and a cursor over the octets of one.
-ghost use Rattle.std.specs.Prelude.{List, [], ◌∷◌, ◌≡◌, ◌+◌, ◌<◌, ◌≤◌, ◌^◌, ◌↔◌, ◌==◌, ℕ, IsTrue, MatchOption, length, slice_index, slice_range};
+ghost use Rattle.std.specs.Prelude.{List, ℕ, ⊤, ◌≡◌, ◌<◌, ◌≤◌, ◌^◌, ◌↔◌, ◌==◌, IsTrue, IfOk, length, slice_index, slice_range};
 ghost use Rattle.std.specs.Iterator.{YieldsFirst, item_count};
 ghost use Rattle.seg_lexer.specs.Fields.{value_of};
 ghost use Rattle.seg_lexer.specs.Released.{is_release as is_release_of};
 
+use crate::stretch::StretchOctets;
 use edi_octets::Octets;
-use std::alloc::AllocError;
+use edi_tables::Chunk;
+use std::alloc::{AllocError, Global};
 use std::marker::Model;
 
-/// The value of a component: its octets without the release characters that release the octet behind them. It lends
+/// The value of a component: its octets without the release characters that release the octet after them. It lends
 /// them from the text and copies none.
 #[derive_where(Debug)]
 pub struct Value<'a, O: Octets> {
@@ -23,6 +25,10 @@ pub struct Value<'a, O: Octets> {
 }
 
 impl<O: Octets> Clone for Value<'_, O> {
+    ghost is_clone = { λ value copy. copy ≡ value };
+
+    ghost is_infallible = { λ _. ⊤ };
+
     fn clone(&self) -> Result<Self, AllocError> {
         Ok(*self)
     }
@@ -34,12 +40,12 @@ impl<'a, O: Octets> Value<'a, O> {
     ghost use Rattle.seg_lexer.specs.Value.{octets_of, span_of};
 
     /// The value of the component `from..to` of a text.
-    #[tactic(auto, unfolding(crate::specs::Value::octets_of))]
+    #[tactic(auto, unfolding(crate::specs::Value::octets_of, crate::specs::Value::span_of))]
     pub(crate) fn new(text: &'a O, release: Option<u8>, from: usize, to: usize) -> Value<'a, O>
         requires ordered { from ≤ to }
         requires within { to ≤ length (O.octets text.now) }
         ensures octets { octets_of result ≡ value_of release (slice_range (O.octets text.now) from to) }
-        ensures span { span_of result ≡ (from, to) }
+        ensures span { span_of result ≡ record { from = from; to = to } }
     {
         Value {
             text,
@@ -56,10 +62,8 @@ impl<'a, O: Octets> Value<'a, O> {
         ensures few { length result < 2 ^ 64 }
     {
         ValueOctets {
-            text: self.text,
+            written: StretchOctets::new(self.text, self.from, self.to),
             release: self.release,
-            at: self.from,
-            to: self.to,
         }
     }
 
@@ -99,7 +103,7 @@ impl<'a, O: Octets> Value<'a, O> {
         rest.is_empty()
     }
 
-    /// Whether its octets are those of another value, wherever these stand.
+    /// Whether its octets are those of another value, wherever these are.
     pub fn same(&self, other: &Value<'a, O>) -> bool
         ensures { IsTrue result ↔ (octets_of self.now ≡ octets_of other.now) }
     {
@@ -112,9 +116,22 @@ impl<'a, O: Octets> Value<'a, O> {
         rest.next().is_none()
     }
 
+    /// A copy of its octets.
+    pub fn copy(&self, alloc: Global) -> Result<Chunk, AllocError>
+        ensures { IfOk result (λ c. c ≡ octets_of self.now) }
+    {
+        let mut copy = Chunk::with_room(alloc, self.to - self.from)?;
+        for octet in self.octets() {
+            copy.add(&[octet])?;
+        }
+        Ok(copy)
+    }
+
     /// Its component's first place in the text, and the place past its last.
+    #[tactic(auto, unfolding(crate::specs::Value::span_of))]
     pub fn span(&self) -> (usize, usize)
-        ensures { result ≡ span_of self.now }
+        ensures from { result.0 ≡ (span_of self.now).from }
+        ensures to { result.1 ≡ (span_of self.now).to }
     {
         (self.from, self.to)
     }
@@ -124,19 +141,14 @@ impl<'a, O: Octets> Value<'a, O> {
 #[derive(Drop)]
 #[derive_where(Debug)]
 pub struct ValueOctets<'a, O: Octets> {
-    #[derive_where(skip)]
-    text: &'a O,
+    written: StretchOctets<'a, O>,
     release: Option<u8>,
-    at: usize,
-    to: usize,
 }
 
 impl<'a, O: Octets> Model for ValueOctets<'a, O> {
     ghost Value = { List ℕ };
 
-    ghost view = { λ v. value_of v.release (slice_range (O.octets v.text.now) v.at v.to) };
-
-    ghost invariant = { λ v. (v.at ≤ v.to) × (v.to ≤ length (O.octets v.text.now)) };
+    ghost view = { λ v. value_of v.release v.written };
 }
 
 impl<O: Octets> Iterator for ValueOctets<'_, O> {
@@ -147,33 +159,23 @@ impl<O: Octets> Iterator for ValueOctets<'_, O> {
     ghost remaining = { item_count (λ rest. rest) };
 
     fn next(&mut self) -> Option<u8> {
-        let (octet, next) = kept_at(self.text, self.release, self.at, self.to)?;
-        self.at = next;
-        Some(octet)
+        next_kept(&mut self.written, self.release)
     }
 }
 
-/// The first octet of the value of `at..to`, and the place behind it.
-fn kept_at<O: Octets>(text: &O, release: Option<u8>, at: usize, to: usize) -> Option<(u8, usize)>
-    requires ordered { at ≤ to }
-    requires within { to ≤ length (O.octets text.now) }
-    ensures { MatchOption result (value_of release (slice_range (O.octets text.now) at to) ≡ []) (λ kept. (kept.1 ≤ to)
-        × (value_of release (slice_range (O.octets text.now) at to) ≡ kept.0 ∷ value_of release (slice_range (O.octets text.now) kept.1 to))) }
+/// The next octet of a value: the next one that is written, or the one after it where that is a release character.
+fn next_kept<O: Octets>(written: &mut StretchOctets<'_, O>, release: Option<u8>) -> Option<u8>
+    ensures { YieldsFirst (λ rest. rest) (value_of release written.old) result (value_of release written.new) }
 {
-    if at >= to {
-        return None;
+    let octet = written.next()?;
+    if is_release(release, octet) {
+        return written.next();
     }
-    let octet = text.octet(at);
-    if !is_release(release, octet) {
-        return Some((octet, at + 1));
-    }
-    if at + 1 >= to {
-        return None;
-    }
-    Some((text.octet(at + 1), at + 2))
+    Some(octet)
 }
 
-fn is_release(release: Option<u8>, octet: u8) -> bool
+/// Whether an octet is the release character, if there is one.
+pub(crate) fn is_release(release: Option<u8>, octet: u8) -> bool
     ensures { result ≡ is_release_of release octet }
 {
     match release {

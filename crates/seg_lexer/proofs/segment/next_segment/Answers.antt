@@ -13,10 +13,10 @@ skip_breaks-start-requires-clause-ordered g c =
     omega arith
 
 pub returns-in-Some-clause-lexed : goal.returns-in-Some-clause-lexed
-returns-in-Some-clause-lexed g c k h = ended-lexed _ _ c.requires.usable _ _ _ k c.len-len.ensures h c.in-Some.end c.in-Some.ensures c.skip_breaks.ensures
+returns-in-Some-clause-lexed g c k h = ended-lexed _ _ c.requires.usable _ _ _ k c.len-len.ensures h c.in-Some.found.place c.in-Some.ensures.first c.skip_breaks.ensures
 
 pub returns-then-start-len-clause-lexed : goal.returns-then-start-len-clause-lexed
-returns-then-start-len-clause-lexed g c k h = tail-lexed _ _ c.requires.usable _ _ _ k c.len-len.ensures h c.in-None.ensures c.skip_breaks-start.ensures c.if-start-len.true
+returns-then-start-len-clause-lexed g c k h = tail-lexed _ _ c.requires.usable _ _ _ k c.len-len.ensures h c.in-None.ensures.first c.skip_breaks-start.ensures c.if-start-len.true
 
 pub returns-else-start-len-clause-lexed : goal.returns-else-start-len-clause-lexed
-returns-else-start-len-clause-lexed g c k h = nothing-lexed _ _ c.requires.usable _ _ _ k c.len-len.ensures h c.in-None.ensures c.skip_breaks-start.ensures c.if-start-len.false
+returns-else-start-len-clause-lexed g c k h = nothing-lexed _ _ c.requires.usable _ _ _ k c.len-len.ensures h c.in-None.ensures.first c.skip_breaks-start.ensures c.if-start-len.false

@@ -1,0 +1,45 @@
+-- Worked segments, each computed by hand first: the components, values and tags that the definitions give.
+use Rattle.std.proofs.Common.{◌≡◌, [], ◌∷◌, Some, None, refl}
+use Rattle.std.specs.Prelude.{codes}
+use Rattle.seg_lexer.specs.Fields.{components_of, fields_of, places_that, separators_of, stretches, value_of}
+use Rattle.seg_lexer.specs.Released.{run_before, is_released}
+use Rattle.seg_lexer.specs.Service.{default_service}
+use Rattle.seg_lexer.specs.Tag.{tag_of}
+
+-- the tag field is element 0, and the three components of element 1 are numbered from 1
+components-date : components_of (separators_of default_service) (codes "DTM+137:19960105:102")
+    ≡ record { element = 0; component = 1; octets = codes "DTM" }
+    ∷ record { element = 1; component = 1; octets = codes "137" }
+    ∷ record { element = 1; component = 2; octets = codes "19960105" }
+    ∷ record { element = 1; component = 3; octets = codes "102" }
+    ∷ []
+unfolding fields_of value_of places_that stretches is_released run_before
+components-date = refl
+
+-- places are those of the segment; a released separator separates nothing, and an empty element has one empty component
+fields-released : fields_of (separators_of default_service) (codes "A?+B++C")
+    ≡ record { element = 0; component = 1; place = record { from = 0; to = 4 }; octets = codes "A+B" }
+    ∷ record { element = 1; component = 1; place = record { from = 5; to = 5 }; octets = [] }
+    ∷ record { element = 2; component = 1; place = record { from = 6; to = 7 }; octets = codes "C" }
+    ∷ []
+unfolding fields_of value_of places_that stretches is_released run_before
+fields-released = refl
+
+-- a release character that is released itself is an octet of the value
+value-even_run : value_of (Some 63) (codes "A??") ≡ codes "A?"
+unfolding value_of places_that is_released run_before
+value-even_run = refl
+
+-- the tag is a value, so it may be written with a release character
+tag-released : tag_of (components_of (separators_of default_service) (codes "U?NB+1")) ≡ Some (codes "UNB")
+unfolding tag_of fields_of value_of places_that stretches is_released run_before
+tag-released = refl
+
+-- further components of the tag field may be there where they are empty
+tag-empty_components : tag_of (components_of (separators_of default_service) (codes "UNZ::")) ≡ Some (codes "UNZ")
+unfolding tag_of fields_of value_of places_that stretches is_released run_before
+tag-empty_components = refl
+
+tag-filled_component : tag_of (components_of (separators_of default_service) (codes "UNZ:1")) ≡ None
+unfolding tag_of fields_of value_of places_that stretches is_released run_before
+tag-filled_component = refl

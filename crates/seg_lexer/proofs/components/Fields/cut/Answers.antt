@@ -1,0 +1,66 @@
+use Rattle.std.proofs.Common.{◌+◌, sym, ◌∙◌, arith}
+use Rattle.seg_lexer.proofs.CutLemmas.{place-after, rest-component, rest-element, rest-last, stop-at}
+use Rattle.seg_lexer.proofs.PartsLemmas.{reads}
+use Rattle.seg_lexer.proofs.components.Fields.cut.Goals as goal
+
+pub overflow_add-from : goal.overflow_add-from
+overflow_add-from g c =
+    let r = reads c.args.self.now c.args.place c.requires in
+    let inside = r.inside in
+    let short = r.short in
+    omega arith
+
+pub find_free-requires-clause-ordered : goal.find_free-requires-clause-ordered
+find_free-requires-clause-ordered g c = (reads c.args.self.now c.args.place c.requires).inside
+
+pub next_element-requires : goal.next_element-requires
+next_element-requires g c =
+    let r = reads c.args.self.now c.args.place c.requires in
+    let inside = r.inside in
+    let short = r.short in
+    let few = r.element in
+    omega arith
+
+pub next_component-requires : goal.next_component-requires
+next_component-requires g c =
+    let r = reads c.args.self.now c.args.place c.requires in
+    let inside = r.inside in
+    let short = r.short in
+    let few = r.component in
+    omega arith
+
+pub returns-in-None-clause-stop : goal.returns-in-None-clause-stop
+returns-in-None-clause-stop g c =
+    let r = reads c.args.self.now c.args.place c.requires in
+    let inside = r.inside in
+    (omega arith, omega arith)
+
+pub returns-in-None-clause-rest : goal.returns-in-None-clause-rest
+returns-in-None-clause-rest g c =
+    let r = reads c.args.self.now c.args.place c.requires in
+    rest-last _ _ _ _ _ r.stands _ _ c.in-None.ensures.first
+
+pub returns-in-Some-clause-next : goal.returns-in-Some-clause-next
+returns-in-Some-clause-next g c =
+    let r = reads c.args.self.now c.args.place c.requires in
+    let few = r.element in
+    let low = (stop-at _ _ _ _ _ r.stands 0 0 c.in-Some.found.place c.in-Some.ensures.first.0 c.in-Some.ensures.first.1).0 in
+    place-after _ _ _ _ _ r.stands 0 0 c.in-Some.found.place c.in-Some.ensures.first.0 c.in-Some.ensures.first.1 c.args.self.now.apart (c.args.place.element + 1) 1 _ c.next_element.ensures (omega arith) (omega arith)
+
+pub returns-in-Some-clause-rest : goal.returns-in-Some-clause-rest
+returns-in-Some-clause-rest g c =
+    let r = reads c.args.self.now c.args.place c.requires in
+    rest-element _ _ _ _ _ r.stands _ _ c.in-Some.found.place c.in-Some.ensures.first.0 c.in-Some.ensures.first.1 c.next_element.result c.next_element.ensures (sym c.in-Some.ensures.octet ∙ c.if-found-element.true)
+
+pub returns-in-Some-2-clause-next : goal.returns-in-Some-2-clause-next
+returns-in-Some-2-clause-next g c =
+    let r = reads c.args.self.now c.args.place c.requires in
+    let few_elements = r.element in
+    let few_components = r.component in
+    let low = (stop-at _ _ _ _ _ r.stands 0 0 c.in-Some.found.place c.in-Some.ensures.first.0 c.in-Some.ensures.first.1).0 in
+    place-after _ _ _ _ _ r.stands 0 0 c.in-Some.found.place c.in-Some.ensures.first.0 c.in-Some.ensures.first.1 c.args.self.now.apart c.args.place.element (c.args.place.component + 1) _ c.next_component.ensures (omega arith) (omega arith)
+
+pub returns-in-Some-2-clause-rest : goal.returns-in-Some-2-clause-rest
+returns-in-Some-2-clause-rest g c =
+    let r = reads c.args.self.now c.args.place c.requires in
+    rest-component _ _ _ _ _ r.stands _ _ c.in-Some.found.place c.in-Some.ensures.first.0 c.in-Some.ensures.first.1 c.next_component.result c.next_component.ensures (λ same. c.if-found-element.false (c.in-Some.ensures.octet ∙ same))

@@ -1,0 +1,200 @@
+//! The components of a segment, one after another.
+ghost use Rattle.std.specs.Prelude.{Some, ⊤, ◌≡◌, ◌∷◌, ◌+◌, ◌-◌, ◌^◌, ◌<◌, ◌≤◌, length, slice_range};
+ghost use Rattle.std.specs.Option.{ForSome};
+ghost use Rattle.seg_lexer.specs.Fields.{component_in, separators_of};
+ghost use Rattle.seg_lexer.specs.Place.{AreApart, IsPlace, rest_of};
+ghost use Rattle.seg_lexer.specs.declared.TheConstants.{LONGEST_TEXT};
+
+use crate::scan::{Sought, find_free};
+use crate::service::{Separators, Service};
+use crate::value::Value;
+use edi_octets::Octets;
+use std::alloc::AllocError;
+
+/// A component of a segment: the number of its element, which is 0 for the tag field, its own number, from 1 in each
+/// element, and its value.
+#[derive_where(Clone, Copy, Debug)]
+pub struct Component<'a, O: Octets> {
+    pub element: u32,
+    pub component: u32,
+    pub value: Value<'a, O>,
+}
+
+/// Where a component begins, counted from the segment's first octet, and its numbers.
+#[derive(Clone, Copy, Debug)]
+struct Place {
+    at: usize,
+    element: u32,
+    component: u32,
+}
+
+impl Place {
+    /// The first component of the next element.
+    fn next_element(&self, at: usize) -> Place
+        requires { self.now.element + 1 < 2 ^ 32 }
+        ensures { result ≡ record { at = at; element = self.now.element + 1; component = 1 } }
+    {
+        Place {
+            at,
+            element: self.element + 1,
+            component: 1,
+        }
+    }
+
+    /// The next component of the same element.
+    fn next_component(&self, at: usize) -> Place
+        requires { self.now.component + 1 < 2 ^ 32 }
+        ensures { result ≡ record { at = at; element = self.now.element; component = self.now.component + 1 } }
+    {
+        Place {
+            at,
+            element: self.element,
+            component: self.component + 1,
+        }
+    }
+}
+
+/// The first component of a tag field.
+const FIRST: Place = Place {
+    at: 0,
+    element: 0,
+    component: 1,
+};
+
+/// Where a component ends, and where the next one begins if there is one.
+#[derive(Clone, Copy)]
+struct Cut {
+    stop: usize,
+    next: Option<Place>,
+}
+
+/// The components of a segment that are left, in order, empty ones too. A copy goes on by itself.
+#[derive_where(Debug)]
+pub struct Fields<'a, O: Octets> {
+    #[derive_where(skip)]
+    text: &'a O,
+    separators: Separators,
+    start: usize,
+    end: usize,
+    place: Option<Place>,
+    ghost apart: { AreApart separators },
+    ghost ordered: { start ≤ end },
+    ghost within: { end ≤ length (O.octets text.now) },
+    ghost short: { length (O.octets text.now) ≤ LONGEST_TEXT },
+    ghost here: { ForSome place (IsPlace separators.release (slice_range (O.octets text.now) start end)) },
+}
+
+impl<O: Octets> Clone for Fields<'_, O> {
+    ghost is_clone = { λ fields copy. copy ≡ fields };
+
+    ghost is_infallible = { λ _. ⊤ };
+
+    fn clone(&self) -> Result<Self, AllocError> {
+        Ok(*self)
+    }
+}
+
+impl<O: Octets> Copy for Fields<'_, O> {}
+
+impl<'a, O: Octets> Fields<'a, O> {
+    ghost use Rattle.std.specs.Option.{option_map};
+    ghost use Rattle.seg_lexer.specs.Fields.{fields_at, octets_at, place_at};
+    ghost use Rattle.seg_lexer.specs.Left.{components_left, fields_left};
+    ghost use Rattle.seg_lexer.specs.Value.{octets_of, span_of};
+
+    /// The components of the segment `start..end` of a text.
+    pub(crate) fn new(text: &'a O, service: &Service, start: usize, end: usize) -> Fields<'a, O>
+        requires apart { AreApart (separators_of service.now) }
+        requires ordered { start ≤ end }
+        requires within { end ≤ length (O.octets text.now) }
+        requires short { length (O.octets text.now) ≤ LONGEST_TEXT }
+        ensures { fields_left result ≡ fields_at service.now (O.octets text.now) start end }
+    {
+        Fields {
+            text,
+            separators: service.separators(),
+            start,
+            end,
+            place: Some(FIRST),
+        }
+    }
+
+    /// The value of a component, if it is among those that are left.
+    pub fn value_at(self, element: u32, component: u32) -> Option<Value<'a, O>>
+        ensures octets { option_map octets_of result ≡ octets_at element component (components_left self.entry) }
+        ensures place { option_map span_of result ≡ place_at element component (fields_left self.entry) }
+    {
+        for found in self {
+            if found.element == element && found.component == component {
+                return Some(found.value);
+            }
+        }
+        None
+    }
+
+    /// Cuts off the component that is next.
+    fn cut(&self, place: Place) -> Cut
+        requires { self.now.place ≡ Some place }
+        ensures stop { (place.at ≤ result.stop) × (result.stop ≤ self.now.end - self.now.start) }
+        ensures next { ForSome result.next (IsPlace self.now.separators.release (slice_range (O.octets self.now.text.now) self.now.start self.now.end)) }
+        ensures rest { let xs = slice_range (O.octets self.now.text.now) self.now.start self.now.end in
+            rest_of self.now.separators xs (Some place)
+            ≡ component_in self.now.separators.release xs place.element (place.component, record { from = place.at; to = result.stop })
+            ∷ rest_of self.now.separators xs result.next }
+    {
+        let from = self.start + place.at;
+        let Separators {
+            release,
+            element,
+            component,
+        } = self.separators;
+        match find_free(
+            self.text,
+            release,
+            Sought::Two(element, component),
+            from,
+            self.end,
+        ) {
+            None => Cut {
+                stop: self.end - self.start,
+                next: None,
+            },
+            Some(found) if found.octet == element => Cut {
+                stop: found.place - self.start,
+                next: Some(place.next_element(found.place - self.start + 1)),
+            },
+            Some(found) => Cut {
+                stop: found.place - self.start,
+                next: Some(place.next_component(found.place - self.start + 1)),
+            },
+        }
+    }
+}
+
+impl<'a, O: Octets> Iterator for Fields<'a, O> {
+    type Item = Component<'a, O>;
+
+    ghost use Rattle.std.specs.Iterator.{YieldsFirstBy, item_count};
+    ghost use Rattle.seg_lexer.specs.Left.{fields_left, placed_in};
+
+    ghost next_gives = { YieldsFirstBy placed_in fields_left };
+
+    ghost remaining = { item_count fields_left };
+
+    #[tactic(auto, unfolding(crate::specs::Left::fields_left))]
+    fn next(&mut self) -> Option<Component<'a, O>> {
+        let place = self.place?;
+        let cut = self.cut(place);
+        self.place = cut.next;
+        Some(Component {
+            element: place.element,
+            component: place.component,
+            value: Value::new(
+                self.text,
+                self.separators.release,
+                self.start + place.at,
+                self.start + cut.stop,
+            ),
+        })
+    }
+}

@@ -1,0 +1,4 @@
+pub mod Ascending
+pub mod ErrorOrder
+pub mod KindLemmas
+pub mod PrintLemmas

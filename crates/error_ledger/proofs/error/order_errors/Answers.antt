@@ -1,0 +1,12 @@
+use Rattle.std.proofs.Common.{rules}
+use Rattle.std.proofs.lemmas.List.Sorted.{answers_always}
+use Rattle.std.proofs.lemmas.Result.{on_ok_weaker}
+use Rattle.error_ledger.specs.Order.{key_of}
+use Rattle.error_ledger.proofs.error.order_errors.Goals as goal
+
+pub returns-clause-ascending : goal.returns-clause-ascending
+returns-clause-ascending c =
+    on_ok_weaker c.sort_by_key.result (λ sorted. sorted key_of (answers_always _ _ _ (λ f a r g called. search rules))) c.sort_by_key.ensures.sorted
+
+pub returns-clause-ties : goal.returns-clause-ties
+returns-clause-ties c = c.sort_by_key.ensures.stable key_of (answers_always _ _ _ (λ f a r g called. search rules))

@@ -1,0 +1,4 @@
+pub mod Kinds
+pub mod Order
+pub mod Printing
+pub mod TreeCount

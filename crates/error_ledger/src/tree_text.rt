@@ -1,0 +1,138 @@
+//! The printed tree.
+ghost use Rattle.std.specs.Prelude.{◌≡◌, ◌+◌, ◌-◌, ◌*◌, ◌<◌, ◌≤◌, [], ◌∷◌, ◌++◌, All, count_by, length, IfOk, IfSome, OnOk};
+ghost use Rattle.std.specs.List.{flat_map};
+ghost use Rattle.error_ledger.specs.Printing.{
+  tree_text,
+  tree_lines,
+  ended_lines,
+  group_line,
+  opening_lines,
+  placed_line,
+  numbered,
+  indentation,
+  IsWellPlaced,
+};
+ghost use Rattle.error_ledger.specs.TreeCount.{opens_group as opens_in_tree};
+
+use crate::put::{put_count, put_number, put_tag};
+use crate::tree::{GroupMark, TreeLine, TreePlace};
+use edi_octets::put_decimal;
+use edi_tables::{Chunk, Tag};
+use std::alloc::{AllocError, Global};
+
+/// The printed form of a tree: how many lines it has, and for each segment the line of the group that it opens, if
+/// it opens one, and its own. A segment that opens a group lies in it, so that its depth is at least 1.
+#[tactic(auto, unfolding(crate::specs::Printing::tree_text))]
+pub fn print_tree(alloc: Global, list: &[TreeLine]) -> Result<Chunk, AllocError>
+    requires { All IsWellPlaced list.now }
+    ensures { IfOk result (λ c. c ≡ tree_text list.now) }
+{
+    let mut out = Chunk::empty(alloc);
+    put_count(&mut out, b"tree", count_lines(list))?;
+    for line in list {
+        put_segment(&mut out, line)?;
+    }
+    Ok(out)
+}
+
+// How many lines a tree has: one for each segment, and one for each group that is opened.
+#[tactic(auto, using(crate::proofs::PrintLemmas::lines_counted))]
+fn count_lines(list: &[TreeLine]) -> usize
+    ensures { result ≡ length (flat_map tree_lines list.now) }
+{
+    list.len() + count_groups(list)
+}
+
+fn count_groups(list: &[TreeLine]) -> usize
+    ensures groups { result ≡ count_by opens_in_tree list.now }
+    ensures few { result ≤ length list.now }
+{
+    list.iter().filter(|line| opens_group(line)).count()
+}
+
+fn opens_group(line: &TreeLine) -> bool
+    ensures { result ≡ opens_in_tree line.now }
+{
+    matches!(line.place, TreePlace::Placed { opens: Some(_), .. })
+}
+
+// The lines of a segment.
+#[tactic(auto, unfolding(crate::specs::Printing::lines_at))]
+fn put_segment(out: &mut Chunk, line: &TreeLine) -> Result<(), AllocError>
+    requires { IsWellPlaced line.now }
+    ensures { OnOk result (out.new ≡ out.old ++ ended_lines (tree_lines line.now)) }
+{
+    match line.place {
+        TreePlace::Outside => put_marked(out, b"- ", line.segment, line.tag),
+        TreePlace::Untabled => put_marked(out, b"? ", line.segment, line.tag),
+        TreePlace::Unplaced => put_marked(out, b"! ", line.segment, line.tag),
+        TreePlace::Placed {
+            entry,
+            depth,
+            opens,
+        } => {
+            put_opening(out, depth, opens)?;
+            put_placed(out, line, entry, depth)
+        }
+    }
+}
+
+// The line of a segment that isn't placed, with its mark.
+fn put_marked(out: &mut Chunk, mark: &[u8], number: u32, tag: Option<Tag>) -> Result<(), AllocError>
+    ensures { OnOk result (out.new ≡ out.old ++ (mark.now ++ numbered number tag ++ 10 ∷ [])) }
+{
+    out.add(mark)?;
+    put_number(out, number)?;
+    put_tag(out, tag)?;
+    out.add(b"\n")
+}
+
+// The line of a segment at its entry.
+#[tactic(auto, unfolding(crate::specs::Printing::placed_line))]
+fn put_placed(out: &mut Chunk, line: &TreeLine, entry: u16, depth: u8) -> Result<(), AllocError>
+    ensures { OnOk result
+        (out.new ≡ out.old ++ (placed_line line.now.segment line.now.tag entry depth ++ 10 ∷ [])) }
+{
+    put_indentation(out, depth)?;
+    out.add(b"= ")?;
+    put_number(out, line.segment)?;
+    put_tag(out, line.tag)?;
+    out.add(b" ")?;
+    put_decimal(out, u64::from(entry))?;
+    out.add(b"\n")
+}
+
+// The line of the group that an entry opens, if it opens one.
+fn put_opening(out: &mut Chunk, depth: u8, opens: Option<GroupMark>) -> Result<(), AllocError>
+    requires { IfSome opens (λ _. 1 ≤ depth) }
+    ensures { OnOk result (out.new ≡ out.old ++ ended_lines (opening_lines depth opens)) }
+{
+    match opens {
+        Some(mark) => put_group(out, mark, depth - 1),
+        None => Ok(()),
+    }
+}
+
+// The line of a group that is opened.
+#[tactic(auto, unfolding(crate::specs::Printing::group_line))]
+fn put_group(out: &mut Chunk, mark: GroupMark, depth: u8) -> Result<(), AllocError>
+    ensures { OnOk result (out.new ≡ out.old ++ (group_line mark depth ++ 10 ∷ [])) }
+{
+    put_indentation(out, depth)?;
+    out.add(b"group ")?;
+    put_decimal(out, u64::from(mark.number))?;
+    out.add(b" ")?;
+    put_decimal(out, u64::from(mark.count))?;
+    out.add(b"\n")
+}
+
+// Two spaces for each group round what follows.
+#[tactic(auto, using(crate::proofs::PrintLemmas::indentation_more))]
+fn put_indentation(out: &mut Chunk, groups: u8) -> Result<(), AllocError>
+    ensures { OnOk result (out.new ≡ out.old ++ indentation groups) }
+{
+    for _group in 0..groups {
+        out.add(b"  ")?;
+    }
+    Ok(())
+}

@@ -29,7 +29,8 @@ missing_shown _ missing = []
 -- where an error is: its segment, that segment's first octet and tag, an element and a component
 unfoldable pub place_shown : ErrorLine → List ℕ
 place_shown e =
-    decimal e.segment ++ codes " " ++ decimal e.start ++ codes " " ++ tag_shown e.tag ++ codes " " ++ decimal e.element ++ codes " " ++ decimal e.component
+    decimal e.segment ++ codes " " ++ decimal e.start ++ codes " " ++ tag_shown e.tag ++ codes " "
+    ++ decimal e.element ++ codes " " ++ decimal e.component
 
 -- what is wrong there: the code and the word of the kind, and what is missing
 unfoldable pub fault_shown : Kind → Option Tag → List ℕ

@@ -1,5 +1,5 @@
 //! Errors and their order.
-ghost use Rattle.std.specs.Prelude.{◌≡◌, ◌↔◌, IsTrue, OnOk, OnErr};
+ghost use Rattle.std.specs.Prelude.{◌≡◌, ◌↔◌, IsTrue, IsOk, OnOk, OnErr};
 ghost use Rattle.std.specs.List.Sorted.{IsPermutation};
 ghost use Rattle.error_ledger.specs.Order.{key_of, IsAscending, KeepsTies};
 
@@ -39,13 +39,14 @@ impl ErrorLine {
 }
 
 /// Puts errors in order: by segment, element, component, number of the kind, and node. Errors that agree in all of
-/// these keep the order that they had. A list that is in order already is looked through once; where memory is
-/// refused, the list is as it was.
+/// these keep the order that they had. A list that is in order already is looked through once, and takes no memory;
+/// where memory is refused, the list is as it was.
 pub fn order_errors(list: &mut Vec<ErrorLine>) -> Result<(), AllocError>
     ensures same { IsPermutation list.old.items list.new.items }
     ensures ascending { OnOk result (IsAscending list.new.items) }
     ensures ties { KeepsTies list.old.items list.new.items }
     ensures err { OnErr result (list.new.items ≡ list.old.items) }
+    ensures ready { IsAscending list.old.items → IsOk result }
 {
     if is_in_order(list) {
         return Ok(());

@@ -1,7 +1,7 @@
-use Rattle.std.proofs.Common.{rules}
+use Rattle.std.proofs.Common.{rules, sym, ◌∙◌, subst, true≢false}
 use Rattle.std.proofs.lemmas.List.Sorted.{answers_always}
 use Rattle.std.proofs.lemmas.Result.{on_ok_weaker}
-use Rattle.error_ledger.specs.Order.{key_of}
+use Rattle.error_ledger.specs.Order.{key_of, IsAscending}
 use Rattle.error_ledger.proofs.error.order_errors.Goals as goal
 
 pub returns-clause-ascending : goal.returns-clause-ascending
@@ -10,3 +10,8 @@ returns-clause-ascending c =
 
 pub returns-clause-ties : goal.returns-clause-ties
 returns-clause-ties c = c.sort_by_key.ensures.stable key_of (answers_always _ _ _ (λ f a r g called. search rules))
+
+pub returns-clause-ready : goal.returns-clause-ready
+returns-clause-ready c = λ ascending.
+    let here = subst IsAscending (sym c.deref.ensures.value) ascending in
+    absurd (true≢false (sym (c.is_in_order.ensures.1 here) ∙ c.if-is_in_order.false))

@@ -7,6 +7,7 @@ use Rattle.std.proofs.lemmas.Option.{same_Some}
 use Rattle.edi_octets.specs.Profile.{with_earlier_from}
 use Rattle.edi_tables.specs.Rows.{when}
 use Rattle.dir_compile.specs.declared.stop.CompileKind.TheVariants.{Twice}
+use Rattle.dir_compile.specs.Stop.{fault_with}
 use Rattle.dir_compile.specs.Compile.{twice_in, named_in}
 use Rattle.dir_compile.proofs.Faults.{nil-left, nil-right, nil-both, when-nil}
 use Rattle.dir_compile.proofs.Twice.{twice_fault}
@@ -69,7 +70,7 @@ none-behind : {A : Type 0} (name : A → List ℕ) (earlier xs : List A) → ((e
 none-behind name earlier [] differ p = refl
 none-behind {A} name earlier (x ∷ xs) differ p =
     nil-both (twice_fault name (earlier, x)) _
-    (ap (λ b. when b (Twice, name x)) (passes-none (λ z. bytes_eq (name z) (name x)) earlier (λ z h. differ z x h (inl refl))))
+    (ap (λ b. when b (fault_with Twice (name x))) (passes-none (λ z. bytes_eq (name z) (name x)) earlier (λ z h. differ z x h (inl refl))))
     (none-behind name (earlier ++ x ∷ []) xs (λ e y h k. elim (Has-either earlier (x ∷ []) e h) [ inl m ↦ differ e y m (inr k) | inr m ↦ later e y m k ]) p.1)
   where
     later : (e y : A) → Has (x ∷ []) e → Has xs y → bytes_eq (name e) (name y) ≡ false

@@ -1,5 +1,5 @@
 -- Lists in ascending order of names: there is one with given members.
-use Rattle.std.proofs.Common.{◌≡◌, ℕ, zero, suc, ◌<◌, ◌≤◌, ◌⊎◌, inl, inr, Bool, true, false, List, [], ◌∷◌, length, get_or, sym, ap, ◌∙◌, refl, subst, Ordering, if◌then◌else◌, IsPermutation, Contains, arith, true≢false}
+use Rattle.std.proofs.Common.{◌≡◌, ℕ, zero, suc, ◌<◌, ◌≤◌, ◌⊎◌, inl, inr, Bool, true, false, List, [], ◌∷◌, length, get_or, sym, ap, ◌∙◌, refl, subst, Ordering, if◌then◌else◌, IsPermutation, Contains, All, arith, true≢false}
 use Rattle.std.specs.List.{AllByRecursion, IsDistinct}
 use Rattle.std.specs.List.Sorted.{IsSortedBy}
 use Rattle.std.specs.declared.cmp.Ordering.TheVariants.{Less, Equal, Greater}
@@ -8,8 +8,11 @@ use Rattle.std.specs.Ordering.{nat_cmp, is_lt, is_eq, ordering_reverse}
 use Rattle.std.specs.Str.{bytes_eq}
 use Rattle.std.proofs.lemmas.Cmp.{nat_list_cmp_total, nat_list_eq_equiv, tied_itself}
 use Rattle.std.proofs.lemmas.List.Sorted.{Contains-permutation, IsPermutation-sym, sorted_far, ranks_by}
+use Rattle.std.proofs.lemmas.List.{get_or_default}
+use Rattle.std.proofs.lemmas.List.Kept.{AllPairs-cons}
 use Rattle.std.proofs.lemmas.Map.Keys.{IsDistinct-IsPermutation}
-use Rattle.dir_compile.specs.Ascending.{is_before, put_in_order, ascending_by}
+use Rattle.dir_compile.specs.Ascending.{is_before, IsAscendingBy}
+use Rattle.dir_compile.specs.InOrder.{put_in_order, ascending_by}
 
 -- x is a member
 abbrev pub Has : {A : Type 0} → List A → A → Type 0
@@ -141,12 +144,6 @@ ascending_by-ascending name [] p = tt
 ascending_by-ascending name (x ∷ xs) p =
     put-ascending name x (ascending_by name xs) (ascending_by-ascending name xs p.1) (λ y h. p.0 y ((same-ascending_by name xs).back y h))
 
--- an ascending list is its own ordered list
-pub ascending_by-fixed : {A : Type 0} (name : A → List ℕ) (xs : List A) → IsAscending name xs → ascending_by name xs ≡ xs
-ascending_by-fixed name xs p =
-    ascending-unique name (ascending_by name xs) xs (ascending_by-ascending name xs (apart-from-ascending name xs p)) p
-    (record { there = (same-ascending_by name xs).back; back = (same-ascending_by name xs).there })
-
 -- membership by place
 pub has-at : {A : Type 0} (xs : List A) (x : A) (k : ℕ) → k < length xs → get_or xs k x ≡ x → Has xs x
 has-at [] x k lt e = absurd (omega (arith, lt))
@@ -162,6 +159,27 @@ Contains-from-Has (y ∷ ys) x (inl e) = (0, omega arith, sym e)
 Contains-from-Has (y ∷ ys) x (inr h) =
     let at = Contains-from-Has ys x h in
     (suc at.0, omega (arith, at.1), at.2)
+
+-- what holds of each member holds at each place
+pub all-from-members : {A : Type 0} (P : A → Type 0) (xs : List A) → ((x : A) → Has xs x → P x) → All P xs
+all-from-members P xs h k d lt =
+    let x = get_or xs k d in
+    h x (has-at xs x k lt (get_or_default xs k x d lt))
+
+-- the two forms of ascending order
+pub pairs-from-ascending : {A : Type 0} (name : A → List ℕ) (xs : List A) → IsAscending name xs → IsAscendingBy name xs
+pairs-from-ascending name [] p = λ i j d less within. absurd (omega arith)
+pairs-from-ascending {A} name (x ∷ xs) p =
+    AllPairs-cons (λ (a b : A). is_before (name a) (name b) ≡ true) x xs
+    (all-from-members (λ y. is_before (name x) (name y) ≡ true) xs p.0) (pairs-from-ascending name xs p.1)
+
+pub ascending-from-pairs : {A : Type 0} (name : A → List ℕ) (xs : List A) → IsAscendingBy name xs → IsAscending name xs
+ascending-from-pairs name [] p = tt
+ascending-from-pairs {A} name (x ∷ xs) p = (
+  λ y h. let at = Contains-from-Has xs y h in
+      subst (λ (w : A). is_before (name x) (name w) ≡ true) at.2 (p 0 (suc at.0) y (omega arith) (omega (arith, at.1))),
+  ascending-from-pairs name xs (λ i j d less within. p (suc i) (suc j) d (omega arith) (omega arith)),
+)
 
 pub same-from-permutation : {A : Type 0} (xs ys : List A) → IsPermutation xs ys → HasSame xs ys
 same-from-permutation xs ys p = record {
@@ -218,7 +236,3 @@ ascending_by-sorted name xs ys apart moved sorted =
     (ascending-from-far name ys (sorted_far _ (ranks_by nat_list_cmp_total name) ys sorted) (apart-permutation name xs ys moved apart))
     (ascending_by-ascending name xs apart)
     (record { there = λ z h. put.there z (same.back z h); back = λ z h. same.there z (put.back z h) })
-
--- putting in order twice is putting in order once
-pub ascending_by-twice : {A : Type 0} (name : A → List ℕ) (xs : List A) → IsApart name xs → ascending_by name (ascending_by name xs) ≡ ascending_by name xs
-ascending_by-twice name xs apart = ascending_by-fixed name (ascending_by name xs) (ascending_by-ascending name xs apart)

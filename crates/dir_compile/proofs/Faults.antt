@@ -8,7 +8,7 @@ use Rattle.dir_compile.specs.declared.stop.CompileKind.{CompileKind}
 use Rattle.dir_compile.specs.declared.stop.CompileStop.{CompileStop}
 use Rattle.dir_compile.specs.declared.stop.CompileStop.TheVariants.{Fault, Memory}
 use Rattle.dir_compile.specs.Judges.{first_of, IsFirstFault, Judges}
-use Rattle.dir_compile.specs.Stop.{IsStopAt}
+use Rattle.dir_compile.specs.Stop.{PartsFault, fault_with, IsStopAt}
 
 -- nothing in two lists together is nothing in each
 pub nil-left : {A : Type 0} (xs ys : List A) → xs ++ ys ≡ [] → xs ≡ []
@@ -32,16 +32,16 @@ pub first_of-left : {A : Type 0} (xs ys : List A) (x : A) → first_of xs ≡ So
 first_of-left [] ys x e = cc
 first_of-left (z ∷ xs) ys x e = e
 
-pub first-left : (stop : CompileStop) (xs ys : List (CompileKind × List ℕ)) → IsFirstFault stop xs → IsFirstFault stop (xs ++ ys)
-first-left (Fault kind name) xs ys h = first_of-left xs ys (kind, name) h
+pub first-left : (stop : CompileStop) (xs ys : List PartsFault) → IsFirstFault stop xs → IsFirstFault stop (xs ++ ys)
+first-left (Fault kind name) xs ys h = first_of-left xs ys (fault_with kind name) h
 first-left Memory xs ys h = tt
 
-pub first-right : (stop : CompileStop) (xs ys : List (CompileKind × List ℕ)) → xs ≡ [] → IsFirstFault stop ys → IsFirstFault stop (xs ++ ys)
+pub first-right : (stop : CompileStop) (xs ys : List PartsFault) → xs ≡ [] → IsFirstFault stop ys → IsFirstFault stop (xs ++ ys)
 first-right stop xs ys e h = subst (λ l. IsFirstFault stop (l ++ ys)) (sym e) h
 
 -- a stop at a kind and a name is the first of faults that begin with them
-pub first-stop : (stop : CompileStop) (kind : CompileKind) (name : List ℕ) (xs : List (CompileKind × List ℕ)) → IsStopAt kind name stop → first_of xs ≡ Some (kind, name) → IsFirstFault stop xs
-first-stop (Fault k n) kind name xs h e = e ∙ (λ i. Some (sym h.0 i, sym h.1 i))
+pub first-stop : (stop : CompileStop) (kind : CompileKind) (name : List ℕ) (xs : List PartsFault) → IsStopAt kind name stop → first_of xs ≡ Some (fault_with kind name) → IsFirstFault stop xs
+first-stop (Fault k n) kind name xs h e = e ∙ (λ i. Some (fault_with (sym h.0 i) (sym h.1 i)))
 first-stop Memory kind name xs h e = tt
 
 -- a list is what stands before a place, what stands there, and the rest
@@ -55,24 +55,24 @@ none_more f xs i d lt before here =
     ∙ nil-both (flat_map f (take i xs)) (f (get_or xs i d) ++ []) before (append-nil (f (get_or xs i d)) ∙ here)
 
 -- no fault up to a place, and the first one there, is the first one
-pub first_there : {X : Type 0} (f : X → List (CompileKind × List ℕ)) (stop : CompileStop) (xs : List X) (i : ℕ) (d : X) → i < length xs → flat_map f (take i xs) ≡ [] → IsFirstFault stop (f (get_or xs i d)) → IsFirstFault stop (flat_map f xs)
+pub first_there : {X : Type 0} (f : X → List PartsFault) (stop : CompileStop) (xs : List X) (i : ℕ) (d : X) → i < length xs → flat_map f (take i xs) ≡ [] → IsFirstFault stop (f (get_or xs i d)) → IsFirstFault stop (flat_map f xs)
 first_there f stop xs i d lt before here =
     let parts : flat_map f xs ≡ flat_map f (take i xs) ++ (f (get_or xs i d) ++ flat_map f (drop (i + 1) xs)) =
     ap (flat_map f) (split_at xs i d lt) ∙ flat_map-append f (take i xs) (get_or xs i d ∷ drop (i + 1) xs) in
     subst (IsFirstFault stop) (sym parts) (first-right stop _ _ before (first-left stop _ _ here))
 
 -- what is judged of equal lists of faults
-pub judges-same : {T : Type 0} (r : Result T CompileStop) (xs ys : List (CompileKind × List ℕ)) → xs ≡ ys → Judges r xs → Judges r ys
+pub judges-same : {T : Type 0} (r : Result T CompileStop) (xs ys : List PartsFault) → xs ≡ ys → Judges r xs → Judges r ys
 judges-same r xs ys e h = subst (Judges r) e h
 
 -- the exit of a loop of judges: the stop that is handed on tells the first fault of the whole list
-pub judges_there : {X T : Type 0} (f : X → List (CompileKind × List ℕ)) (r : Result T CompileStop) (stop told : CompileStop) (xs : List X) (i : ℕ) (x : X) → i < length xs → x ≡ get_or xs i x → flat_map f (take i xs) ≡ [] → IsFirstFault told (f x) → r ≡ Err stop → stop ≡ told → Judges r (flat_map f xs)
+pub judges_there : {X T : Type 0} (f : X → List PartsFault) (r : Result T CompileStop) (stop told : CompileStop) (xs : List X) (i : ℕ) (x : X) → i < length xs → x ≡ get_or xs i x → flat_map f (take i xs) ≡ [] → IsFirstFault told (f x) → r ≡ Err stop → stop ≡ told → Judges r (flat_map f xs)
 judges_there f r stop told xs i x lt here before first is same =
     let told_there : IsFirstFault told (f (get_or xs i x)) = subst (λ y. IsFirstFault told (f y)) here first in
     subst (λ s. Judges s (flat_map f xs)) (sym (is ∙ ap Err same)) (first_there f told xs i x lt before told_there)
 
 -- the same where the list is read as an equal one
-pub judges_there_in : {X T : Type 0} (f : X → List (CompileKind × List ℕ)) (r : Result T CompileStop) (stop told : CompileStop) (xs ys : List X) (i : ℕ) (x : X) → ys ≡ xs → i < length ys → x ≡ get_or ys i x → flat_map f (take i xs) ≡ [] → IsFirstFault told (f x) → r ≡ Err stop → stop ≡ told → Judges r (flat_map f xs)
+pub judges_there_in : {X T : Type 0} (f : X → List PartsFault) (r : Result T CompileStop) (stop told : CompileStop) (xs ys : List X) (i : ℕ) (x : X) → ys ≡ xs → i < length ys → x ≡ get_or ys i x → flat_map f (take i xs) ≡ [] → IsFirstFault told (f x) → r ≡ Err stop → stop ≡ told → Judges r (flat_map f xs)
 judges_there_in f r stop told xs ys i x same lt here =
     judges_there f r stop told xs i x (subst (λ l. i < length l) same lt) (subst (λ l. x ≡ get_or l i x) same here)
 
@@ -80,16 +80,16 @@ judges_there_in f r stop told xs ys i x same lt here =
 pub when-held : {A : Type 0} (broken : Bool) (x : A) → broken ≡ false → when broken x ≡ []
 when-held broken x e = ap (λ b. when b x) e
 
-pub first-when : (stop : CompileStop) (broken : Bool) (kind : CompileKind) (name : List ℕ) → broken ≡ true → IsStopAt kind name stop → IsFirstFault stop (when broken (kind, name))
+pub first-when : (stop : CompileStop) (broken : Bool) (kind : CompileKind) (name : List ℕ) → broken ≡ true → IsStopAt kind name stop → IsFirstFault stop (when broken (fault_with kind name))
 first-when stop broken kind name e at =
-    first-stop stop kind name (when broken (kind, name)) at (ap (λ b. first_of (when b (kind, name))) e)
+    first-stop stop kind name (when broken (fault_with kind name)) at (ap (λ b. first_of (when b (fault_with kind name))) e)
 
 -- `not` of a test that is known
 pub not-at : (b c : Bool) → c ≡ b → not b ≡ not c
 not-at b c e = ap not (sym e)
 
 -- the same at an element that was read
-pub first_there_in : {X : Type 0} (f : X → List (CompileKind × List ℕ)) (stop : CompileStop) (xs ys : List X) (i : ℕ) (x : X) → ys ≡ xs → i < length ys → x ≡ get_or ys i x → flat_map f (take i xs) ≡ [] → IsFirstFault stop (f x) → IsFirstFault stop (flat_map f xs)
+pub first_there_in : {X : Type 0} (f : X → List PartsFault) (stop : CompileStop) (xs ys : List X) (i : ℕ) (x : X) → ys ≡ xs → i < length ys → x ≡ get_or ys i x → flat_map f (take i xs) ≡ [] → IsFirstFault stop (f x) → IsFirstFault stop (flat_map f xs)
 first_there_in f stop xs ys i x same lt here before first =
     first_there f stop xs i x (subst (λ l. i < length l) same lt) before
     (subst (λ y. IsFirstFault stop (f y)) (subst (λ l. x ≡ get_or l i x) same here) first)
@@ -99,10 +99,10 @@ none_more_in f xs ys i x same lt here before none =
     none_more f xs i x (subst (λ l. i < length l) same lt) before
     (subst (λ y. f y ≡ []) (subst (λ l. x ≡ get_or l i x) same here) none)
 
-pub judges_there_at : {X T : Type 0} (f : X → List (CompileKind × List ℕ)) (r : Result T CompileStop) (stop told : CompileStop) (xs : List X) (i : ℕ) (d : X) → i < length xs → flat_map f (take i xs) ≡ [] → IsFirstFault told (f (get_or xs i d)) → r ≡ Err stop → stop ≡ told → Judges r (flat_map f xs)
+pub judges_there_at : {X T : Type 0} (f : X → List PartsFault) (r : Result T CompileStop) (stop told : CompileStop) (xs : List X) (i : ℕ) (d : X) → i < length xs → flat_map f (take i xs) ≡ [] → IsFirstFault told (f (get_or xs i d)) → r ≡ Err stop → stop ≡ told → Judges r (flat_map f xs)
 judges_there_at f r stop told xs i d lt before first is same =
     subst (λ s. Judges s (flat_map f xs)) (sym (is ∙ ap Err same)) (first_there f told xs i d lt before first)
 
 -- a stop that is handed on
-pub judges-stop : {T : Type 0} (r : Result T CompileStop) (stop told : CompileStop) (xs : List (CompileKind × List ℕ)) → r ≡ Err stop → stop ≡ told → IsFirstFault told xs → Judges r xs
+pub judges-stop : {T : Type 0} (r : Result T CompileStop) (stop told : CompileStop) (xs : List PartsFault) → r ≡ Err stop → stop ≡ told → IsFirstFault told xs → Judges r xs
 judges-stop r stop told xs is same first = subst (λ s. Judges s xs) (sym (is ∙ ap Err same)) first

@@ -1,4 +1,4 @@
--- Parts without fault, put in order, are a directory.
+-- Parts without fault, put in order, have none either.
 use Rattle.std.proofs.Common.{◌≡◌, ℕ, inl, inr, true, not, ◌&&◌, List, [], ◌∷◌, ◌++◌, Option, Some, None, map, is_some, sym, ap, ◌∙◌, refl, subst, codes}
 use Rattle.std.specs.List.{flat_map}
 use Rattle.std.specs.Str.{bytes_eq}
@@ -10,13 +10,15 @@ use Rattle.edi_tables.specs.declared.segment.ItemDef.TheVariants.{Alone, Composi
 use Rattle.edi_tables.specs.declared.tag.Tag.{Tag}
 use Rattle.dir_compile.specs.declared.parts.Parts.{Parts}
 use Rattle.dir_compile.specs.declared.stop.CompileKind.TheVariants.{UnknownElement, UnknownComposite, UnknownSegment, Reserved, BadTable}
-use Rattle.dir_compile.specs.Ascending.{ascending_by, is_before}
+use Rattle.dir_compile.specs.Ascending.{is_before}
+use Rattle.dir_compile.specs.InOrder.{ascending_by, ordered_list, ordered_parts}
+use Rattle.dir_compile.specs.Ordered.{IsInOrder}
 use Rattle.dir_compile.specs.Compile.{twice_in, named_in, list_fault, list_faults, part_against, part_faults, composite_fault, composite_faults, item_faults, segment_fault, segment_faults, tag_faults, message_fault, message_faults, is_service_tag, is_filled_with, compile_faults, value_name, element_name, list_name, composite_name, segment_name, message_name}
-use Rattle.dir_compile.specs.Directory.{ordered_list, ordered_parts, IsDirectory}
-use Rattle.dir_compile.proofs.AscendingLemmas.{Has, IsAscending, IsApart, same-ascending_by, ascending_by-ascending, ascending_by-fixed, apart-from-ascending}
+use Rattle.dir_compile.specs.Stop.{fault_with}
+use Rattle.dir_compile.proofs.AscendingLemmas.{Has, IsAscending, IsApart, same-ascending_by, ascending_by-ascending, apart-from-ascending, pairs-from-ascending, all-from-members}
 use Rattle.dir_compile.proofs.Apart.{apart-from-none, none-from-apart, named-same}
 use Rattle.dir_compile.proofs.Members.{none-at, none-all, none-same}
-use Rattle.dir_compile.proofs.Groups.{IsTwiceFree, IsFaultFree, fault-free, free-compile}
+use Rattle.dir_compile.proofs.Groups.{IsTwiceFree, IsFaultFree, free-compile}
 
 -- a member of a mapped list
 pub Has-map : {A B : Type 0} (f : A → B) (xs : List A) (z : B) → Has (map f xs) z → (x : A) × Has xs x × (z ≡ f x)
@@ -32,11 +34,6 @@ map-ascending name f keeps (x ∷ xs) p = (
       subst (λ n. is_before n (name z) ≡ true) (sym (keeps x)) (subst (λ n. is_before (name x) n ≡ true) (sym (ap name m.2 ∙ keeps m.0)) (p.0 m.0 m.1)),
   map-ascending name f keeps xs p.1,
 )
-
--- a map that leaves each member leaves the list
-map-same : {A : Type 0} (f : A → A) (xs : List A) → ((x : A) → Has xs x → f x ≡ x) → map f xs ≡ xs
-map-same f [] h = refl
-map-same f (x ∷ xs) h = λ i. h x (inl refl) i ∷ map-same f xs (λ y k. h y (inr k)) i
 
 module _ (parts : Parts) (free : IsFaultFree parts) where
   apart-elements : IsApart element_name parts.elements
@@ -108,18 +105,18 @@ module _ (parts : Parts) (free : IsFaultFree parts) where
 
   same-item : (item : ItemDef) → item_faults (ordered_parts parts) item ≡ item_faults parts item
   same-item (Alone part) = same-part part
-  same-item (Composite code must) = ap (λ o. when (not (is_some o)) (UnknownComposite, code.octets)) (same-composite code.octets)
+  same-item (Composite code must) = ap (λ o. when (not (is_some o)) (fault_with UnknownComposite code.octets)) (same-composite code.octets)
 
   same-tag : (tag : Option Tag) → tag_faults (ordered_parts parts) tag ≡ tag_faults parts tag
   same-tag None = refl
-  same-tag (Some tag) = ap (λ o. when (not (is_some o) && not (is_service_tag tag.octets)) (UnknownSegment, tag.octets)) (same-segment tag.octets)
+  same-tag (Some tag) = ap (λ o. when (not (is_some o) && not (is_service_tag tag.octets)) (fault_with UnknownSegment tag.octets)) (same-segment tag.octets)
 
   ordered-lists : list_faults (ordered_parts parts) ≡ []
   unfolding ordered_parts
   ordered-lists = none-all _ _ (λ list h.
       let m = Has-map ordered_list (ascending_by list_name parts.lists) list h in
       let given = none-at (list_fault parts) parts.lists free.lists m.0 ((same-ascending_by list_name parts.lists).back m.0 m.1) in
-      ap (list_fault (ordered_parts parts)) m.2 ∙ ap (λ o. when (not (is_some o)) (UnknownElement, list_name m.0)) (same-element (list_name m.0)) ∙ given)
+      ap (list_fault (ordered_parts parts)) m.2 ∙ ap (λ o. when (not (is_some o)) (fault_with UnknownElement (list_name m.0))) (same-element (list_name m.0)) ∙ given)
 
   ordered-composites : composite_faults (ordered_parts parts) ≡ []
   unfolding ordered_parts
@@ -130,41 +127,33 @@ module _ (parts : Parts) (free : IsFaultFree parts) where
   ordered-segments : segment_faults (ordered_parts parts) ≡ []
   unfolding ordered_parts
   ordered-segments =
-      (λ i. flat_map (λ segment. when (is_service_tag (segment_name segment)) (Reserved, segment_name segment) ++ flat_map (λ item. same-item item i) segment.items) (ascending_by segment_name parts.segments))
+      (λ i. flat_map (λ segment. when (is_service_tag (segment_name segment)) (fault_with Reserved (segment_name segment)) ++ flat_map (λ item. same-item item i) segment.items) (ascending_by segment_name parts.segments))
       ∙ none-same (segment_fault parts) parts.segments _ (same-ascending_by segment_name parts.segments) free.segments
 
   ordered-messages : message_faults (ordered_parts parts) ≡ []
   unfolding ordered_parts
   ordered-messages =
-      (λ i. flat_map (λ message. when (bytes_eq (message_name message) (codes "CONTRL")) (Reserved, message_name message) ++ flat_map (λ row. same-tag row.tag i) message.rows ++ when (is_filled_with (table_faults message.rows)) (BadTable, message_name message)) (ascending_by message_name parts.messages))
+      (λ i. flat_map (λ message. when (bytes_eq (message_name message) (codes "CONTRL")) (fault_with Reserved (message_name message)) ++ flat_map (λ row. same-tag row.tag i) message.rows ++ when (is_filled_with (table_faults message.rows)) (fault_with BadTable (message_name message))) (ascending_by message_name parts.messages))
       ∙ none-same (message_fault parts) parts.messages _ (same-ascending_by message_name parts.messages) free.messages
 
   -- the ordered parts are in order
-  ordered-ordered : ordered_parts (ordered_parts parts) ≡ ordered_parts parts
+  pub ordered-in-order : IsInOrder (ordered_parts parts)
   unfolding ordered_parts
-  ordered-ordered = λ i. record {
-    version = parts.version;
-    release = parts.release;
-    agency = parts.agency;
-    elements = ascending_by-fixed element_name _ ascending-elements i;
-    lists = (ap (map ordered_list) (ascending_by-fixed list_name _ ascending-lists)
-        ∙ map-same ordered_list _ (λ list h. λ j. record list { values = ascending_by-fixed value_name list.values (ascending-codes list h) j })) i;
-    composites = ascending_by-fixed composite_name _ ascending-composites i;
-    segments = ascending_by-fixed segment_name _ ascending-segments i;
-    messages = ascending_by-fixed message_name _ ascending-messages i;
+  ordered-in-order = record {
+    elements = pairs-from-ascending element_name _ ascending-elements;
+    lists = pairs-from-ascending list_name _ ascending-lists;
+    codes = all-from-members _ _ (λ list h. pairs-from-ascending value_name list.values (ascending-codes list h));
+    composites = pairs-from-ascending composite_name _ ascending-composites;
+    segments = pairs-from-ascending segment_name _ ascending-segments;
+    messages = pairs-from-ascending message_name _ ascending-messages;
   }
 
--- parts without fault, put in order, are a directory
-pub directory-ordered : (parts : Parts) → compile_faults parts ≡ [] → IsDirectory (ordered_parts parts)
-directory-ordered parts none =
-    let free = fault-free parts none in
-    record {
-      lawful = free-compile (ordered_parts parts) (record {
-        twice = ordered-twice parts free;
-        lists = ordered-lists parts free;
-        composites = ordered-composites parts free;
-        segments = ordered-segments parts free;
-        messages = ordered-messages parts free;
-      });
-      ordered = ordered-ordered parts free;
-    }
+  -- and have no fault
+  pub ordered-faultless : compile_faults (ordered_parts parts) ≡ []
+  ordered-faultless = free-compile (ordered_parts parts) (record {
+    twice = ordered-twice;
+    lists = ordered-lists;
+    composites = ordered-composites;
+    segments = ordered-segments;
+    messages = ordered-messages;
+  })

@@ -7,6 +7,8 @@ pub mod Apart
 pub mod Members
 pub mod Groups
 pub mod Lawful
+pub mod Orders
+pub mod Formed
 pub mod Making
 pub mod Kept
 pub mod TableNames

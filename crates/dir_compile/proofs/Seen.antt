@@ -1,15 +1,15 @@
 -- A step of a set of the names before a place.
-use Rattle.std.proofs.Common.{◌≡◌, ℕ, ◌+◌, ◌<◌, Bool, true, false, not, ◌||◌, List, [], ◌∷◌, ◌++◌, length, get_or, take, map, Some, sym, ap, ◌∙◌, refl, subst, if◌then◌else◌, true≢false}
+use Rattle.std.proofs.Common.{◌≡◌, ℕ, ◌+◌, ◌<◌, Bool, true, false, not, ◌||◌, List, [], ◌∷◌, ◌++◌, ◌≤◌, length, get_or, take, map, Some, arith, sym, ap, ◌∙◌, refl, subst, if◌then◌else◌, true≢false}
 use Rattle.std.specs.List.{list_any}
 use Rattle.std.specs.Str.{bytes_eq}
-use Rattle.std.proofs.lemmas.List.{take_more, map_push}
+use Rattle.std.proofs.lemmas.List.{take_more, take_all, map_push, length-map, get_or-map}
 use Rattle.dir_compile.specs.declared.stop.CompileStop.{CompileStop}
 use Rattle.dir_compile.specs.declared.stop.CompileKind.TheVariants.{Twice}
 use Rattle.dir_compile.specs.Compile.{twice_in, value_name}
 use Rattle.dir_compile.specs.Judges.{IsFirstFault, first_of}
-use Rattle.dir_compile.specs.Stop.{IsStopAt}
+use Rattle.dir_compile.specs.Stop.{fault_with, IsStopAt}
 use Rattle.dir_compile.proofs.Faults.{first-stop}
-use Rattle.dir_compile.proofs.Twice.{twice_in-more, first_of-twice_in, list_any-flip}
+use Rattle.dir_compile.proofs.Twice.{twice_in-more, first_of-twice_in, list_any-flip, twice_in-map}
 
 -- a test of names that are seen by a view
 list_any-view : {K : Type 0} (view : K → List ℕ) (test : List ℕ → Bool) (keys : List K) → list_any (λ k. test (view k)) keys ≡ list_any test (map view keys)
@@ -42,8 +42,8 @@ module _ {K : Type 0} (view : K → List ℕ) (names : List (List ℕ)) (i : ℕ
   first-seen stop added answers old at =
       let there : list_any (λ x. bytes_eq x (view k)) (take i names) ≡ true = sym tested ∙ not-false _ (sym old ∙ answers) in
       let there' : list_any (λ x. bytes_eq x (get_or names i (view k))) (take i names) ≡ true = subst (λ n. list_any (λ x. bytes_eq x n) (take i names) ≡ true) seen.here there in
-      let first : first_of (twice_in value_name names) ≡ Some (Twice, get_or names i (view k)) = first_of-twice_in value_name names i (view k) seen.within seen.apart there' in
-      first-stop stop Twice (view k) (twice_in value_name names) at (first ∙ ap (λ n. Some (Twice, n)) (sym seen.here))
+      let first : first_of (twice_in value_name names) ≡ Some (fault_with Twice (get_or names i (view k))) = first_of-twice_in value_name names i (view k) seen.within seen.apart there' in
+      first-stop stop Twice (view k) (twice_in value_name names) at (first ∙ ap (λ n. Some (fault_with Twice n)) (sym seen.here))
 
   -- a name that is added stands behind those before it
   pub placed-seen : (added : Bool) (new : List K) → added ≡ not (list_any (λ y. bytes_eq (view k) (view y)) keys) → added ≡ true → new ≡ (if list_any (λ y. bytes_eq (view k) (view y)) keys then keys else keys ++ k ∷ []) → map view new ≡ take (i + 1) names
@@ -60,3 +60,23 @@ module _ {K : Type 0} (view : K → List ℕ) (names : List (List ℕ)) (i : ℕ
       let absent : list_any (λ x. bytes_eq x (view k)) (take i names) ≡ false = sym tested ∙ not-true _ (sym fresh ∙ answers) in
       let absent' : list_any (λ x. bytes_eq x (get_or names i (view k))) (take i names) ≡ false = subst (λ n. list_any (λ x. bytes_eq x n) (take i names) ≡ false) seen.here absent in
       twice_in-more value_name names i (view k) seen.within seen.apart absent'
+
+-- the same where the names are those of items
+pub seen-item : {A K : Type 0} (name : A → List ℕ) (view : K → List ℕ) (xs : List A) (i : ℕ) (keys : List K) (k : K) (x : A) → i < length xs → x ≡ get_or xs i x → view k ≡ name x → map view keys ≡ take i (map name xs) → twice_in value_name (take i (map name xs)) ≡ [] → IsSeenAt view (map name xs) i keys k
+seen-item name view xs i keys k x lt here is placed apart = record {
+  within = subst (λ n. i < n) (sym (length-map xs name)) lt;
+  here = is ∙ ap name here ∙ sym (get_or-map name xs i x (view k) lt);
+  placed = placed;
+  apart = apart;
+}
+
+pub first-item : {A : Type 0} (name : A → List ℕ) (xs : List A) (stop : CompileStop) → IsFirstFault stop (twice_in value_name (map name xs)) → IsFirstFault stop (twice_in name xs)
+first-item name xs stop h = subst (IsFirstFault stop) (twice_in-map name xs) h
+
+-- after the last item
+pub names-taken : {A : Type 0} (name : A → List ℕ) (xs : List A) (i : ℕ) → length xs ≤ i → take i (map name xs) ≡ map name xs
+names-taken name xs i le = take_all i (map name xs) (subst (λ n. n ≤ i) (sym (length-map xs name)) le)
+
+pub apart-items : {A : Type 0} (name : A → List ℕ) (xs : List A) (i : ℕ) → length xs ≤ i → twice_in value_name (take i (map name xs)) ≡ [] → twice_in name xs ≡ []
+apart-items name xs i le apart =
+    sym (twice_in-map name xs) ∙ ap (twice_in value_name) (sym (names-taken name xs i le)) ∙ apart

@@ -12,6 +12,7 @@ use Rattle.dir_compile.specs.declared.stop.CompileKind.{CompileKind}
 use Rattle.dir_compile.specs.declared.stop.CompileStop.{CompileStop}
 use Rattle.dir_compile.specs.declared.stop.CompileKind.TheVariants.{Twice}
 use Rattle.dir_compile.specs.Compile.{twice_in, value_name}
+use Rattle.dir_compile.specs.Stop.{PartsFault, fault_with}
 use Rattle.dir_compile.specs.Judges.{first_of, Judges}
 use Rattle.dir_compile.proofs.Faults.{nil-both, split_at, judges-same}
 
@@ -23,8 +24,8 @@ with_earlier_from-append earlier (x ∷ xs) ys =
     ∙ ap (λ l. with_earlier_from (earlier ++ x ∷ []) xs ++ with_earlier_from l ys) (append_assoc earlier (x ∷ []) xs))
 
 -- the fault of a member with those before it
-abbrev pub twice_fault : {A : Type 0} → (A → List ℕ) → List A × A → List (CompileKind × List ℕ)
-twice_fault name p = when (list_any (λ x. bytes_eq (name x) (name p.1)) p.0) (Twice, name p.1)
+abbrev pub twice_fault : {A : Type 0} → (A → List ℕ) → List A × A → List PartsFault
+twice_fault name p = when (list_any (λ x. bytes_eq (name x) (name p.1)) p.0) (fault_with Twice (name p.1))
 
 -- those of a list that goes on with x
 pub twice_in-middle : {A : Type 0} (name : A → List ℕ) (front : List A) (x : A) (back : List A) → twice_in name (front ++ x ∷ back) ≡ twice_in name front ++ (twice_fault name (front, x) ++ flat_map (twice_fault name) (with_earlier_from (front ++ x ∷ []) back))
@@ -39,17 +40,17 @@ twice_in-more name xs i d lt before apart =
     let front = take i xs in
     ap (twice_in name) (take_more xs i d lt) ∙ twice_in-middle name front x []
     ∙ nil-both (twice_in name front) (twice_fault name (front, x) ++ []) before
-    (append-nil (twice_fault name (front, x)) ∙ ap (λ b. when b (Twice, name x)) apart)
+    (append-nil (twice_fault name (front, x)) ∙ ap (λ b. when b (fault_with Twice (name x))) apart)
 
 -- the first that stands among those before it
-pub first_of-twice_in : {A : Type 0} (name : A → List ℕ) (xs : List A) (i : ℕ) (d : A) → i < length xs → twice_in name (take i xs) ≡ [] → list_any (λ x. bytes_eq (name x) (name (get_or xs i d))) (take i xs) ≡ true → first_of (twice_in name xs) ≡ Some (Twice, name (get_or xs i d))
+pub first_of-twice_in : {A : Type 0} (name : A → List ℕ) (xs : List A) (i : ℕ) (d : A) → i < length xs → twice_in name (take i xs) ≡ [] → list_any (λ x. bytes_eq (name x) (name (get_or xs i d))) (take i xs) ≡ true → first_of (twice_in name xs) ≡ Some (fault_with Twice (name (get_or xs i d)))
 first_of-twice_in name xs i d lt before there =
     let x = get_or xs i d in
     let front = take i xs in
     let rest = flat_map (twice_fault name) (with_earlier_from (front ++ x ∷ []) (drop (i + 1) xs)) in
     let parts : twice_in name xs ≡ twice_in name front ++ (twice_fault name (front, x) ++ rest) =
     ap (twice_in name) (split_at xs i d lt) ∙ twice_in-middle name front x (drop (i + 1) xs) in
-    ap first_of parts ∙ ap (λ l. first_of (l ++ (twice_fault name (front, x) ++ rest))) before ∙ ap (λ b. first_of (when b (Twice, name x) ++ rest)) there
+    ap first_of parts ∙ ap (λ l. first_of (l ++ (twice_fault name (front, x) ++ rest))) before ∙ ap (λ b. first_of (when b (fault_with Twice (name x)) ++ rest)) there
 
 -- the test that a set makes
 pub list_any-flip : (xs : List (List ℕ)) (y : List ℕ) → list_any (bytes_eq y) xs ≡ list_any (λ x. bytes_eq x y) xs
@@ -64,15 +65,8 @@ list_any-map name test (x ∷ xs) = ap (λ b. test (name x) || b) (list_any-map 
 twice_in-map-from : {A : Type 0} (name : A → List ℕ) (earlier xs : List A) → flat_map (twice_fault value_name) (with_earlier_from (map name earlier) (map name xs)) ≡ flat_map (twice_fault name) (with_earlier_from earlier xs)
 twice_in-map-from name earlier [] = refl
 twice_in-map-from name earlier (x ∷ xs) =
-    (λ i. when (list_any-map name (λ n. bytes_eq n (name x)) earlier i) (Twice, name x) ++ flat_map (twice_fault value_name) (with_earlier_from (sym (map_push name earlier x) i) (map name xs)))
-    ∙ ap (λ l. when (list_any (λ y. bytes_eq (name y) (name x)) earlier) (Twice, name x) ++ l) (twice_in-map-from name (earlier ++ x ∷ []) xs)
+    (λ i. when (list_any-map name (λ n. bytes_eq n (name x)) earlier i) (fault_with Twice (name x)) ++ flat_map (twice_fault value_name) (with_earlier_from (sym (map_push name earlier x) i) (map name xs)))
+    ∙ ap (λ l. when (list_any (λ y. bytes_eq (name y) (name x)) earlier) (fault_with Twice (name x)) ++ l) (twice_in-map-from name (earlier ++ x ∷ []) xs)
 
 pub twice_in-map : {A : Type 0} (name : A → List ℕ) (xs : List A) → twice_in value_name (map name xs) ≡ twice_in name xs
 twice_in-map name xs = twice_in-map-from name [] xs
-
--- names that are those of definitions are judged as these are
-pub judged-names : {A T : Type 0} (name : A → List ℕ) (xs : List A) (r : Result T CompileStop) (names : List (List ℕ)) → names ≡ map name xs → Judges r (twice_in value_name names) → Judges r (twice_in name xs)
-judged-names name xs r names e h = judges-same r _ _ (ap (twice_in value_name) e ∙ twice_in-map name xs) h
-
-pub placed-names : {A T : Type 0} (keys : T → List (List ℕ)) (name : A → List ℕ) (xs : List A) (r : Result T CompileStop) (names : List (List ℕ)) → names ≡ map name xs → IfOk r (λ set. keys set ≡ names) → IfOk r (λ set. keys set ≡ map name xs)
-placed-names keys name xs r names e h = IfOk-weaker r _ _ (λ set p. p ∙ e) h

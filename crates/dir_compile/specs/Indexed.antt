@@ -1,5 +1,5 @@
 -- What the fields of a directory keep.
-use Rattle.std.specs.Prelude.{◌≡◌, ◌<◌, All, length, map}
+use Rattle.std.specs.Prelude.{◌≡◌, map}
 use Rattle.collision_check.specs.Listed.{collision_seen}
 use Rattle.edi_tables.specs.Collisions.{collisions_of}
 use Rattle.dir_compile.specs.declared.directory.Directory.TheInside.{Inside}
@@ -9,8 +9,6 @@ use Rattle.dir_compile.specs.Directory.{IsDirectory, tables_of}
 -- its parts are a directory's, each name stands at the place of its definition, and the tables and their collisions are the parts'
 pub record IsIndexed (d : Inside) : Type 0 where
   pub lawful : IsDirectory d.parts
-  pub few : length d.parts.messages < 4000000000
-  pub named : All (λ m. length m.name ≡ 6) d.parts.messages
   pub lists : d.lists.keys ≡ map list_name d.parts.lists
   pub composites : d.composites.keys ≡ map composite_name d.parts.composites
   pub segments : d.segments.keys ≡ map segment_name d.parts.segments

@@ -2,7 +2,10 @@ pub mod Ascending
 pub mod Compile
 pub mod CompileKind
 pub mod Directory
-pub mod Judges
-pub mod Stop
-pub mod Names
+pub mod Forms
+pub mod InOrder
 pub mod Indexed
+pub mod Judges
+pub mod Names
+pub mod Ordered
+pub mod Stop

@@ -1,8 +1,12 @@
 //! A directory from its parts.
-ghost use Rattle.std.specs.Prelude.{◌≡◌, ◌<◌, All, length};
+ghost use Rattle.std.specs.Prelude.{◌≡◌, ◌<◌, IfOk, length};
+ghost use Rattle.edi_tables.specs.First.{Answers};
 ghost use Rattle.dir_compile.specs.Compile.{compile_faults};
-ghost use Rattle.dir_compile.specs.Directory.{Compiles, directory_of};
+ghost use Rattle.dir_compile.specs.Directory.{directory_of};
+ghost use Rattle.dir_compile.specs.Forms.{HasForms};
 ghost use Rattle.dir_compile.specs.Judges.{Judges};
+ghost use Rattle.dir_compile.specs.Ordered.{IsOrdered};
+ghost use Rattle.dir_compile.specs.Stop.{fault_in};
 
 use crate::judge::{judge_composites, judge_lists, judge_messages, judge_segments};
 use crate::names::Names;
@@ -10,11 +14,12 @@ use crate::order::ordered;
 use crate::{CompileStop, Directory, Parts};
 use std::alloc::Global;
 
-/// The directory of these parts, where they break no rule; else their first fault. Message names have six octets.
+/// The directory of these parts, where they break no rule; else their first fault.
 pub fn compile(alloc: Global, parts: Parts) -> Result<Directory, CompileStop>
     requires few { length parts.messages < 4000000000 }
-    requires named { All (λ m. length m.name ≡ 6) parts.messages }
-    ensures { Compiles result (directory_of parts) }
+    requires forms { HasForms parts }
+    ensures answers { Answers (λ directory. directory) fault_in result (directory_of parts) }
+    ensures ordered { IfOk result (IsOrdered parts) }
 {
     judge(alloc, &parts)?;
     Directory::of(alloc, ordered(alloc, parts))
@@ -22,7 +27,7 @@ pub fn compile(alloc: Global, parts: Parts) -> Result<Directory, CompileStop>
 
 /// Finds the first fault of the parts.
 fn judge(alloc: Global, parts: &Parts) -> Result<(), CompileStop>
-    requires { All (λ m. length m.name ≡ 6) parts.now.messages }
+    requires { HasForms parts.now }
     ensures { Judges result (compile_faults parts.now) }
 {
     let names = Names::of(alloc, parts)?;

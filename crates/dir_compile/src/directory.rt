@@ -17,7 +17,7 @@ ghost use Rattle.dir_compile.specs.Directory.{
   tables_of,
 };
 
-use crate::names::{index_composites, index_lists, index_messages, index_segments, six_octets};
+use crate::names::{index, octets_of};
 use crate::{CompileStop, Parts};
 use collision_check::{Collision, list_collisions};
 use edi_tables::{
@@ -55,18 +55,16 @@ impl Model for Directory {
 }
 
 impl Directory {
-    /// The directory of parts that have no fault and stand in order.
+    /// The directory of these parts.
     pub(crate) fn of(alloc: Global, parts: Parts) -> Result<Directory, CompileStop>
-        requires lawful { IsDirectory parts }
-        requires few { length parts.messages < 4000000000 }
-        requires named { All (λ m. length m.name ≡ 6) parts.messages }
+        requires { IsDirectory parts }
         ensures ok { IfOk result (λ directory. directory ≡ parts) }
         ensures err { IfErr result IsMemory }
     {
-        let lists = index_lists(alloc, parts.lists.items())?;
-        let composites = index_composites(alloc, parts.composites.items())?;
-        let segments = index_segments(alloc, parts.segments.items())?;
-        let messages = index_messages(alloc, parts.messages.items())?;
+        let lists = index(alloc, parts.lists.items())?;
+        let composites = index(alloc, parts.composites.items())?;
+        let segments = index(alloc, parts.segments.items())?;
+        let messages = index(alloc, parts.messages.items())?;
         let tables = build_tables(alloc, parts.messages.items())?;
         let collisions = find_collisions(alloc, &tables)?;
         Ok(Directory {
@@ -80,9 +78,10 @@ impl Directory {
         })
     }
 
-    /// Its parts, in ascending order.
+    /// Its parts, which have their forms, no fault, and ascending order.
     pub fn parts(&self) -> &Parts
-        ensures { result.now ≡ self.now }
+        ensures parts { result.now ≡ self.now }
+        ensures directory { IsDirectory self.now }
     {
         &self.parts
     }
@@ -116,7 +115,7 @@ impl Directory {
         if name.len() != 6 {
             return None;
         }
-        messages.get_index_of(&six_octets(name))
+        messages.get_index_of(&octets_of::<6>(name))
     }
 
     /// Whether its messages are of this version, release and agency.

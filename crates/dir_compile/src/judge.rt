@@ -4,6 +4,7 @@ ghost use Rattle.std.specs.List.{flat_map};
 ghost use Rattle.std.specs.Option.{option_copied};
 ghost use Rattle.edi_tables.specs.Rows.{table_faults, when};
 ghost use Rattle.dir_compile.specs.Judges.{Judges};
+ghost use Rattle.dir_compile.specs.Stop.{fault_with};
 ghost use Rattle.dir_compile.specs.Names.{IsNamesOf};
 ghost use Rattle.dir_compile.specs.Compile.{
   element_name,
@@ -222,7 +223,7 @@ fn judge_message(
 }
 
 fn judge_table(alloc: Global, name: &[u8], rows: &[TableRow]) -> Result<(), CompileStop>
-    ensures { Judges result (when (is_filled_with (table_faults rows.now)) (CompileKind.BadTable, name.now)) }
+    ensures { Judges result (when (is_filled_with (table_faults rows.now)) (fault_with CompileKind.BadTable name.now)) }
 {
     match Table::build(alloc, rows) {
         Ok(_) => Ok(()),

@@ -1,6 +1,7 @@
 //! The names of definitions, found by hash.
-ghost use Rattle.std.specs.Prelude.{◌≡◌, All, IfOk, length, map};
+ghost use Rattle.std.specs.Prelude.{◌≡◌, List, ℕ, All, IfOk, length, map};
 ghost use Rattle.std.specs.List.{flat_map};
+ghost use Rattle.dir_compile.specs.Forms.{HasForms};
 ghost use Rattle.dir_compile.specs.Judges.{Judges};
 ghost use Rattle.dir_compile.specs.Compile.{
   twice_in,
@@ -19,31 +20,100 @@ use edi_tables::{Chunk, CodeList, CompositeDef, ElementDef, MessageDef, SegmentD
 use indexmap::IndexSet;
 use std::alloc::Global;
 
-/// The names, each found at its place in the list, where none stands twice; else the first that stands among those before it.
-pub fn index_names<const N: usize>(
+/// Something that has a name: a definition, or a code of a list, which is its own name.
+pub trait Named {
+    ghost name_of: { Self → List ℕ };
+
+    /// The octets of its name.
+    fn name(&self) -> &[u8]
+        ensures { result.now ≡ name_of self.now };
+}
+
+impl Named for ElementDef {
+    ghost name_of = { element_name };
+
+    fn name(&self) -> &[u8] {
+        &self.code.octets
+    }
+}
+
+impl Named for CodeList {
+    ghost name_of = { list_name };
+
+    fn name(&self) -> &[u8] {
+        &self.element.octets
+    }
+}
+
+impl Named for CompositeDef {
+    ghost name_of = { composite_name };
+
+    fn name(&self) -> &[u8] {
+        &self.code.octets
+    }
+}
+
+impl Named for SegmentDef {
+    ghost name_of = { segment_name };
+
+    fn name(&self) -> &[u8] {
+        &self.tag.octets
+    }
+}
+
+impl Named for MessageDef {
+    ghost name_of = { message_name };
+
+    fn name(&self) -> &[u8] {
+        self.name.octets()
+    }
+}
+
+impl Named for Chunk {
+    ghost name_of = { value_name };
+
+    fn name(&self) -> &[u8] {
+        self.octets()
+    }
+}
+
+/// The names, each at the place of its definition, where none comes twice; else the first that equals one before it.
+pub fn index<T: Named, const N: usize>(
     alloc: Global,
-    names: &[[u8; N]],
+    items: &[T],
 ) -> Result<IndexSet<[u8; N]>, CompileStop>
-    ensures judged { Judges result (twice_in value_name names.now) }
-    ensures placed { IfOk result (λ set. set.keys ≡ names.now) }
+    requires { All (λ x. length (T.name_of x) ≡ N) items.now }
+    ensures judged { Judges result (twice_in T.name_of items.now) }
+    ensures placed { IfOk result (λ set. set.keys ≡ map T.name_of items.now) }
 {
-    let mut set = IndexSet::with_capacity(alloc, names.len())?;
-    for name in names {
-        let added = set.insert(*name)?;
+    let mut set = IndexSet::with_capacity(alloc, items.len())?;
+    for item in items {
+        let name = octets_of(item.name());
+        let added = set.insert(name)?;
         if !added {
-            return Err(fault(alloc, CompileKind::Twice, name));
+            return Err(fault(alloc, CompileKind::Twice, &name));
         }
     }
     Ok(set)
 }
 
-/// Finds the first code of a list that stands among those before it.
-pub fn judge_codes(alloc: Global, codes: &[Chunk]) -> Result<(), CompileStop>
-    ensures { Judges result (twice_in value_name codes.now) }
+/// These octets, of which there are as many as the array holds.
+pub fn octets_of<const N: usize>(name: &[u8]) -> [u8; N]
+    requires { length name.now ≡ N }
+    ensures { result ≡ name.now }
 {
-    let mut seen = IndexSet::with_capacity(alloc, codes.len())?;
-    for code in codes {
-        let name = code.octets();
+    let mut octets = [0; N];
+    octets.copy_from_slice(name);
+    octets
+}
+
+/// Finds the first name that equals one before it.
+pub fn judge_names<T: Named>(alloc: Global, items: &[T]) -> Result<(), CompileStop>
+    ensures { Judges result (twice_in T.name_of items.now) }
+{
+    let mut seen = IndexSet::with_capacity(alloc, items.len())?;
+    for item in items {
+        let name = item.name();
         let added = seen.insert(name)?;
         if !added {
             return Err(fault(alloc, CompileKind::Twice, name));
@@ -65,18 +135,18 @@ pub struct Names {
 impl Names {
     ghost use Rattle.dir_compile.specs.Names.{IsNamesOf};
 
-    /// The names of these parts where none stands twice, else the first that does.
+    /// The names of these parts where none comes twice, else the first that does.
     pub fn of(alloc: Global, parts: &Parts) -> Result<Names, CompileStop>
-        requires { All (λ m. length m.name ≡ 6) parts.now.messages }
+        requires { HasForms parts.now }
         ensures judged { Judges result (twice_faults parts.now) }
         ensures placed { IfOk result (λ names. IsNamesOf names parts.now) }
     {
-        let elements = index_elements(alloc, parts.elements.items())?;
-        let lists = index_lists(alloc, parts.lists.items())?;
-        judge_lists(alloc, parts.lists.items())?;
-        let composites = index_composites(alloc, parts.composites.items())?;
-        let segments = index_segments(alloc, parts.segments.items())?;
-        let messages = index_messages(alloc, parts.messages.items())?;
+        let elements = index(alloc, parts.elements.items())?;
+        let lists = index(alloc, parts.lists.items())?;
+        judge_codes(alloc, parts.lists.items())?;
+        let composites = index(alloc, parts.composites.items())?;
+        let segments = index(alloc, parts.segments.items())?;
+        let messages = index(alloc, parts.messages.items())?;
         Ok(Names {
             elements,
             lists,
@@ -87,87 +157,12 @@ impl Names {
     }
 }
 
-fn index_elements(alloc: Global, elements: &[ElementDef]) -> Result<IndexSet<[u8; 4]>, CompileStop>
-    ensures judged { Judges result (twice_in element_name elements.now) }
-    ensures placed { IfOk result (λ set. set.keys ≡ map element_name elements.now) }
-{
-    let mut names = Vec::with_capacity(alloc, elements.len())?;
-    for element in elements {
-        names.push(element.code.octets)?;
-    }
-    index_names(alloc, &names)
-}
-
-pub fn index_lists(alloc: Global, lists: &[CodeList]) -> Result<IndexSet<[u8; 4]>, CompileStop>
-    ensures judged { Judges result (twice_in list_name lists.now) }
-    ensures placed { IfOk result (λ set. set.keys ≡ map list_name lists.now) }
-{
-    let mut names = Vec::with_capacity(alloc, lists.len())?;
-    for list in lists {
-        names.push(list.element.octets)?;
-    }
-    index_names(alloc, &names)
-}
-
-pub fn index_composites(
-    alloc: Global,
-    composites: &[CompositeDef],
-) -> Result<IndexSet<[u8; 4]>, CompileStop>
-    ensures judged { Judges result (twice_in composite_name composites.now) }
-    ensures placed { IfOk result (λ set. set.keys ≡ map composite_name composites.now) }
-{
-    let mut names = Vec::with_capacity(alloc, composites.len())?;
-    for composite in composites {
-        names.push(composite.code.octets)?;
-    }
-    index_names(alloc, &names)
-}
-
-pub fn index_segments(
-    alloc: Global,
-    segments: &[SegmentDef],
-) -> Result<IndexSet<[u8; 3]>, CompileStop>
-    ensures judged { Judges result (twice_in segment_name segments.now) }
-    ensures placed { IfOk result (λ set. set.keys ≡ map segment_name segments.now) }
-{
-    let mut names = Vec::with_capacity(alloc, segments.len())?;
-    for segment in segments {
-        names.push(segment.tag.octets)?;
-    }
-    index_names(alloc, &names)
-}
-
-pub fn index_messages(
-    alloc: Global,
-    messages: &[MessageDef],
-) -> Result<IndexSet<[u8; 6]>, CompileStop>
-    requires { All (λ m. length m.name ≡ 6) messages.now }
-    ensures judged { Judges result (twice_in message_name messages.now) }
-    ensures placed { IfOk result (λ set. set.keys ≡ map message_name messages.now) }
-{
-    let mut names = Vec::with_capacity(alloc, messages.len())?;
-    for message in messages {
-        names.push(six_octets(message.name.octets()))?;
-    }
-    index_names(alloc, &names)
-}
-
-/// Six octets, as a name of a message has them.
-pub fn six_octets(name: &[u8]) -> [u8; 6]
-    requires { length name.now ≡ 6 }
-    ensures { result ≡ name.now }
-{
-    let mut six = [0; 6];
-    six.copy_from_slice(name);
-    six
-}
-
-/// Finds the first code that stands twice in a list.
-fn judge_lists(alloc: Global, lists: &[CodeList]) -> Result<(), CompileStop>
+/// Finds the first code that comes twice in a list.
+fn judge_codes(alloc: Global, lists: &[CodeList]) -> Result<(), CompileStop>
     ensures { Judges result (flat_map (λ list. twice_in value_name list.values) lists.now) }
 {
     for list in lists {
-        judge_codes(alloc, list.values.items())?;
+        judge_names(alloc, list.values.items())?;
     }
     Ok(())
 }

@@ -1,21 +1,12 @@
 //! Definitions in ascending octet order of their names.
 ghost use Rattle.std.specs.Prelude.{◌≡◌, [], map};
 ghost use Rattle.std.specs.List.{flat_map};
-ghost use Rattle.dir_compile.specs.Ascending.{ascending_by};
-ghost use Rattle.dir_compile.specs.Compile.{
-  twice_in,
-  twice_faults,
-  value_name,
-  element_name,
-  list_name,
-  composite_name,
-  segment_name,
-  message_name,
-};
-ghost use Rattle.dir_compile.specs.Directory.{ordered_list, ordered_parts};
+ghost use Rattle.dir_compile.specs.Compile.{list_name, twice_in, twice_faults, value_name};
+ghost use Rattle.dir_compile.specs.InOrder.{ascending_by, ordered_list, ordered_parts};
 
 use crate::Parts;
-use edi_tables::{Chunk, CodeList, CompositeDef, ElementDef, List, MessageDef, SegmentDef};
+use crate::names::Named;
+use edi_tables::{CodeList, List};
 use std::alloc::Global;
 use std::mem;
 
@@ -38,47 +29,20 @@ pub fn ordered(alloc: Global, parts: Parts) -> Parts
         version,
         release,
         agency,
-        elements: ordered_elements(elements),
+        elements: ascending(elements),
         lists: ordered_lists(alloc, lists),
-        composites: ordered_composites(composites),
-        segments: ordered_segments(segments),
-        messages: ordered_messages(messages),
+        composites: ascending(composites),
+        segments: ascending(segments),
+        messages: ascending(messages),
     }
 }
 
-fn ordered_elements(elements: List<ElementDef>) -> List<ElementDef>
-    requires { twice_in element_name elements ≡ [] }
-    ensures { result ≡ ascending_by element_name elements }
+fn ascending<T: Named>(list: List<T>) -> List<T>
+    requires { twice_in T.name_of list ≡ [] }
+    ensures { result ≡ ascending_by T.name_of list }
 {
-    let mut items = elements.into_items();
-    items.sort_unstable_by(|a, b| a.code.octets.cmp(&b.code.octets));
-    List::of(items)
-}
-
-fn ordered_composites(composites: List<CompositeDef>) -> List<CompositeDef>
-    requires { twice_in composite_name composites ≡ [] }
-    ensures { result ≡ ascending_by composite_name composites }
-{
-    let mut items = composites.into_items();
-    items.sort_unstable_by(|a, b| a.code.octets.cmp(&b.code.octets));
-    List::of(items)
-}
-
-fn ordered_segments(segments: List<SegmentDef>) -> List<SegmentDef>
-    requires { twice_in segment_name segments ≡ [] }
-    ensures { result ≡ ascending_by segment_name segments }
-{
-    let mut items = segments.into_items();
-    items.sort_unstable_by(|a, b| a.tag.octets.cmp(&b.tag.octets));
-    List::of(items)
-}
-
-fn ordered_messages(messages: List<MessageDef>) -> List<MessageDef>
-    requires { twice_in message_name messages ≡ [] }
-    ensures { result ≡ ascending_by message_name messages }
-{
-    let mut items = messages.into_items();
-    items.sort_unstable_by(|a, b| a.name.octets().cmp(&b.name.octets()));
+    let mut items = list.into_items();
+    items.sort_unstable_by(|a, b| a.name().cmp(&b.name()));
     List::of(items)
 }
 
@@ -87,8 +51,7 @@ fn ordered_lists(alloc: Global, lists: List<CodeList>) -> List<CodeList>
     requires coded { flat_map (λ list. twice_in value_name list.values) lists ≡ [] }
     ensures { result ≡ map ordered_list (ascending_by list_name lists) }
 {
-    let mut items = lists.into_items();
-    items.sort_unstable_by(|a, b| a.element.octets.cmp(&b.element.octets));
+    let mut items = ascending(lists).into_items();
     order_each(alloc, &mut items);
     List::of(items)
 }
@@ -100,15 +63,6 @@ fn order_each(alloc: Global, lists: &mut [CodeList])
 {
     for list in lists.iter_mut() {
         let values = mem::replace(&mut list.values, List::of(Vec::new(alloc)));
-        list.values = ordered_codes(values);
+        list.values = ascending(values);
     }
-}
-
-fn ordered_codes(codes: List<Chunk>) -> List<Chunk>
-    requires { twice_in value_name codes ≡ [] }
-    ensures { result ≡ ascending_by value_name codes }
-{
-    let mut items = codes.into_items();
-    items.sort_unstable_by(|a, b| a.octets().cmp(&b.octets()));
-    List::of(items)
 }

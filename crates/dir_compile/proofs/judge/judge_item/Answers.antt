@@ -1,6 +1,7 @@
 use Rattle.std.proofs.Common.{◌≡◌, [], ◌∙◌, sym, subst}
 use Rattle.dir_compile.specs.declared.stop.CompileKind.TheVariants.{UnknownComposite}
 use Rattle.dir_compile.specs.Compile.{composite_name, item_faults}
+use Rattle.dir_compile.specs.Stop.{fault_with}
 use Rattle.dir_compile.specs.Judges.{IsFirstFault}
 use Rattle.dir_compile.proofs.Faults.{first-when, when-held, not-at}
 use Rattle.dir_compile.proofs.Named.{contains-named}
@@ -12,7 +13,7 @@ returns-then-contains c =
     let known = contains-named composite_name c.args.parts.now.composites code.octets _ c.requires.composites in
     let there = not-at _ _ (sym c.if-contains.true ∙ c.contains.ensures ∙ known) in
     subst (λ item. item_faults c.args.parts.now item ≡ []) (sym c.in-Composite.is)
-    (when-held _ (UnknownComposite, code.octets) there)
+    (when-held _ (fault_with UnknownComposite code.octets) there)
 
 pub returns-else-contains : goal.returns-else-contains
 returns-else-contains c =

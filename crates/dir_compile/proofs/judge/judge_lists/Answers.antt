@@ -1,5 +1,6 @@
 use Rattle.std.proofs.Common.{◌∙◌, sym, arith}
 use Rattle.dir_compile.specs.declared.stop.CompileKind.TheVariants.{UnknownElement}
+use Rattle.dir_compile.specs.Stop.{fault_with}
 use Rattle.dir_compile.specs.Compile.{element_name, list_fault}
 use Rattle.dir_compile.proofs.Faults.{first-when, when-held, not-at, first_there_in, none_more_in}
 use Rattle.dir_compile.proofs.Named.{contains-named}
@@ -19,4 +20,4 @@ loop-list-preserved c =
     let known = contains-named element_name c.args.parts.now.elements list.element.octets _ c.requires.elements in
     let there = not-at _ _ (sym c.if-not-contains.false ∙ c.contains.ensures ∙ known) in
     none_more_in (list_fault c.args.parts.now) c.args.parts.now.lists _ _ list c.items-list-items.ensures (omega arith) c.list-item.is c.loop-list.invariant
-    (when-held _ (UnknownElement, list.element.octets) there)
+    (when-held _ (fault_with UnknownElement list.element.octets) there)

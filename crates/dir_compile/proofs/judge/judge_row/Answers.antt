@@ -1,6 +1,7 @@
 use Rattle.std.proofs.Common.{◌≡◌, [], ◌∙◌, ◌&&◌, not, is_some, sym, ap, subst}
 use Rattle.dir_compile.specs.declared.stop.CompileKind.TheVariants.{UnknownSegment}
 use Rattle.dir_compile.specs.Compile.{segment_name, tag_faults, is_service_tag}
+use Rattle.dir_compile.specs.Stop.{fault_with}
 use Rattle.dir_compile.specs.Judges.{IsFirstFault}
 use Rattle.dir_compile.proofs.Faults.{first-when, when-held, not-at}
 use Rattle.dir_compile.proofs.Named.{contains-named}
@@ -12,7 +13,7 @@ returns-then-contains c =
     let known = contains-named segment_name c.args.parts.now.segments tag.octets _ c.requires.segments in
     let there = not-at _ _ (sym c.if-contains.true ∙ c.contains.ensures ∙ known) in
     subst (λ t. tag_faults c.args.parts.now t ≡ []) (sym c.in-Some.is)
-    (when-held _ (UnknownSegment, tag.octets) (ap (λ b. b && not (is_service_tag tag.octets)) there))
+    (when-held _ (fault_with UnknownSegment tag.octets) (ap (λ b. b && not (is_service_tag tag.octets)) there))
 
 pub returns-in-None : goal.returns-in-None
 returns-in-None c =

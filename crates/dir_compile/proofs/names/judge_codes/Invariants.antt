@@ -1,9 +1,7 @@
-use Rattle.std.proofs.Common.{◌≡◌, [], take, map}
+use Rattle.std.proofs.Common.{◌≡◌, [], take}
+use Rattle.std.specs.List.{flat_map}
 use Rattle.dir_compile.specs.Compile.{twice_in, value_name}
 use Rattle.dir_compile.proofs.names.judge_codes.Given as goal
 
-abbrev pub invariant-loop-code : goal.invariant-loop-code
-invariant-loop-code l = record {
-  placed : map (λ s. s.now) l.seen.keys ≡ take l.code-index l.codes;
-  apart : twice_in value_name (take l.code-index l.codes) ≡ [];
-}
+abbrev pub invariant-loop-list : goal.invariant-loop-list
+invariant-loop-list l = flat_map (λ list. twice_in value_name list.values) (take l.list-index l.lists) ≡ []

@@ -1,12 +1,11 @@
 use Rattle.std.proofs.Common.{◌<◌, ◌∙◌, length, set, ap, arith}
-use Rattle.dir_compile.specs.Ascending.{ascending_by}
+use Rattle.dir_compile.specs.InOrder.{ascending_by, ordered_list}
 use Rattle.dir_compile.specs.Compile.{twice_in, value_name}
-use Rattle.dir_compile.specs.Directory.{ordered_list}
 use Rattle.dir_compile.proofs.Members.{none-place, mapped-get, mapped-set}
 use Rattle.dir_compile.proofs.order.order_each.Goals as goal
 
-pub ordered_codes-requires : goal.ordered_codes-requires
-ordered_codes-requires c =
+pub ascending-requires : goal.ascending-requires
+ascending-requires c =
     let i = c.loop-list.list-index in
     let lt : i < length c.args.lists.now = omega arith in
     let here = mapped-get ordered_list c.args.lists.now c.loop-list.lists i c.list-item.result lt c.loop-list.invariant in
@@ -18,6 +17,6 @@ loop-list-preserved c =
     let i = c.loop-list.list-index in
     let lt : i < length c.args.lists.now = omega arith in
     let here = mapped-get ordered_list c.args.lists.now c.loop-list.lists i c.list-item.result lt c.loop-list.invariant in
-    let codes = c.ordered_codes.ensures ∙ ap (ascending_by value_name) (c.replace-values.ensures.value ∙ ap (λ l. l.values) here) in
+    let codes = c.ascending.ensures ∙ ap (ascending_by value_name) (c.replace-values.ensures.value ∙ ap (λ l. l.values) here) in
     (λ j. set c.loop-list.lists i (record { element = (here j).element; values = codes j }))
     ∙ mapped-set ordered_list c.args.lists.now c.loop-list.lists i c.list-item.result lt c.loop-list.invariant

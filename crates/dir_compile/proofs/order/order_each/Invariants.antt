@@ -1,5 +1,5 @@
 use Rattle.std.proofs.Common.{◌≡◌, ◌++◌, map, take, drop}
-use Rattle.dir_compile.specs.Directory.{ordered_list}
+use Rattle.dir_compile.specs.InOrder.{ordered_list}
 use Rattle.dir_compile.proofs.order.order_each.Given as goal
 
 abbrev pub invariant-loop-list : goal.invariant-loop-list

@@ -10,7 +10,7 @@ use Rattle.edi_tables.specs.First.{Answers, unless_faulty}
 use Rattle.edi_octets.specs.DirStop.{fault_in}
 use Rattle.edi_octets.specs.Profile.{with_earlier}
 use Rattle.edi_octets.proofs.TurnLemmas.{fault-turn}
-use Rattle.dir_lists.proofs.AnswerLemmas.{first_from_err, Answers-stopped}
+use Rattle.edi_octets.proofs.AnswerLemmas.{first_from_err, Answers-stopped}
 
 module _ {A B C : Type 0} (view : A → B) where
   -- what is made of each, once x has come

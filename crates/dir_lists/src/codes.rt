@@ -1,6 +1,7 @@
 //! Code files.
-ghost use Rattle.std.specs.Prelude.{◌≡◌, ◌≤◌, ◌&&◌, nat_le, List, [], ◌∷◌, ◌++◌, length, map, OnOk};
-ghost use Rattle.std.specs.List.{flat_map};
+ghost use Rattle.std.specs.Prelude.{◌≡◌, ◌≤◌, ◌&&◌, nat_le, List, [], ◌∷◌, ◌++◌, length, map, true, IfOk, OnOk};
+ghost use Rattle.std.specs.List.{list_all, flat_map};
+ghost use Rattle.edi_tables.specs.Forms.{is_list_formed};
 ghost use Rattle.edi_tables.specs.First.{Answers, unless_faulty};
 ghost use Rattle.edi_octets.specs.DirStop.{fault_in};
 ghost use Rattle.edi_octets.specs.Head.{head_field, is_code_and_name};
@@ -20,7 +21,8 @@ use std::alloc::{AllocError, Global};
 /// line that is neither text nor a code, `twice` at a code that its entry has already.
 pub fn read_codes(alloc: Global, file: &[u8]) -> Result<Vec<CodeList>, DirStop>
     requires { length file.now ≤ 4194304 }
-    ensures { Answers (λ lists. lists.items) fault_in result (codes.codes_in file.now) }
+    ensures answers { Answers (λ lists. lists.items) fault_in result (codes.codes_in file.now) }
+    ensures formed { IfOk result (λ lists. list_all is_list_formed lists.items ≡ true) }
 {
     let mut lists = Vec::new(alloc);
     let mut seen = Seen::new(alloc);

@@ -1,6 +1,7 @@
 //! Element files.
-ghost use Rattle.std.specs.Prelude.{◌≡◌, ◌≤◌, Option, List, [], ◌∷◌, ◌++◌, length, map, is_some, OnOk};
-ghost use Rattle.std.specs.List.{list_any, flat_map};
+ghost use Rattle.std.specs.Prelude.{◌≡◌, ◌≤◌, Option, List, [], ◌∷◌, ◌++◌, length, map, is_some, true, IfOk, OnOk};
+ghost use Rattle.std.specs.List.{list_all, list_any, flat_map};
+ghost use Rattle.edi_tables.specs.Forms.{is_element_formed};
 ghost use Rattle.edi_tables.specs.First.{Answers, unless_faulty};
 ghost use Rattle.edi_octets.specs.DirStop.{fault_in};
 ghost use Rattle.edi_octets.specs.Head.{head_field};
@@ -20,7 +21,8 @@ use std::alloc::{AllocError, Global};
 /// `bad-repr` at a `Repr:` line without a representation, `no-repr` at the head of an entry without one.
 pub fn read_elements(alloc: Global, file: &[u8]) -> Result<Vec<ElementDef>, DirStop>
     requires { length file.now ≤ 4194304 }
-    ensures { Answers (λ elements. elements.items) fault_in result (elements_in file.now) }
+    ensures answers { Answers (λ elements. elements.items) fault_in result (elements_in file.now) }
+    ensures formed { IfOk result (λ elements. list_all is_element_formed elements.items ≡ true) }
 {
     let mut elements = Vec::new(alloc);
     let mut seen = Seen::new(alloc);

@@ -1,10 +1,11 @@
 -- Digits and the numbers that they give.
-use Rattle.std.proofs.Common.{◌≡◌, ℕ, ◌+◌, ◌-◌, ◌*◌, ◌^◌, ◌<◌, ◌≤◌, true, ◌&&◌, List, length, get_or, take, refl, arith, le-leb, Some}
-use Rattle.std.specs.Char.{is_ascii_digit}
+use Rattle.std.proofs.Common.{◌≡◌, ◌≢◌, ℕ, ◌+◌, ◌-◌, ◌*◌, ◌^◌, ◌<◌, ◌≤◌, true, ◌&&◌, List, [], ◌∷◌, length, get_or, take, refl, ap, arith, le-leb, pow-suc, Some}
+use Rattle.std.proofs.Math.Nat.{mul-le-mul_left}
+use Rattle.std.specs.Char.{is_ascii_digit, digit_value}
 use Rattle.std.specs.Int.{IsInRange}
 use Rattle.std.specs.List.{list_all}
 use Rattle.std.specs.Str.{all_ascii_digits}
-use Rattle.std.specs.Str.Parse.{digits_value}
+use Rattle.std.specs.Str.Parse.{digits_value, digits_value_after}
 use Rattle.std.proofs.lemmas.Int.Digits.{digits_value_more}
 use Rattle.std.proofs.lemmas.List.Recursion.{same_from_clauses}
 use Rattle.std.proofs.lemmas.Str.{digit_value_digit}
@@ -38,3 +39,17 @@ digits_value-fits xs i digits le =
 -- 1 to 19 digits give their number
 pub decimal_in-value : (xs : List ℕ) → 1 ≤ length xs → length xs ≤ 19 → all_ascii_digits xs ≡ true → decimal_in xs ≡ Some (digits_value 10 xs)
 decimal_in-value xs some few digits = rw (le-leb 1 (length xs) some, le-leb (length xs) 19 few, digits) refl
+
+value_after : (n : ℕ) (digits : List ℕ) → n * 10 ^ length digits ≤ digits_value_after 10 n digits
+value_after n [] = omega arith
+value_after n (x ∷ digits) = let more = value_after (n * 10 + digit_value x) digits in omega (arith, more, ap (λ power. n * power) (pow-suc 10 (length digits)))
+
+above_zero : (x : ℕ) → IsInRange 48 57 x → x ≢ 48 → 1 ≤ x - 48
+above_zero x between first = omega arith
+
+-- digits of which the first isn't zero give at least the power of ten of that length
+pub digits_value-least : (x : ℕ) (digits : List ℕ) → all_ascii_digits (x ∷ digits) ≡ true → x ≢ 48 → 10 ^ length digits ≤ digits_value 10 (x ∷ digits)
+digits_value-least x digits all first =
+    let between = digit_between (x ∷ digits) 0 all (omega arith) in
+    let some : 1 ≤ digit_value x = omega (arith, digit_value_digit x between, above_zero x between first) in
+    omega (arith, mul-le-mul_left (10 ^ length digits) some, value_after (0 + digit_value x) digits)

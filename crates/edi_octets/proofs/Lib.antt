@@ -1,9 +1,12 @@
+pub mod AnswerLemmas
 pub mod CellLemmas
 pub mod DecimalLemmas
+pub mod EachLemmas
 pub mod EarlierLemmas
 pub mod EntryLemmas
 pub mod HeadLemmas
 pub mod LineLemmas
+pub mod PlainLemmas
 pub mod ProfileLemmas
 pub mod SplitLemmas
 pub mod TurnLemmas

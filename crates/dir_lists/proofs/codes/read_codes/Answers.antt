@@ -6,7 +6,8 @@ use Rattle.edi_octets.specs.Lines.{lines_of}
 use Rattle.edi_octets.specs.Profile.{entries_of}
 use Rattle.edi_octets.proofs.TurnLemmas.{judged-turn, rest-end}
 use Rattle.dir_lists.specs.Codes.{codes_in, list_faults, list_of}
-use Rattle.dir_lists.proofs.AnswerLemmas.{none_from_ok, Answers-handed_on}
+use Rattle.edi_octets.proofs.AnswerLemmas.{none_from_ok, Answers-handed_on}
+use Rattle.dir_lists.proofs.FormLemmas.{codes_in-formed}
 use Rattle.dir_lists.proofs.LoopLemmas.{map-turn, stopped-turn}
 use Rattle.dir_lists.proofs.codes.read_codes.Goals as goal
 
@@ -23,9 +24,9 @@ loop-entry-preserved c =
       lists = pushed ∙ rw (c.loop-entry.invariant.lists, judged.1) (sym (map-turn entry_shown list_of seen entry));
     }
 
-pub returns-in_err-list : goal.returns-in_err-list
+pub returns-in_err-list-clause-answers : goal.returns-in_err-list-clause-answers
 unfolding codes_in
-returns-in_err-list c =
+returns-in_err-list-clause-answers c =
     let seen = c.loop-entry.yielded in
     let entry = c.in-Some.entry in
     let earlier = map entry_shown seen in
@@ -40,4 +41,5 @@ pub returns : goal.returns
 unfolding codes_in
 returns c =
     let all = sym (ap entries_left c.into_iter-entry-iterator.ensures.into_iter_gives ∙ c.of-entry-items.ensures.entries) ∙ rest-end entry_shown entries_left c.into_iter-entry-iterator.result c.loop-entry.yielded c.loop-entry.entry-iterator c.loop-entry.yielded_by c.in-None.ensures.steps.0 in
-    rw (all, c.loop-entry.invariant.none) (ap Ok (sym c.loop-entry.invariant.lists))
+    let answers : codes_in c.args.file.now ≡ Ok c.loop-entry.lists.items = rw (all, c.loop-entry.invariant.none) (ap Ok (sym c.loop-entry.invariant.lists)) in
+    record { answers = answers; formed = codes_in-formed c.args.file.now c.loop-entry.lists.items answers }

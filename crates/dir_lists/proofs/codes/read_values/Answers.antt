@@ -4,7 +4,7 @@ use Rattle.std.proofs.lemmas.Result.{err_from_is_err_and}
 use Rattle.edi_octets.specs.Left.{line_shown, body_left}
 use Rattle.edi_octets.proofs.TurnLemmas.{judged-turn, rest-end}
 use Rattle.dir_lists.specs.Codes.{body_faults, values_of}
-use Rattle.dir_lists.proofs.AnswerLemmas.{none_from_ok, Answers-handed_on}
+use Rattle.edi_octets.proofs.AnswerLemmas.{none_from_ok, Answers-handed_on}
 use Rattle.dir_lists.proofs.CodeLemmas.{values_of-append}
 use Rattle.dir_lists.proofs.LoopLemmas.{stopped-turn}
 use Rattle.dir_lists.proofs.codes.read_values.Goals as goal

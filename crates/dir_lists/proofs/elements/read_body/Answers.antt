@@ -7,7 +7,7 @@ use Rattle.edi_octets.specs.Left.{line_shown, body_left}
 use Rattle.edi_octets.specs.Profile.{with_earlier}
 use Rattle.edi_octets.proofs.TurnLemmas.{judged-turn, rest-end}
 use Rattle.dir_lists.specs.Elements.{body_faults, end_faults, repr_of_entry}
-use Rattle.dir_lists.proofs.AnswerLemmas.{none_from_ok, unless_faulty-front, Answers-stopped, Answers-handed_on}
+use Rattle.edi_octets.proofs.AnswerLemmas.{none_from_ok, unless_faulty-front, Answers-stopped, Answers-handed_on}
 use Rattle.dir_lists.proofs.ElementLemmas.{entry-end, found-turn}
 use Rattle.dir_lists.proofs.LoopLemmas.{stopped-turn}
 use Rattle.dir_lists.proofs.elements.read_body.Goals as goal

@@ -7,7 +7,8 @@ use Rattle.edi_octets.specs.Lines.{lines_of}
 use Rattle.edi_octets.specs.Profile.{entries_of}
 use Rattle.edi_octets.proofs.TurnLemmas.{judged-turn, rest-end}
 use Rattle.dir_lists.specs.Elements.{elements_in, element_faults, element_of}
-use Rattle.dir_lists.proofs.AnswerLemmas.{none_from_ok, Answers-handed_on}
+use Rattle.edi_octets.proofs.AnswerLemmas.{none_from_ok, Answers-handed_on}
+use Rattle.dir_lists.proofs.FormLemmas.{elements_in-formed}
 use Rattle.dir_lists.proofs.LoopLemmas.{map-turn, filter_map-turn, stopped-turn}
 use Rattle.dir_lists.proofs.elements.read_elements.Goals as goal
 
@@ -24,9 +25,9 @@ loop-entry-preserved c =
       elements = pushed ∙ rw c.loop-entry.invariant.elements (sym (filter_map-turn entry_shown element_of seen entry c.in_ok-element.element (sym judged.1)));
     }
 
-pub returns-in_err-element : goal.returns-in_err-element
+pub returns-in_err-element-clause-answers : goal.returns-in_err-element-clause-answers
 unfolding elements_in
-returns-in_err-element c =
+returns-in_err-element-clause-answers c =
     let seen = c.loop-entry.yielded in
     let entry = c.in-Some.entry in
     let earlier = map entry_shown seen in
@@ -41,4 +42,5 @@ pub returns : goal.returns
 unfolding elements_in
 returns c =
     let all = sym (ap entries_left c.into_iter-entry-iterator.ensures.into_iter_gives ∙ c.of-entry-items.ensures.entries) ∙ rest-end entry_shown entries_left c.into_iter-entry-iterator.result c.loop-entry.yielded c.loop-entry.entry-iterator c.loop-entry.yielded_by c.in-None.ensures.steps.0 in
-    rw (all, c.loop-entry.invariant.none) (ap Ok (sym c.loop-entry.invariant.elements))
+    let answers : elements_in c.args.file.now ≡ Ok c.loop-entry.elements.items = rw (all, c.loop-entry.invariant.none) (ap Ok (sym c.loop-entry.invariant.elements)) in
+    record { answers = answers; formed = elements_in-formed c.args.file.now c.loop-entry.elements.items answers }

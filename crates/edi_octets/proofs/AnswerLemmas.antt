@@ -1,5 +1,6 @@
 -- What is answered for a part, and for the whole that the part begins.
 use Rattle.std.proofs.Common.{◌≡◌, List, [], ◌∷◌, ◌++◌, Result, Ok, Err, refl}
+use Rattle.std.specs.Result.{IfOk}
 use Rattle.edi_octets.specs.declared.fault.DirFault.{DirFault}
 use Rattle.edi_octets.specs.declared.fault.DirStop.{DirStop}
 use Rattle.edi_octets.specs.declared.fault.DirStop.TheVariants.{Fault, Memory}
@@ -35,3 +36,8 @@ Answers-stopped view shown Memory part whole leads given = tt
 pub Answers-handed_on : {Y B : Type 0} (shown : Y → B) (answer : Result Y DirStop) (stop : DirStop) (file : Result B DirFault) → (handed : DirStop) × (answer ≡ Err handed) × (handed ≡ stop) → Answers (λ (b : B). b) fault_in (Err stop) file → Answers shown fault_in answer file
 Answers-handed_on shown answer stop file p given =
     rw (p.1, p.2) (Answers-stopped (λ b. b) shown stop file file (λ fault is. is) given)
+
+-- what holds of all that is due holds of what is answered
+pub IfOk-answered : {X Y : Type 0} (view : X → Y) (P : Y → Type 0) (answer : Result X DirStop) (due : Result Y DirFault) → ((y : Y) → due ≡ Ok y → P y) → Answers view fault_in answer due → IfOk answer (λ x. P (view x))
+IfOk-answered view P (Ok x) due sound given = sound (view x) given
+IfOk-answered view P (Err stop) due sound given = tt

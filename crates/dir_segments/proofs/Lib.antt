@@ -1,4 +1,5 @@
 pub mod FieldLemmas
+pub mod FormLemmas
 pub mod FrontLemmas
 pub mod ItemLemmas
 pub mod KnownLemmas

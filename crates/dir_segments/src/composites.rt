@@ -1,8 +1,9 @@
 //! Composite files.
-ghost use Rattle.std.specs.Prelude.{◌≡◌, ◌≤◌, List, [], ◌∷◌, ◌++◌, length, map, OnOk};
-ghost use Rattle.std.specs.List.{flat_map};
+ghost use Rattle.std.specs.Prelude.{◌≡◌, ◌≤◌, List, [], ◌∷◌, ◌++◌, length, map, true, IfOk, OnOk};
+ghost use Rattle.std.specs.List.{list_all, flat_map};
 ghost use Rattle.std.specs.HashSet.{contains};
 ghost use Rattle.std.specs.Str.{bytes_eq};
+ghost use Rattle.edi_tables.specs.Forms.{is_composite_formed};
 ghost use Rattle.edi_tables.specs.First.{Answers, unless_faulty};
 ghost use Rattle.edi_octets.specs.DirStop.{fault_in};
 ghost use Rattle.edi_octets.specs.Left.{line_shown, body_left, entry_shown};
@@ -26,7 +27,8 @@ use std::collections::HashSet;
 /// `bad-repr` at a part line, `bad-line` at the head of an entry with no part or more than 99.
 pub fn read_composites(alloc: Global, file: &[u8]) -> Result<Vec<CompositeDef>, DirStop>
     requires { length file.now ≤ 4194304 }
-    ensures { Answers (λ found. found.items) fault_in result (composites.composites_in file.now) }
+    ensures answers { Answers (λ found. found.items) fault_in result (composites.composites_in file.now) }
+    ensures formed { IfOk result (λ found. list_all is_composite_formed found.items ≡ true) }
 {
     let mut found = Vec::new(alloc);
     let mut seen = HashSet::new(alloc);

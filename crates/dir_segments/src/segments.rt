@@ -1,7 +1,9 @@
 //! Segment files.
-ghost use Rattle.std.specs.Prelude.{◌≡◌, ◌≤◌, List, [], ◌∷◌, ◌++◌, length, map, OnOk};
+ghost use Rattle.std.specs.Prelude.{◌≡◌, ◌≤◌, List, [], ◌∷◌, ◌++◌, length, map, true, IfOk, OnOk};
+ghost use Rattle.std.specs.List.{list_all};
 ghost use Rattle.std.specs.HashSet.{contains};
 ghost use Rattle.std.specs.Str.{bytes_eq};
+ghost use Rattle.edi_tables.specs.Forms.{is_segment_formed};
 ghost use Rattle.edi_tables.specs.First.{Answers, unless_faulty};
 ghost use Rattle.edi_octets.specs.DirStop.{fault_in};
 ghost use Rattle.edi_octets.specs.Left.{line_shown, body_left, entry_shown};
@@ -32,7 +34,8 @@ pub fn read_segments(
     known: &[CompositeDef],
 ) -> Result<Vec<SegmentDef>, DirStop>
     requires { length file.now ≤ 4194304 }
-    ensures { Answers (λ found. found.items) fault_in result (segments.segments_in known.now file.now) }
+    ensures answers { Answers (λ found. found.items) fault_in result (segments.segments_in known.now file.now) }
+    ensures formed { IfOk result (λ found. list_all is_segment_formed found.items ≡ true) }
 {
     let composites = KnownComposites::new(alloc, known)?;
     let mut found = Vec::new(alloc);

@@ -1,4 +1,4 @@
-use Rattle.std.proofs.Common.{map, Vec, Global, refl}
+use Rattle.std.proofs.Common.{◌≡◌, Ok, map, Vec, Global, refl}
 use Rattle.std.specs.HashSet.{contains}
 use Rattle.std.specs.Str.{bytes_eq}
 use Rattle.std.proofs.lemmas.Result.{err_from_is_err_and}
@@ -7,13 +7,14 @@ use Rattle.edi_octets.specs.Left.{entry_shown, entries_left}
 use Rattle.edi_octets.specs.Lines.{lines_of}
 use Rattle.edi_octets.specs.Profile.{entries_of}
 use Rattle.dir_segments.specs.Composites.{composite_faults, composite_of, composites_in}
+use Rattle.dir_segments.proofs.FormLemmas.{composites_in-formed}
 use Rattle.dir_segments.proofs.FrontLemmas.{entries_more, entries_stop, entries_all}
 use Rattle.dir_segments.proofs.StopLemmas.{no_faults, value_given}
 use Rattle.dir_segments.proofs.composites.read_composites.Goals as goal
 
-pub returns-in_err-composite : goal.returns-in_err-composite
+pub returns-in_err-composite-clause-answers : goal.returns-in_err-composite-clause-answers
 unfolding composites_in
-returns-in_err-composite c =
+returns-in_err-composite-clause-answers c =
     let err = err_from_is_err_and c.from_residual.result c.from_residual.ensures.1 in
     let all = entries_of (lines_of c.args.file.now) in
     let read = c.loop-entry.invariant in
@@ -36,4 +37,5 @@ unfolding composites_in
 returns c =
     let all = entries_of (lines_of c.args.file.now) in
     let whole = entries_all composite_faults composite_of all (entries_left c.loop-entry.entry-iterator) (contains bytes_eq c.loop-entry.seen) c.loop-entry.found.items c.loop-entry.invariant c.in-None.ensures.steps.0 in
-    rw (whole.0, whole.1) refl
+    let answers : composites_in c.args.file.now ≡ Ok c.loop-entry.found.items = rw (whole.0, whole.1) refl in
+    record { answers = answers; formed = composites_in-formed c.args.file.now c.loop-entry.found.items answers }

@@ -1,4 +1,4 @@
-use Rattle.std.proofs.Common.{List, map, Vec, Global, Ok, Err, subst, refl}
+use Rattle.std.proofs.Common.{◌≡◌, List, map, Vec, Global, Ok, Err, subst, refl}
 use Rattle.std.specs.HashSet.{contains}
 use Rattle.std.specs.Str.{bytes_eq}
 use Rattle.std.proofs.lemmas.Result.{err_from_is_err_and}
@@ -10,13 +10,14 @@ use Rattle.edi_octets.specs.Left.{entry_shown, entries_left}
 use Rattle.edi_octets.specs.Lines.{lines_of}
 use Rattle.edi_octets.specs.Profile.{entries_of}
 use Rattle.dir_segments.specs.Segments.{segment_faults, segment_of, segments_in}
+use Rattle.dir_segments.proofs.FormLemmas.{segments_in-formed}
 use Rattle.dir_segments.proofs.FrontLemmas.{entries_more, entries_stop, entries_all}
 use Rattle.dir_segments.proofs.StopLemmas.{no_faults, value_given}
 use Rattle.dir_segments.proofs.segments.read_segments.Goals as goal
 
-pub returns-in_err-segment : goal.returns-in_err-segment
+pub returns-in_err-segment-clause-answers : goal.returns-in_err-segment-clause-answers
 unfolding segments_in
-returns-in_err-segment c =
+returns-in_err-segment-clause-answers c =
     let err = err_from_is_err_and c.from_residual-in_err-segment.result c.from_residual-in_err-segment.ensures.1 in
     let all = entries_of (lines_of c.args.file.now) in
     let read = c.loop-entry.invariant in
@@ -45,4 +46,5 @@ unfolding segments_in
 returns c =
     let all = entries_of (lines_of c.args.file.now) in
     let whole = entries_all (segment_faults c.args.known.now) segment_of all (entries_left c.loop-entry.entry-iterator) (contains bytes_eq c.loop-entry.seen) c.loop-entry.found.items c.loop-entry.invariant c.in-None.ensures.steps.0 in
-    rw (whole.0, whole.1) refl
+    let answers : segments_in c.args.known.now c.args.file.now ≡ Ok c.loop-entry.found.items = rw (whole.0, whole.1) refl in
+    record { answers = answers; formed = segments_in-formed c.args.known.now c.args.file.now c.loop-entry.found.items answers }

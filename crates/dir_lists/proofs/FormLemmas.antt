@@ -1,16 +1,16 @@
 -- What element and code files give is formed.
-use Rattle.std.proofs.Common.{◌≡◌, ℕ, Bool, true, not, ◌==◌, ◌&&◌, nat_le, Option, Some, None, Ok, List, [], ◌∷◌, ◌++◌, length, get_or, map, filter, refl, sym, ◌∙◌}
+use Rattle.std.proofs.Common.{◌≡◌, ℕ, true, Option, Some, None, Ok, List, [], ◌∷◌, ◌++◌, get_or, map, filter, refl, sym, ◌∙◌}
 use Rattle.std.specs.List.{All, AllPass, list_all, flat_map, filter_map}
 use Rattle.std.proofs.lemmas.Bool.{and_parts}
-use Rattle.std.proofs.lemmas.List.Elements.{All-map, All-filter, All-tail, All-weaker, filter_passes}
+use Rattle.std.proofs.lemmas.List.Elements.{All-map, All-filter, All-tail, filter_passes}
 use Rattle.std.proofs.lemmas.List.Sums.{list_all-from_AllPass}
 use Rattle.edi_tables.specs.declared.element.Repr.{Repr}
 use Rattle.edi_tables.specs.declared.element.ElementDef.{ElementDef}
 use Rattle.edi_tables.specs.declared.element.CodeList.{CodeList}
 use Rattle.edi_tables.specs.Forms.{is_element_code, is_code_value, is_repr_formed, is_element_formed, is_list_formed}
 use Rattle.edi_octets.specs.Lines.{Line, lines_of}
-use Rattle.edi_octets.specs.Profile.{fields_of, indentation_of, first_field, entries_of, repr_in, with_earlier}
-use Rattle.edi_octets.specs.Head.{is_code_and_name, head_faults, head_field, code_of}
+use Rattle.edi_octets.specs.Profile.{fields_of, first_field, entries_of, with_earlier}
+use Rattle.edi_octets.specs.Head.{is_code_and_name, head_faults, head_field}
 use Rattle.edi_octets.proofs.AnswerLemmas.{none_from_ok}
 use Rattle.edi_octets.proofs.EachLemmas.{passes_if_made, nothing-append, passes-filter_map, All-judged}
 use Rattle.edi_octets.proofs.HeadLemmas.{head_faults-code, is_code_and_name-parts}

@@ -22,7 +22,7 @@ use std::alloc::{AllocError, Global};
 pub fn read_codes(alloc: Global, file: &[u8]) -> Result<Vec<CodeList>, DirStop>
     requires { length file.now ≤ 4194304 }
     ensures answers { Answers (λ lists. lists.items) fault_in result (codes.codes_in file.now) }
-    ensures formed { IfOk result (λ lists. list_all is_list_formed lists.items ≡ true) }
+    ensures forms { IfOk result (λ lists. list_all is_list_formed lists.items ≡ true) }
 {
     let mut lists = Vec::new(alloc);
     let mut seen = Seen::new(alloc);

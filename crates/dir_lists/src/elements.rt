@@ -22,7 +22,7 @@ use std::alloc::{AllocError, Global};
 pub fn read_elements(alloc: Global, file: &[u8]) -> Result<Vec<ElementDef>, DirStop>
     requires { length file.now ≤ 4194304 }
     ensures answers { Answers (λ elements. elements.items) fault_in result (elements_in file.now) }
-    ensures formed { IfOk result (λ elements. list_all is_element_formed elements.items ≡ true) }
+    ensures forms { IfOk result (λ elements. list_all is_element_formed elements.items ≡ true) }
 {
     let mut elements = Vec::new(alloc);
     let mut seen = Seen::new(alloc);

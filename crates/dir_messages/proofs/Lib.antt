@@ -1,6 +1,7 @@
 pub mod CountLemmas
 pub mod DrawingLemmas
 pub mod FinishLemmas
+pub mod FormLemmas
 pub mod PartLemmas
 pub mod ReaderLemmas
 pub mod StatusLemmas

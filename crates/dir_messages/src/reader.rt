@@ -1,5 +1,6 @@
 //! Reading a drawn message file.
-ghost use Rattle.std.specs.Prelude.{◌≡◌, ◌≤◌, Some, length};
+ghost use Rattle.std.specs.Prelude.{◌≡◌, ◌≤◌, Some, true, length, IfOk};
+ghost use Rattle.edi_tables.specs.Forms.{is_message_formed};
 ghost use Rattle.edi_tables.specs.First.{Answers};
 ghost use Rattle.edi_octets.specs.DirStop.{fault_in};
 ghost use Rattle.edi_octets.specs.Left.{lines_left};
@@ -18,7 +19,8 @@ use std::alloc::Global;
 /// lines draw the rows, which have to be a segment table. Memory is taken for the rows alone.
 pub fn read_message(alloc: Global, file: &[u8]) -> Result<MessageDef, DirStop>
     requires { length file.now ≤ 4194304 }
-    ensures { Answers (λ m. m) fault_in result (message_in file.now) }
+    ensures answers { Answers (λ m. m) fault_in result (message_in file.now) }
+    ensures forms { IfOk result (λ m. is_message_formed m ≡ true) }
 {
     let mut lines = Lines::of(file);
     let mut count = 0;

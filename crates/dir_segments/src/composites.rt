@@ -28,7 +28,7 @@ use std::collections::HashSet;
 pub fn read_composites(alloc: Global, file: &[u8]) -> Result<Vec<CompositeDef>, DirStop>
     requires { length file.now ≤ 4194304 }
     ensures answers { Answers (λ found. found.items) fault_in result (composites.composites_in file.now) }
-    ensures formed { IfOk result (λ found. list_all is_composite_formed found.items ≡ true) }
+    ensures forms { IfOk result (λ found. list_all is_composite_formed found.items ≡ true) }
 {
     let mut found = Vec::new(alloc);
     let mut seen = HashSet::new(alloc);

@@ -35,7 +35,7 @@ pub fn read_segments(
 ) -> Result<Vec<SegmentDef>, DirStop>
     requires { length file.now ≤ 4194304 }
     ensures answers { Answers (λ found. found.items) fault_in result (segments.segments_in known.now file.now) }
-    ensures formed { IfOk result (λ found. list_all is_segment_formed found.items ≡ true) }
+    ensures forms { IfOk result (λ found. list_all is_segment_formed found.items ≡ true) }
 {
     let composites = KnownComposites::new(alloc, known)?;
     let mut found = Vec::new(alloc);

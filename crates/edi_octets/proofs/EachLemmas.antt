@@ -1,6 +1,6 @@
 -- What holds of each member of a list.
-use Rattle.std.proofs.Common.{◌≡◌, ◌<◌, ℕ, Bool, true, false, Option, Some, None, is_some, List, [], ◌∷◌, ◌++◌, length, refl, ap, ◌∙◌, arith, ⊎_elim, suc}
-use Rattle.std.specs.List.{All, AllPass, slice_split, onto_first, flat_map, filter_map, cons_option, list_all}
+use Rattle.std.proofs.Common.{◌≡◌, Bool, true, false, Option, Some, None, is_some, List, [], ◌∷◌, ◌++◌, length, refl, ap, ◌∙◌, arith, ⊎_elim, suc}
+use Rattle.std.specs.List.{All, AllPass, slice_split, onto_first, flat_map, filter_map, cons_option}
 use Rattle.std.proofs.lemmas.Bool.{cases_Bool}
 use Rattle.std.proofs.lemmas.List.Elements.{All-cons, All-head, All-tail}
 use Rattle.edi_octets.specs.Profile.{with_earlier, with_earlier_from}

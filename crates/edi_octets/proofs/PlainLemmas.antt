@@ -1,6 +1,6 @@
 -- Lines have no LF, and fields no space either.
-use Rattle.std.proofs.Common.{◌≡◌, ◌-◌, ◌+◌, ℕ, Bool, true, false, not, ◌==◌, ◌&&◌, if◌then◌else◌, Option, Some, None, List, [], ◌∷◌, length, take, drop, map, filter, slice_index, refl, sym, ◌∙◌, ⊎_elim}
-use Rattle.std.specs.List.{All, AllPass, slice_split, list_all}
+use Rattle.std.proofs.Common.{◌≡◌, ◌-◌, ◌+◌, ℕ, Bool, true, false, not, ◌==◌, ◌&&◌, if◌then◌else◌, List, [], ◌∷◌, length, take, drop, map, filter, slice_index, refl, ⊎_elim}
+use Rattle.std.specs.List.{All, AllPass, slice_split}
 use Rattle.std.proofs.lemmas.Bool.{cases_Bool}
 use Rattle.std.proofs.lemmas.List.Elements.{All-cons, All-head, All-tail, All-take, All-drop, All-map, All-filter, All-weaker, filter_passes}
 use Rattle.edi_octets.specs.Lines.{Line, is_filled, without_return, line_octets, numbered_from, lines_from, lines_of, cells_of}

@@ -43,4 +43,4 @@ unfolding elements_in
 returns c =
     let all = sym (ap entries_left c.into_iter-entry-iterator.ensures.into_iter_gives ∙ c.of-entry-items.ensures.entries) ∙ rest-end entry_shown entries_left c.into_iter-entry-iterator.result c.loop-entry.yielded c.loop-entry.entry-iterator c.loop-entry.yielded_by c.in-None.ensures.steps.0 in
     let answers : elements_in c.args.file.now ≡ Ok c.loop-entry.elements.items = rw (all, c.loop-entry.invariant.none) (ap Ok (sym c.loop-entry.invariant.elements)) in
-    record { answers = answers; formed = elements_in-formed c.args.file.now c.loop-entry.elements.items answers }
+    record { answers = answers; forms = elements_in-formed c.args.file.now c.loop-entry.elements.items answers }

@@ -47,4 +47,4 @@ returns c =
     let all = entries_of (lines_of c.args.file.now) in
     let whole = entries_all (segment_faults c.args.known.now) segment_of all (entries_left c.loop-entry.entry-iterator) (contains bytes_eq c.loop-entry.seen) c.loop-entry.found.items c.loop-entry.invariant c.in-None.ensures.steps.0 in
     let answers : segments_in c.args.known.now c.args.file.now ≡ Ok c.loop-entry.found.items = rw (whole.0, whole.1) refl in
-    record { answers = answers; formed = segments_in-formed c.args.known.now c.args.file.now c.loop-entry.found.items answers }
+    record { answers = answers; forms = segments_in-formed c.args.known.now c.args.file.now c.loop-entry.found.items answers }

@@ -1,3 +1,4 @@
 pub mod Heights
 pub mod Parts
+pub mod Stacks
 mod Worked

@@ -1,3 +1,4 @@
 pub mod Shape
 pub mod Tree
 pub mod Seq
+pub mod Walk

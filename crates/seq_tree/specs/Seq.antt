@@ -1,7 +1,6 @@
 use Rattle.std.specs.Prelude.{ℕ, Option, Some, None, List, []}
-use Rattle.std.specs.declared.rc.Rc.{Rc}
 
 -- the items of a sequence: none, or those of its tree
-abbrev pub root_items : {T A : Type 0} → Option (Rc (List T × ℕ) A) → List T
+abbrev pub root_items : {T : Type 0} → Option (List T × ℕ) → List T
 root_items None = []
-root_items (Some root) = root.value.0
+root_items (Some root) = root.0

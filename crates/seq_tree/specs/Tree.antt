@@ -5,8 +5,8 @@ use Rattle.seq_tree.specs.Shape.{IsBalancedPair, FillsHeight}
 
 -- the items of a node from left to right, where a side is known by its items and its height
 abbrev pub items : {T : Type 0} → Node T → List T
-items (Leaf x) = x ∷ []
-items (Fork left left_len left_total right) = left.value.0 ++ right.value.0
+items (Leaf item) = item.value ∷ []
+items (Fork sides) = sides.value.left.0 ++ sides.value.right.0
 
 -- n items that weigh w in all, fewer than 2 to the power 32, none above 4294967295, and enough for a tree of height h
 pub record Counts {T : Type 0} (measure : T → ℕ) (xs : List T) (h n w : ℕ) : Type 0 where
@@ -16,11 +16,8 @@ pub record Counts {T : Type 0} (measure : T → ℕ) (xs : List T) (h n w : ℕ)
   pub bound : w ≤ 4294967295 * n
   pub enough : FillsHeight h n
 
--- a leaf has height 0; a fork is balanced, a level above its higher side, and knows the length and total of its left side
-abbrev pub HasSides : {T : Type 0} → (T → ℕ) → Node T → ℕ → Type 0
-HasSides measure (Leaf x) height = height ≡ 0
-HasSides measure (Fork left left_len left_total right) height =
-    (height ≡ max left.value.1 right.value.1 + 1)
-    × (left_len ≡ length left.value.0)
-    × (left_total ≡ sum_by measure left.value.0)
-    × IsBalancedPair left.value.1 right.value.1
+-- a leaf has height 0; a fork is balanced, and a level above its higher side
+abbrev pub HasSides : {T : Type 0} → Node T → ℕ → Type 0
+HasSides (Leaf item) height = height ≡ 0
+HasSides (Fork sides) height =
+    (height ≡ max sides.value.left.1 sides.value.right.1 + 1) × IsBalancedPair sides.value.left.1 sides.value.right.1

@@ -6,65 +6,66 @@ ghost use Rattle.seq_tree.specs.Shape.{IsJoinHeight};
 use crate::measure::Measured;
 use crate::tree::{Node, Tree};
 use std::alloc::{AllocError, Global};
-use std::rc::Rc;
 
 /// The items of `left` and then those of `right`, whatever the two heights are.
 pub(crate) fn join<T: Measured>(
     alloc: Global,
-    left: &Rc<Tree<T>>,
-    right: &Rc<Tree<T>>,
-) -> Result<Rc<Tree<T>>, AllocError>
-    requires fits { length left.now.value.0 + length right.now.value.0 < 2 ^ 32 }
-    ensures items { IfOk result (λ t. t.value.0 ≡ left.now.value.0 ++ right.now.value.0) }
-    ensures height { IfOk result (λ t. IsJoinHeight left.now.value.1 right.now.value.1 t.value.1) }
+    left: &Tree<T>,
+    right: &Tree<T>,
+) -> Result<Tree<T>, AllocError>
+    requires fits { length left.now.0 + length right.now.0 < 2 ^ 32 }
+    ensures items { IfOk result (λ t. t.0 ≡ left.now.0 ++ right.now.0) }
+    ensures height { IfOk result (λ t. IsJoinHeight left.now.1 right.now.1 t.1) }
 {
     if left.height() > right.height() + 1 {
-        let open: &Tree<T> = left;
-        return match &open.node {
+        return match &left.node {
             Node::Leaf(_) => unreachable!(),
-            Node::Fork(outer, _, _, inner) => lean_right(alloc, outer, &join(alloc, inner, right)?),
+            Node::Fork(sides) => {
+                let inner = join(alloc, &sides.right, right)?;
+                lean_right(alloc, &sides.left, &inner)
+            }
         };
     }
     if right.height() > left.height() + 1 {
-        let open: &Tree<T> = right;
-        return match &open.node {
+        return match &right.node {
             Node::Leaf(_) => unreachable!(),
-            Node::Fork(inner, _, _, outer) => lean_left(alloc, &join(alloc, left, inner)?, outer),
+            Node::Fork(sides) => {
+                let inner = join(alloc, left, &sides.left)?;
+                lean_left(alloc, &inner, &sides.right)
+            }
         };
     }
-    Tree::fork(alloc, left.clone()?, right.clone()?)
+    Tree::fork(alloc, left.share()?, right.share()?)
 }
 
 /// The two sides under one fork, or turned where the right side is two levels higher.
 fn lean_right<T: Measured>(
     alloc: Global,
-    left: &Rc<Tree<T>>,
-    right: &Rc<Tree<T>>,
-) -> Result<Rc<Tree<T>>, AllocError>
-    requires fits { length left.now.value.0 + length right.now.value.0 < 2 ^ 32 }
-    requires left_not_high { left.now.value.1 ≤ right.now.value.1 + 1 }
-    requires right_not_high { right.now.value.1 ≤ left.now.value.1 + 2 }
-    ensures items { IfOk result (λ t. t.value.0 ≡ left.now.value.0 ++ right.now.value.0) }
-    ensures height { IfOk result (λ t. IsJoinHeight left.now.value.1 right.now.value.1 t.value.1) }
+    left: &Tree<T>,
+    right: &Tree<T>,
+) -> Result<Tree<T>, AllocError>
+    requires fits { length left.now.0 + length right.now.0 < 2 ^ 32 }
+    requires left_not_high { left.now.1 ≤ right.now.1 + 1 }
+    requires right_not_high { right.now.1 ≤ left.now.1 + 2 }
+    ensures items { IfOk result (λ t. t.0 ≡ left.now.0 ++ right.now.0) }
+    ensures height { IfOk result (λ t. IsJoinHeight left.now.1 right.now.1 t.1) }
 {
     if right.height() <= left.height() + 1 {
-        return Tree::fork(alloc, left.clone()?, right.clone()?);
+        return Tree::fork(alloc, left.share()?, right.share()?);
     }
-    let open: &Tree<T> = right;
-    let (inner, outer) = match &open.node {
+    let (inner, outer) = match &right.node {
         Node::Leaf(_) => unreachable!(),
-        Node::Fork(inner, _, _, outer) => (inner, outer),
+        Node::Fork(sides) => (&sides.left, &sides.right),
     };
     if inner.height() <= outer.height() {
-        let low = Tree::fork(alloc, left.clone()?, inner.clone()?)?;
-        return Tree::fork(alloc, low, outer.clone()?);
+        let low = Tree::fork(alloc, left.share()?, inner.share()?)?;
+        return Tree::fork(alloc, low, outer.share()?);
     }
-    let open: &Tree<T> = inner;
-    match &open.node {
+    match &inner.node {
         Node::Leaf(_) => unreachable!(),
-        Node::Fork(first, _, _, second) => {
-            let low = Tree::fork(alloc, left.clone()?, first.clone()?)?;
-            let high = Tree::fork(alloc, second.clone()?, outer.clone()?)?;
+        Node::Fork(sides) => {
+            let low = Tree::fork(alloc, left.share()?, sides.left.share()?)?;
+            let high = Tree::fork(alloc, sides.right.share()?, outer.share()?)?;
             Tree::fork(alloc, low, high)
         }
     }
@@ -73,33 +74,31 @@ fn lean_right<T: Measured>(
 /// The two sides under one fork, or turned where the left side is two levels higher.
 fn lean_left<T: Measured>(
     alloc: Global,
-    left: &Rc<Tree<T>>,
-    right: &Rc<Tree<T>>,
-) -> Result<Rc<Tree<T>>, AllocError>
-    requires fits { length left.now.value.0 + length right.now.value.0 < 2 ^ 32 }
-    requires left_not_high { left.now.value.1 ≤ right.now.value.1 + 2 }
-    requires right_not_high { right.now.value.1 ≤ left.now.value.1 + 1 }
-    ensures items { IfOk result (λ t. t.value.0 ≡ left.now.value.0 ++ right.now.value.0) }
-    ensures height { IfOk result (λ t. IsJoinHeight left.now.value.1 right.now.value.1 t.value.1) }
+    left: &Tree<T>,
+    right: &Tree<T>,
+) -> Result<Tree<T>, AllocError>
+    requires fits { length left.now.0 + length right.now.0 < 2 ^ 32 }
+    requires left_not_high { left.now.1 ≤ right.now.1 + 2 }
+    requires right_not_high { right.now.1 ≤ left.now.1 + 1 }
+    ensures items { IfOk result (λ t. t.0 ≡ left.now.0 ++ right.now.0) }
+    ensures height { IfOk result (λ t. IsJoinHeight left.now.1 right.now.1 t.1) }
 {
     if left.height() <= right.height() + 1 {
-        return Tree::fork(alloc, left.clone()?, right.clone()?);
+        return Tree::fork(alloc, left.share()?, right.share()?);
     }
-    let open: &Tree<T> = left;
-    let (outer, inner) = match &open.node {
+    let (outer, inner) = match &left.node {
         Node::Leaf(_) => unreachable!(),
-        Node::Fork(outer, _, _, inner) => (outer, inner),
+        Node::Fork(sides) => (&sides.left, &sides.right),
     };
     if inner.height() <= outer.height() {
-        let low = Tree::fork(alloc, inner.clone()?, right.clone()?)?;
-        return Tree::fork(alloc, outer.clone()?, low);
+        let low = Tree::fork(alloc, inner.share()?, right.share()?)?;
+        return Tree::fork(alloc, outer.share()?, low);
     }
-    let open: &Tree<T> = inner;
-    match &open.node {
+    match &inner.node {
         Node::Leaf(_) => unreachable!(),
-        Node::Fork(first, _, _, second) => {
-            let low = Tree::fork(alloc, outer.clone()?, first.clone()?)?;
-            let high = Tree::fork(alloc, second.clone()?, right.clone()?)?;
+        Node::Fork(sides) => {
+            let low = Tree::fork(alloc, outer.share()?, sides.left.share()?)?;
+            let high = Tree::fork(alloc, sides.right.share()?, right.share()?)?;
             Tree::fork(alloc, low, high)
         }
     }

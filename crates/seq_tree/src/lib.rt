@@ -8,6 +8,9 @@ mod sequence;
 #[cfg(test)]
 mod tests;
 mod tree;
+mod walk;
 
+pub use look::Located;
 pub use measure::Measured;
 pub use sequence::Seq;
+pub use walk::Iter;

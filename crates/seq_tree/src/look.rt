@@ -1,4 +1,5 @@
-//! The ways down a tree: to an item, to the weight before a place, and to the place of a weight. Each counts the nodes that it visits.
+//! The ways down a tree: to an item, to the weight before a place, and to the item at a weight. Each counts the nodes that it
+//! visits.
 
 ghost use Rattle.std.specs.Prelude.{◌≡◌, ◌+◌, ◌<◌, ◌≤◌, length, take, sum_by, slice_get, Some};
 ghost use Rattle.seq_tree.specs.Shape.{FillsHeight};
@@ -7,6 +8,14 @@ use crate::measure::Measured;
 use crate::tree::{Node, Tree};
 use std::sync::ledger::Ledger;
 use step_counter::Steps;
+
+/// Where a weight falls: an item, its place, counted from 0, and how much of the weight is left after the items before it.
+#[derive(Debug, Drop)]
+pub struct Located<'a, T: Measured> {
+    pub place: usize,
+    pub offset: u64,
+    pub item: &'a T,
+}
 
 impl<T: Measured> Tree<T> {
     /// The item at place `i`, counted from 0.
@@ -19,11 +28,12 @@ impl<T: Measured> Tree<T> {
         visited.tick();
         match &self.node {
             Node::Leaf(item) => item,
-            Node::Fork(left, left_len, _, right) => {
-                if i < *left_len as usize {
-                    left.at(i, visited)
+            Node::Fork(sides) => {
+                let left_len = sides.left.len();
+                if i < left_len {
+                    sides.left.at(i, visited)
                 } else {
-                    right.at(i - *left_len as usize, visited)
+                    sides.right.at(i - left_len, visited)
                 }
             }
         }
@@ -42,34 +52,43 @@ impl<T: Measured> Tree<T> {
         match &self.node {
             Node::Leaf(_) if i == 0 => 0,
             Node::Leaf(item) => u64::from(item.weight()),
-            Node::Fork(left, left_len, left_total, right) => {
-                if i < *left_len as usize {
-                    left.before(i, visited)
+            Node::Fork(sides) => {
+                let left_len = sides.left.len();
+                if i < left_len {
+                    sides.left.before(i, visited)
                 } else {
-                    *left_total + right.before(i - *left_len as usize, visited)
+                    sides.left.total() + sides.right.before(i - left_len, visited)
                 }
             }
         }
     }
 
-    /// The first place up to which, its own item included, the items weigh more than `bound`.
+    /// The first item up to which, itself included, the items weigh more than `bound`.
     #[tactic(auto, using(crate::proofs::Parts::sum_by_take_right))]
-    pub(crate) fn find<L: Ledger>(&self, bound: u64, visited: &mut Steps<L>) -> usize
+    pub(crate) fn locate<L: Ledger>(&self, bound: u64, visited: &mut Steps<L>) -> Located<'_, T>
         requires below { bound < sum_by T.measure self.now.0 }
-        ensures within { result < length self.now.0 }
-        ensures not_past { sum_by T.measure (take result self.now.0) ≤ bound }
-        ensures far_enough { bound < sum_by T.measure (take (result + 1) self.now.0) }
+        ensures is { slice_get self.now.0 result.place ≡ Some result.item.now }
+        ensures offset { sum_by T.measure (take result.place self.now.0) + result.offset ≡ bound }
+        ensures within { result.offset < T.measure result.item.now }
         ensures cost { visited.new ≤ visited.old + (self.now.1 + 1) }
         ensures low { FillsHeight self.now.1 (length self.now.0) }
     {
         visited.tick();
         match &self.node {
-            Node::Leaf(_) => 0,
-            Node::Fork(left, left_len, left_total, right) => {
-                if bound < *left_total {
-                    left.find(bound, visited)
-                } else {
-                    *left_len as usize + right.find(bound - *left_total, visited)
+            Node::Leaf(item) => Located {
+                place: 0,
+                offset: bound,
+                item,
+            },
+            Node::Fork(sides) => {
+                let left_total = sides.left.total();
+                if bound < left_total {
+                    return sides.left.locate(bound, visited);
+                }
+                let located = sides.right.locate(bound - left_total, visited);
+                Located {
+                    place: sides.left.len() + located.place,
+                    ..located
                 }
             }
         }

@@ -1,13 +1,15 @@
 //! The sequence that callers see: a list of weighed items, of which an edit makes a new version.
 
-ghost use Rattle.std.specs.Prelude.{◌≡◌, ℕ, ◌+◌, ◌*◌, ◌^◌, ◌<◌, ◌≤◌, [], ◌++◌, length, take, drop, insert, sum_by, slice_get, Some, IfOk, vec_len};
+ghost use Rattle.std.specs.Prelude.{◌≡◌, ℕ, ◌+◌, ◌-◌, ◌*◌, ◌^◌, ◌<◌, ◌≤◌, [], ◌++◌, length, take, drop, insert, sum_by, slice_get, Some, IfOk, IsTrue, ◌↔◌, vec_len};
 
 use crate::join;
+use crate::look::Located;
 use crate::measure::Measured;
 use crate::tree::{Node, Tree};
+use crate::walk::Iter;
 use std::alloc::{AllocError, Global};
+use std::fmt::{self, Debug, Formatter, Write};
 use std::marker::Model;
-use std::rc::Rc;
 use std::sync::ledger::Ledger;
 use step_counter::Steps;
 
@@ -16,7 +18,7 @@ use step_counter::Steps;
 /// A call that edits makes a new version and leaves the old one as it was: the two share their nodes, and no item is cloned.
 /// So after an error each version is still what it was.
 pub struct Seq<T: Measured> {
-    root: Option<Rc<Tree<T>>>,
+    root: Option<Tree<T>>,
 }
 
 impl<T: Measured> Model for Seq<T> {
@@ -34,6 +36,12 @@ impl<T: Measured> Drop for Seq<T> {
     fn drop(self) {
         let Seq { root } = self;
         drop(root);
+    }
+}
+
+impl<T: Measured + Debug> Debug for Seq<T> {
+    fn fmt<W: Write>(&self, f: &mut Formatter<W>) -> fmt::Result {
+        f.debug_list().entries(self.iter()).finish()
     }
 }
 
@@ -61,13 +69,21 @@ impl<T: Measured> Seq<T> {
         }
     }
 
+    /// Whether there is no item.
+    #[tactic(auto, using(std::proofs::lemmas::List::nil_from_length))]
+    pub fn is_empty(&self) -> bool
+        ensures { IsTrue result ↔ (self.now ≡ []) }
+    {
+        self.len() == 0
+    }
+
     /// How many items there are.
     pub fn len(&self) -> usize
         ensures { result ≡ length self.now }
     {
         match &self.root {
             None => 0,
-            Some(root) => root.len() as usize,
+            Some(root) => root.len(),
         }
     }
 
@@ -107,6 +123,7 @@ impl<T: Measured> Seq<T> {
 
     /// The first place up to which, its own item included, the items weigh more than `bound`. Each node that is visited counts
     /// once.
+    #[tactic(auto, using(crate::proofs::Parts::sum_by_place))]
     pub fn find<L: Ledger>(&self, bound: u64, visited: &mut Steps<L>) -> usize
         requires below { bound < sum_by T.measure self.now }
         ensures within { result < length self.now }
@@ -114,10 +131,40 @@ impl<T: Measured> Seq<T> {
         ensures far_enough { bound < sum_by T.measure (take (result + 1) self.now) }
         ensures cost { (b : ℕ) → length self.now < 2 ^ b → visited.new ≤ visited.old + (2 * b + 2) }
     {
+        self.locate(bound, visited).place
+    }
+
+    /// The item that `find` gives the place of, and how far into it the bound is: what is left of the bound after the items
+    /// before it. Each node that is visited counts once.
+    pub fn locate<L: Ledger>(&self, bound: u64, visited: &mut Steps<L>) -> Located<'_, T>
+        requires below { bound < sum_by T.measure self.now }
+        ensures is { slice_get self.now result.place ≡ Some result.item.now }
+        ensures offset { sum_by T.measure (take result.place self.now) + result.offset ≡ bound }
+        ensures within { result.offset < T.measure result.item.now }
+        ensures cost { (b : ℕ) → length self.now < 2 ^ b → visited.new ≤ visited.old + (2 * b + 2) }
+    {
         match &self.root {
             None => unreachable!(),
-            Some(root) => root.find(bound, visited),
+            Some(root) => root.locate(bound, visited),
         }
+    }
+
+    /// The items in order. It takes no memory.
+    pub fn iter(&self) -> Iter<'_, T>
+        ensures { result ≡ self.now }
+    {
+        self.iter_from(0)
+    }
+
+    /// The items in order, from place `i` on. It takes no memory.
+    pub fn iter_from(&self, i: usize) -> Iter<'_, T>
+        requires within { i ≤ length self.now }
+        ensures { result ≡ drop i self.now }
+    {
+        let Some(root) = &self.root else {
+            return Iter::empty();
+        };
+        Iter::over(root, i)
     }
 
     /// The version in which this item stands at place `i` and those from there on follow it. After an error the item is dropped.
@@ -158,21 +205,40 @@ impl<T: Measured> Seq<T> {
         }
     }
 
-    /// The items of this tree, which is shared.
-    fn sharing(tree: &Rc<Tree<T>>) -> Result<Seq<T>, AllocError>
-        ensures { IfOk result (λ s. s ≡ tree.now.value.0) }
+    /// The version in which the items of `other` are in place of those from place `from` up to place `to`.
+    pub fn splice(
+        &self,
+        alloc: Global,
+        from: usize,
+        to: usize,
+        other: &Seq<T>,
+    ) -> Result<Seq<T>, AllocError>
+        requires in_order { from ≤ to }
+        requires within { to ≤ length self.now }
+        requires fits { length self.now - (to - from) + length other.now < 2 ^ 32 }
+        ensures { IfOk result (λ s. s ≡ take from self.now ++ other.now ++ drop to self.now) }
     {
-        let root = tree.clone()?;
+        let (front, rest) = self.cut(alloc, from)?;
+        let (_, back) = rest.cut(alloc, to - from)?;
+        let front = front.join(alloc, other)?;
+        front.join(alloc, &back)
+    }
+
+    /// The items of this tree, which is shared.
+    fn sharing(tree: &Tree<T>) -> Result<Seq<T>, AllocError>
+        ensures { IfOk result (λ s. s ≡ tree.now.0) }
+    {
+        let root = tree.share()?;
         Ok(Seq { root: Some(root) })
     }
 }
 
 /// A tree of the last `n` items, which are taken off. Each fork has as many on its right side as on its left, or one fewer.
-fn build<T: Measured>(alloc: Global, items: &mut Vec<T>, n: u32) -> Result<Rc<Tree<T>>, AllocError>
+fn build<T: Measured>(alloc: Global, items: &mut Vec<T>, n: u32) -> Result<Tree<T>, AllocError>
     requires some { 0 < n }
     requires enough { n ≤ vec_len items.old }
-    ensures taken { IfOk result (λ t. items.new.items ++ t.value.0 ≡ items.old.items) }
-    ensures count { IfOk result (λ t. length t.value.0 ≡ n) }
+    ensures taken { IfOk result (λ t. items.new.items ++ t.0 ≡ items.old.items) }
+    ensures count { IfOk result (λ t. length t.0 ≡ n) }
 {
     if n == 1 {
         return Tree::leaf(alloc, items.pop().unwrap());
@@ -186,29 +252,29 @@ fn build<T: Measured>(alloc: Global, items: &mut Vec<T>, n: u32) -> Result<Rc<Tr
 #[tactic(auto, using(crate::proofs::Parts::take_right, crate::proofs::Parts::drop_right))]
 fn cut_tree<T: Measured>(
     alloc: Global,
-    tree: &Rc<Tree<T>>,
+    tree: &Tree<T>,
     i: usize,
 ) -> Result<(Seq<T>, Seq<T>), AllocError>
-    requires within { i ≤ length tree.now.value.0 }
-    ensures { IfOk result (λ p. (p.0 ≡ take i tree.now.value.0) × (p.1 ≡ drop i tree.now.value.0)) }
+    requires within { i ≤ length tree.now.0 }
+    ensures { IfOk result (λ p. (p.0 ≡ take i tree.now.0) × (p.1 ≡ drop i tree.now.0)) }
 {
     if i == 0 {
         return Ok((Seq { root: None }, Seq::sharing(tree)?));
     }
-    if i == tree.len() as usize {
+    if i == tree.len() {
         return Ok((Seq::sharing(tree)?, Seq { root: None }));
     }
-    let open: &Tree<T> = tree;
-    match &open.node {
+    match &tree.node {
         Node::Leaf(_) => unreachable!(),
-        Node::Fork(left, left_len, _, right) => {
-            if i < *left_len as usize {
-                let (front, middle) = cut_tree(alloc, left, i)?;
-                let back = middle.join(alloc, &Seq::sharing(right)?)?;
+        Node::Fork(sides) => {
+            let left_len = sides.left.len();
+            if i < left_len {
+                let (front, middle) = cut_tree(alloc, &sides.left, i)?;
+                let back = middle.join(alloc, &Seq::sharing(&sides.right)?)?;
                 Ok((front, back))
             } else {
-                let (middle, back) = cut_tree(alloc, right, i - *left_len as usize)?;
-                let front = Seq::sharing(left)?.join(alloc, &middle)?;
+                let (middle, back) = cut_tree(alloc, &sides.right, i - left_len)?;
+                let front = Seq::sharing(&sides.left)?.join(alloc, &middle)?;
                 Ok((front, back))
             }
         }

@@ -1,4 +1,4 @@
-//! The tree under a sequence: the items stand at the leaves, and a fork says how much its left side holds.
+//! The tree under a sequence: the items are at the leaves, and a tree says how many they are and what they weigh.
 
 ghost use Rattle.std.specs.Prelude.{◌≡◌, ◌+◌, ◌*◌, ◌^◌, ◌<◌, ◌≤◌, max, [], ◌∷◌, ◌++◌, length, sum_by, IfOk};
 ghost use Rattle.seq_tree.specs.Shape.{IsBalancedPair, FillsHeight};
@@ -9,6 +9,8 @@ use std::marker::Model;
 use std::rc::Rc;
 
 /// One item or more, seen as the list of the items and the tree's height.
+///
+/// A tree is a handle of its node: its length and its weight are read without a look at the node.
 #[cycle(shared)]
 #[derive(Drop)]
 pub(crate) struct Tree<T: Measured> {
@@ -18,13 +20,21 @@ pub(crate) struct Tree<T: Measured> {
     total: u64,
 }
 
-/// No fork holds an item, so a new way down to a leaf copies none.
+/// No fork holds an item, so a new way down to a leaf copies none; and a fork is as large as two handles, however large the
+/// items are.
 #[cycle(shared)]
 #[derive(Drop)]
 pub(crate) enum Node<T: Measured> {
-    Leaf(T),
-    // The left side, its length and its total, the right side: a way down reads no node beside it.
-    Fork(Rc<Tree<T>>, u32, u64, Rc<Tree<T>>),
+    Leaf(Rc<T>),
+    Fork(Rc<Sides<T>>),
+}
+
+/// The two sides of a fork.
+#[cycle(shared)]
+#[derive(Drop)]
+pub(crate) struct Sides<T: Measured> {
+    pub(crate) left: Tree<T>,
+    pub(crate) right: Tree<T>,
 }
 
 impl<T: Measured> Model for Tree<T> {
@@ -36,7 +46,7 @@ impl<T: Measured> Model for Tree<T> {
 
     ghost view = { λ t. (items t.node, t.height) };
 
-    ghost invariant = { λ t. Counts T.measure (items t.node) t.height t.len t.total × HasSides T.measure t.node t.height };
+    ghost invariant = { λ t. Counts T.measure (items t.node) t.height t.len t.total × HasSides t.node t.height };
 
     ghost size = { λ value. value.1 };
 
@@ -46,7 +56,7 @@ impl<T: Measured> Model for Tree<T> {
 }
 
 impl<T: Measured> Tree<T> {
-    /// How many levels of forks stand above the lowest leaf.
+    /// How many levels of forks are above the lowest leaf.
     pub(crate) fn height(&self) -> u32
         ensures is { result ≡ self.now.1 }
         ensures small { result < 64 }
@@ -56,10 +66,11 @@ impl<T: Measured> Tree<T> {
     }
 
     /// How many items there are.
-    pub(crate) fn len(&self) -> u32
-        ensures { result ≡ length self.now.0 }
+    pub(crate) fn len(&self) -> usize
+        ensures is { result ≡ length self.now.0 }
+        ensures fits { result < 2 ^ 32 }
     {
-        self.len
+        self.len as usize
     }
 
     /// The sum of the items' weights.
@@ -71,40 +82,51 @@ impl<T: Measured> Tree<T> {
     }
 
     /// A tree of this item.
-    pub(crate) fn leaf(alloc: Global, item: T) -> Result<Rc<Tree<T>>, AllocError>
-        ensures items { IfOk result (λ t. t.value.0 ≡ item ∷ []) }
+    pub(crate) fn leaf(alloc: Global, item: T) -> Result<Tree<T>, AllocError>
+        ensures items { IfOk result (λ t. t.0 ≡ item ∷ []) }
     {
         let total = u64::from(item.weight());
-        let tree = Tree {
-            node: Node::Leaf(item),
+        let node = Node::Leaf(Rc::new(alloc, item)?);
+        Ok(Tree {
+            node,
             height: 0,
             len: 1,
             total,
-        };
-        Ok(Rc::new(alloc, tree)?)
+        })
     }
 
     /// The two sides under one fork.
-    pub(crate) fn fork(
-        alloc: Global,
-        left: Rc<Tree<T>>,
-        right: Rc<Tree<T>>,
-    ) -> Result<Rc<Tree<T>>, AllocError>
-        requires fits { length left.value.0 + length right.value.0 < 2 ^ 32 }
-        requires balanced { IsBalancedPair left.value.1 right.value.1 }
-        ensures items { IfOk result (λ t. t.value.0 ≡ left.value.0 ++ right.value.0) }
-        ensures height { IfOk result (λ t. t.value.1 ≡ max left.value.1 right.value.1 + 1) }
+    pub(crate) fn fork(alloc: Global, left: Tree<T>, right: Tree<T>) -> Result<Tree<T>, AllocError>
+        requires fits { length left.0 + length right.0 < 2 ^ 32 }
+        requires balanced { IsBalancedPair left.1 right.1 }
+        ensures items { IfOk result (λ t. t.0 ≡ left.0 ++ right.0) }
+        ensures height { IfOk result (λ t. t.1 ≡ max left.1 right.1 + 1) }
     {
         let height = left.height().max(right.height()) + 1;
-        let (left_len, left_total) = (left.len(), left.total());
-        let len = left_len + right.len();
-        let total = left_total + right.total();
-        let tree = Tree {
-            node: Node::Fork(left, left_len, left_total, right),
+        let len = left.len() + right.len();
+        let total = left.total() + right.total();
+        let node = Node::Fork(Rc::new(alloc, Sides { left, right })?);
+        Ok(Tree {
+            node,
             height,
-            len,
+            len: len as u32,
             total,
+        })
+    }
+
+    /// The same tree once more. It takes no memory: the error is that of an `Rc` whose count is full.
+    pub(crate) fn share(&self) -> Result<Tree<T>, AllocError>
+        ensures { IfOk result (λ t. t ≡ self.now) }
+    {
+        let node = match &self.node {
+            Node::Leaf(item) => Node::Leaf(item.clone()?),
+            Node::Fork(sides) => Node::Fork(sides.clone()?),
         };
-        Ok(Rc::new(alloc, tree)?)
+        Ok(Tree {
+            node,
+            height: self.height,
+            len: self.len,
+            total: self.total,
+        })
     }
 }

@@ -3,8 +3,8 @@ use Rattle.std.proofs.lemmas.List.Sums.{sum_by-append}
 use Rattle.seq_tree.proofs.Heights.{fork_enough}
 use Rattle.seq_tree.proofs.tree.Tree.fork.Goals as goal
 
-pub invariant_of-tree : goal.invariant_of-tree
-invariant_of-tree g c = (
+pub invariant_of-result : goal.invariant_of-result
+invariant_of-result g c = (
   record {
     len = grind (arith, length-append);
     fits = grind arith;

@@ -1,0 +1,12 @@
+//! A text in shared pieces: an edit makes a new version, which shares the octets that it keeps with the old one.
+#![tactic(auto)]
+
+mod piece;
+mod pieces;
+#[cfg(test)]
+mod tests;
+mod text;
+mod view;
+
+pub use text::Text;
+pub use view::View;

@@ -1,0 +1,210 @@
+//! Sequences of pieces: where a place falls, how they are cut there, and how octets are put between two of them.
+
+ghost use Rattle.std.specs.Prelude.{◌≡◌, ◌+◌, ◌^◌, ◌<◌, ◌≤◌, [], ◌∷◌, ◌++◌, length, take, slice_get, Some, IfOk, OnOk};
+ghost use Rattle.std.specs.List.{concat};
+ghost use Rattle.piece_text.specs.Pieces.{AreFull, IsSplit};
+
+use crate::piece::Piece;
+use edi_tables::Chunk;
+use seq_tree::{Located, Seq};
+use std::alloc::{AllocError, Global};
+use std::marker::Brand;
+use std::sync::ledger::{Blank, Ledger};
+use step_counter::Steps;
+
+/// Octets that are put in are copied into one piece with a neighbour, where both together are at most so many: so a text that
+/// is typed octet by octet has few pieces.
+const MOST_COPIED: usize = 512;
+
+/// How many octets the pieces have.
+#[tactic(auto, using(crate::proofs::Concats::total_is))]
+pub(crate) fn octet_count(pieces: &Seq<Piece>) -> usize
+    ensures { result ≡ length (concat pieces.now) }
+{
+    pieces.total() as usize
+}
+
+/// The piece that an octet is in, and its place there.
+pub(crate) fn locate(pieces: &Seq<Piece>, at: usize) -> Located<'_, Piece>
+    requires within { at < length (concat pieces.now) }
+    ensures is { slice_get pieces.now result.place ≡ Some result.item.now }
+    ensures offset { length (concat (take result.place pieces.now)) + result.offset ≡ at }
+    ensures within { result.offset < length result.item.now }
+{
+    locate_counted::<Brand>(pieces, at, Blank::new(1))
+}
+
+#[tactic(auto, using(crate::proofs::Concats::total_is))]
+fn locate_counted<L: Ledger>(pieces: &Seq<Piece>, at: usize, blank: Blank) -> Located<'_, Piece>
+    requires name { blank.name ≡ L.name }
+    requires parts { blank.parts ≡ L.parts }
+    requires some { 0 < blank.parts }
+    requires within { at < length (concat pieces.now) }
+    ensures is { slice_get pieces.now result.place ≡ Some result.item.now }
+    ensures offset { length (concat (take result.place pieces.now)) + result.offset ≡ at }
+    ensures within { result.offset < length result.item.now }
+{
+    let mut visited = Steps::<L>::start(blank);
+    pieces.locate(at as u64, &mut visited)
+}
+
+/// One piece of these octets; no piece where there are none.
+pub(crate) fn of_chunk(alloc: Global, octets: Chunk) -> Result<Seq<Piece>, AllocError>
+    requires short { length octets ≤ 4194304 }
+    ensures text { IfOk result (λ pieces. concat pieces ≡ octets) }
+    ensures full { IfOk result AreFull }
+{
+    if octets.octets().is_empty() {
+        return Seq::of_items(alloc, Vec::new(alloc));
+    }
+    let piece = Piece::of(alloc, octets)?;
+    single(alloc, piece)
+}
+
+fn single(alloc: Global, piece: Piece) -> Result<Seq<Piece>, AllocError>
+    ensures { IfOk result (λ pieces. pieces ≡ piece ∷ []) }
+{
+    let mut items = Vec::new(alloc);
+    items.push(piece)?;
+    Seq::of_items(alloc, items)
+}
+
+/// Puts the octets of all pieces at the end.
+pub(crate) fn add_all(octets: &mut Chunk, pieces: &Seq<Piece>) -> Result<(), AllocError>
+    ensures { OnOk result (octets.new ≡ octets.old ++ concat pieces.now) }
+{
+    for piece in pieces.iter() {
+        octets.add(piece.octets())?;
+    }
+    Ok(())
+}
+
+/// The pieces of the octets before a place, and those of the others. A piece that the place is within gives a part to each.
+pub(crate) fn split(
+    alloc: Global,
+    pieces: &Seq<Piece>,
+    at: usize,
+) -> Result<(Seq<Piece>, Seq<Piece>), AllocError>
+    requires within { at ≤ length (concat pieces.now) }
+    requires short { length (concat pieces.now) ≤ 4194304 }
+    requires full { AreFull pieces.now }
+    ensures { IfOk result (λ parts. IsSplit pieces.now at parts.0 parts.1) }
+{
+    if at == octet_count(pieces) {
+        return pieces.cut(alloc, pieces.len());
+    }
+    let located = locate(pieces, at);
+    if located.offset == 0 {
+        return pieces.cut(alloc, located.place);
+    }
+    split_within(alloc, pieces, located.place, located.item, located.offset as usize)
+}
+
+/// The pieces cut within one of them.
+fn split_within(
+    alloc: Global,
+    pieces: &Seq<Piece>,
+    place: usize,
+    piece: &Piece,
+    offset: usize,
+) -> Result<(Seq<Piece>, Seq<Piece>), AllocError>
+    requires is { slice_get pieces.now place ≡ Some piece.now }
+    requires within { offset < length piece.now }
+    requires some { 0 < offset }
+    requires short { length (concat pieces.now) ≤ 4194304 }
+    requires full { AreFull pieces.now }
+    ensures {
+        IfOk result (λ parts. IsSplit pieces.now (length (concat (take place pieces.now)) + offset) parts.0 parts.1)
+    }
+{
+    let (front, rest) = pieces.cut(alloc, place)?;
+    let (_, back) = rest.cut(alloc, 1)?;
+    let head = single(alloc, piece.part(0, offset)?)?;
+    let tail = single(alloc, piece.part(offset, piece.octets().len())?)?;
+    let front = front.join(alloc, &head)?;
+    let back = tail.join(alloc, &back)?;
+    Ok((front, back))
+}
+
+/// The pieces of `front`, these octets, and the pieces of `back`. A small last piece of `front` and a small first piece of `back`
+/// are copied into one with the octets.
+pub(crate) fn weld(
+    alloc: Global,
+    front: &Seq<Piece>,
+    put: &[u8],
+    back: &Seq<Piece>,
+) -> Result<Seq<Piece>, AllocError>
+    requires full_front { AreFull front.now }
+    requires full_back { AreFull back.now }
+    requires short { length (concat front.now) + length put.now + length (concat back.now) ≤ 4194304 }
+    ensures text { IfOk result (λ pieces. concat pieces ≡ concat front.now ++ put.now ++ concat back.now) }
+    ensures full { IfOk result AreFull }
+{
+    let room = MOST_COPIED.saturating_sub(put.len());
+    let (front, last) = front.cut(alloc, before_small_end(front, room))?;
+    let room = room.saturating_sub(octet_count(&last));
+    let (first, back) = back.cut(alloc, small_start(back, room))?;
+    let run = run_of(alloc, &last, put, &first)?;
+    join_three(alloc, &front, &run, &back)
+}
+
+/// How many pieces are before a last one of at most `room` octets; all where the last has more.
+fn before_small_end(pieces: &Seq<Piece>, room: usize) -> usize
+    ensures { result ≤ length pieces.now }
+{
+    let len = pieces.len();
+    if len == 0 {
+        return 0;
+    }
+    match pieces.iter_from(len - 1).next() {
+        Some(last) if last.octets().len() <= room => len - 1,
+        _ => len,
+    }
+}
+
+/// How many pieces a first one of at most `room` octets is: 1, or 0 where the first has more.
+fn small_start(pieces: &Seq<Piece>, room: usize) -> usize
+    ensures { result ≤ length pieces.now }
+{
+    match pieces.iter().next() {
+        Some(first) if first.octets().len() <= room => 1,
+        _ => 0,
+    }
+}
+
+/// The octets of some pieces, these octets, and those of further pieces, copied into one piece.
+fn run_of(
+    alloc: Global,
+    last: &Seq<Piece>,
+    put: &[u8],
+    first: &Seq<Piece>,
+) -> Result<Seq<Piece>, AllocError>
+    requires short { length (concat last.now) + length put.now + length (concat first.now) ≤ 4194304 }
+    ensures text { IfOk result (λ pieces. concat pieces ≡ concat last.now ++ put.now ++ concat first.now) }
+    ensures full { IfOk result AreFull }
+{
+    let count = octet_count(last) + put.len() + octet_count(first);
+    let mut octets = Chunk::with_room(alloc, count)?;
+    add_all(&mut octets, last)?;
+    octets.add(put)?;
+    add_all(&mut octets, first)?;
+    of_chunk(alloc, octets)
+}
+
+/// The pieces of all three.
+fn join_three(
+    alloc: Global,
+    front: &Seq<Piece>,
+    middle: &Seq<Piece>,
+    back: &Seq<Piece>,
+) -> Result<Seq<Piece>, AllocError>
+    requires full_front { AreFull front.now }
+    requires full_middle { AreFull middle.now }
+    requires full_back { AreFull back.now }
+    requires short { length (concat front.now) + length (concat middle.now) + length (concat back.now) ≤ 4194304 }
+    ensures text { IfOk result (λ pieces. concat pieces ≡ concat front.now ++ concat middle.now ++ concat back.now) }
+    ensures full { IfOk result AreFull }
+{
+    let front = front.join(alloc, middle)?;
+    front.join(alloc, back)
+}

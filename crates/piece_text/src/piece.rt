@@ -17,13 +17,13 @@ pub(crate) struct Piece {
 }
 
 impl Model for Piece {
-    ghost use Rattle.std.specs.Prelude.{ℕ, List, slice_range, ◌<◌, ◌≤◌, length};
+    ghost use Rattle.std.specs.Prelude.{ℕ, List, slice_range, ◌^◌, ◌<◌, ◌≤◌, length};
 
     ghost Value = { List ℕ };
 
     ghost view = { λ piece. slice_range piece.octets.value piece.from piece.to };
 
-    ghost invariant = { λ piece. (piece.from < piece.to) × (piece.to ≤ length piece.octets.value) };
+    ghost invariant = { λ piece. (piece.from < piece.to) × (piece.to ≤ length piece.octets.value) × (piece.to < 2 ^ 32) };
 }
 
 impl Piece {

@@ -91,13 +91,34 @@ pub(crate) fn split(
     ensures { IfOk result (λ parts. IsSplit pieces.now at parts.0 parts.1) }
 {
     if at == octet_count(pieces) {
-        return pieces.cut(alloc, pieces.len());
+        return split_between(alloc, pieces, pieces.len());
     }
     let located = locate(pieces, at);
     if located.offset == 0 {
-        return pieces.cut(alloc, located.place);
+        return split_between(alloc, pieces, located.place);
     }
-    split_within(alloc, pieces, located.place, located.item, located.offset as usize)
+    split_within(
+        alloc,
+        pieces,
+        located.place,
+        located.item,
+        located.offset as usize,
+    )
+}
+
+/// The pieces before a place between two of them, and the others.
+#[tactic(auto, using(crate::proofs::Concats::split_between))]
+fn split_between(
+    alloc: Global,
+    pieces: &Seq<Piece>,
+    place: usize,
+) -> Result<(Seq<Piece>, Seq<Piece>), AllocError>
+    requires within { place ≤ length pieces.now }
+    requires full { AreFull pieces.now }
+    ensures { IfOk result (λ parts. IsSplit pieces.now (length (concat (take place pieces.now))) parts.0 parts.1) }
+{
+    let (front, back) = pieces.cut(alloc, place)?;
+    Ok((front, back))
 }
 
 /// The pieces cut within one of them.
@@ -113,12 +134,10 @@ fn split_within(
     requires some { 0 < offset }
     requires short { length (concat pieces.now) ≤ 4194304 }
     requires full { AreFull pieces.now }
-    ensures {
-        IfOk result (λ parts. IsSplit pieces.now (length (concat (take place pieces.now)) + offset) parts.0 parts.1)
-    }
+    ensures { IfOk result (λ parts. IsSplit pieces.now (length (concat (take place pieces.now)) + offset) parts.0 parts.1) }
 {
-    let (front, rest) = pieces.cut(alloc, place)?;
-    let (_, back) = rest.cut(alloc, 1)?;
+    let (front, _) = pieces.cut(alloc, place)?;
+    let (_, back) = pieces.cut(alloc, place + 1)?;
     let head = single(alloc, piece.part(0, offset)?)?;
     let tail = single(alloc, piece.part(offset, piece.octets().len())?)?;
     let front = front.join(alloc, &head)?;
@@ -192,6 +211,7 @@ fn run_of(
 }
 
 /// The pieces of all three.
+#[tactic(auto, using(crate::proofs::Full::count_le, crate::proofs::Full::full_append, crate::proofs::Concats::concat_append))]
 fn join_three(
     alloc: Global,
     front: &Seq<Piece>,

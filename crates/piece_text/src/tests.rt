@@ -1,0 +1,141 @@
+//! Edits in each of their branches, what views read over the seams of pieces, and that typing leaves few pieces.
+
+use crate::Text;
+use edi_octets::Octets;
+use std::alloc::{AllocError, Global};
+use std::process::Abort;
+use std::test::Fail;
+
+/// The text is these octets, copied, by place and by slices; how many slices it has is answered.
+fn expect(
+    rt: &impl Abort,
+    alloc: Global,
+    text: &Text,
+    parts: [&[u8]; 3],
+) -> Result<usize, AllocError> {
+    let mut wanted = Vec::new(alloc);
+    for part in parts {
+        wanted.extend_from_slice(part)?;
+    }
+    assert_eq!(rt; text.copy(alloc)?.octets(), wanted.as_slice());
+    let view = text.view(0, text.len());
+    let mut read = Vec::new(alloc);
+    let mut slices = 0;
+    for i in 0..view.len() {
+        assert_eq!(rt; Some(&view.octet(i)), wanted.get(i));
+        if read.len() == i {
+            read.extend_from_slice(view.slice_at(i))?;
+            slices = i;
+        }
+    }
+    assert_eq!(rt; read.as_slice(), wanted.as_slice());
+    Ok(slices)
+}
+
+fn replaced(
+    rt: &impl Abort,
+    alloc: Global,
+    text: &Text,
+    edit: (usize, usize, &[u8]),
+) -> Result<Text, AllocError> {
+    let (at, cut, put) = edit;
+    assert!(rt; text.len() < 10_000 && put.len() < 10_000);
+    assert!(rt; at <= text.len() && cut <= text.len() - at);
+    text.replace(alloc, at, cut, put)
+}
+
+#[test]
+fn edits_of_small_texts(rt: HostRuntime) -> Result<(), Fail> {
+    #[rattlefmt::skip]
+    let rows: [(&[u8], (usize, usize, &[u8]), &[u8]); 8] = [
+        (b"AB'", (1, 1, b"XYZ"), b"AXYZ'"),
+        (b"AB'", (0, 0, b"X"), b"XAB'"),
+        (b"AB'", (3, 0, b"X"), b"AB'X"),
+        (b"AB'", (2, 1, b""), b"AB"),
+        (b"AB'", (0, 3, b""), b""),
+        (b"AB'", (1, 0, b""), b"AB'"),
+        (b"", (0, 0, b"AB"), b"AB"),
+        (b"", (0, 0, b""), b""),
+    ];
+    for (octets, edit, wanted) in rows {
+        assert!(rt; octets.len() < 10_000);
+        let text = Text::of_bytes(rt.alloc(), octets)?;
+        let edited = replaced(&rt, rt.alloc(), &text, edit)?;
+        expect(&rt, rt.alloc(), &edited, [wanted, &[], &[]])?;
+        expect(&rt, rt.alloc(), &text, [octets, &[], &[]])?;
+    }
+    Ok(())
+}
+
+/// After an edit the text is what was before it, what was put in, and what was after it.
+fn expect_edit(
+    rt: &impl Abort,
+    alloc: Global,
+    text: &Text,
+    edit: (usize, usize, &[u8]),
+) -> Result<(), AllocError> {
+    let edited = replaced(rt, alloc, text, edit)?;
+    let (at, cut, put) = edit;
+    let copied = text.copy(alloc)?;
+    let octets = copied.octets();
+    assert!(rt; at <= octets.len() && cut <= octets.len() - at);
+    expect(
+        rt,
+        alloc,
+        &edited,
+        [&octets[..at], put, &octets[at + cut..]],
+    )?;
+    Ok(())
+}
+
+/// 700 octets `A`, 600 octets `B`, and 700 octets `A`, in three pieces.
+fn three_pieces(rt: &impl Abort, alloc: Global) -> Result<Text, AllocError> {
+    let text = Text::of_bytes(alloc, &[b'A'; 1400])?;
+    let three = replaced(rt, alloc, &text, (700, 0, &[b'B'; 600]))?;
+    let parts: [&[u8]; 3] = [&[b'A'; 700], &[b'B'; 600], &[b'A'; 700]];
+    assert_eq!(rt; expect(rt, alloc, &three, parts)?, 1300);
+    Ok(three)
+}
+
+#[test]
+fn edits_over_seams(rt: HostRuntime) -> Result<(), Fail> {
+    let three = three_pieces(&rt, rt.alloc())?;
+    expect_edit(&rt, rt.alloc(), &three, (699, 602, b"?"))?;
+    expect_edit(&rt, rt.alloc(), &three, (0, 2000, b""))?;
+    expect_edit(&rt, rt.alloc(), &three, (700, 600, b""))?;
+    expect_edit(&rt, rt.alloc(), &three, (1300, 0, b"'"))?;
+    Ok(())
+}
+
+#[test]
+fn a_value_over_three_pieces(rt: HostRuntime) -> Result<(), Fail> {
+    let three = three_pieces(&rt, rt.alloc())?;
+    assert!(rt; three.len() == 2000);
+    let view = three.view(699, 1301);
+    assert!(rt; view.len() == 602);
+    assert_eq!(rt; (view.octet(0), view.octet(1)), (b'A', b'B'));
+    assert_eq!(rt; view.slice_at(0), b"A".as_slice());
+    assert_eq!(rt; view.slice_at(1), [b'B'; 600].as_slice());
+    assert_eq!(rt; view.slice_at(601), b"A".as_slice());
+    Ok(())
+}
+
+#[test]
+fn typing_leaves_few_pieces(rt: HostRuntime) -> Result<(), Fail> {
+    let mut text = Text::of_bytes(rt.alloc(), b"")?;
+    for _ in 0..600 {
+        let end = text.len();
+        text = replaced(&rt, rt.alloc(), &text, (end, 0, b"A"))?;
+    }
+    let last = expect(&rt, rt.alloc(), &text, [&[b'A'; 600], &[], &[]])?;
+    assert_eq!(rt; last, 512);
+    for _ in 0..40 {
+        text = replaced(&rt, rt.alloc(), &text, (300, 0, b"BC"))?;
+        text = replaced(&rt, rt.alloc(), &text, (300, 2, b""))?;
+    }
+    assert_eq!(rt;
+        expect(&rt, rt.alloc(), &text, [&[b'A'; 600], &[], &[]])?,
+        512
+    );
+    Ok(())
+}

@@ -1,9 +1,9 @@
 //! The program: its words, its input, its output and its folder, handed to the one call that does the work.
 #![tactic(auto)]
 
-use edi_ports::{FolderShelf, StdSink, StdSource, put_all};
+use edi_ports::{FolderShelf, StdSink, StdSource};
 use edi_tables::Chunk;
-use edicheck_core::{Status, run};
+use edicheck_core::{refuse_memory, run};
 use std::alloc::{AllocError, Global};
 use std::env::FillError;
 use std::process::ExitCode;
@@ -21,15 +21,12 @@ fn main(rt: HostRuntime) -> ExitCode {
             let mut shelf = FolderShelf::new(&rt);
             run(alloc, &words, &mut shelf, &mut input, &mut out)
         }
-        Err(_) => {
-            put_all(&mut out, b"fault memory\n");
-            Status::Memory
-        }
+        Err(_) => refuse_memory(&mut out),
     };
     ExitCode::from(status.number())
 }
 
-// The words behind the program's name. A word that isn't text, or is longer than any that counts, is an empty word,
+// The words after the program's name. A word that isn't text, or is longer than any that counts, is an empty word,
 // which is of no form.
 fn read_words(rt: &impl Env, alloc: Global) -> Result<Vec<Chunk>, AllocError> {
     let mut words = Vec::new(alloc);

@@ -1,4 +1,2 @@
-pub mod AnswerLemmas
-pub mod LinesLemmas
-pub mod TableLemmas
-pub mod Worked
+mod AnswerLemmas
+mod Worked

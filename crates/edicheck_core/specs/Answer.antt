@@ -1,99 +1,94 @@
--- What each status says of a run.
-use Rattle.std.specs.Prelude.{◌≡◌, ◌⊎◌, ◌<◌, ◌≤◌, ◌++◌, ℕ, List, [], ◌∷◌, length, Option, Some, None, IfSome, Ok, Err, codes}
+-- What a run comes to, and how it ends.
+use Rattle.std.specs.Prelude.{◌≡◌, ◌⊎◌, ◌<◌, ◌≤◌, ◌++◌, ℕ, true, nat_lt, List, [], length, Option, Some, None, IfSome, Result, Ok, Err, codes, if◌then◌else◌}
+use Rattle.std.specs.Option.{option_map}
+use Rattle.edi_ports.specs.declared.shelf.ShelfFile.{ShelfFile}
 use Rattle.edi_ports.specs.Faults.{HasRisen}
 use Rattle.edi_ports.specs.Sink.{IsCut}
 use Rattle.edi_ports.specs.Read.{TakesFront}
 use Rattle.dir_compile.specs.declared.parts.Parts.{Parts}
 use Rattle.dir_load.specs.declared.stop.LoadStop.{LoadStop}
 use Rattle.dir_load.specs.Load.{load_of}
-use Rattle.edicheck_core.specs.declared.form.Detail.{Detail}
+use Rattle.text_printer.specs.declared.text.Detail.{Detail}
+use Rattle.text_printer.specs.Printing.{printed_text}
+use Rattle.table_printer.specs.Tables.{tables_text}
 use Rattle.edicheck_core.specs.declared.status.Status.{Status}
-use Rattle.edicheck_core.specs.declared.status.Status.TheVariants.{Done, Found, Words, BadDirectory, ReadFault, WriteFault, BadScript, TooLarge, Memory, Absent}
-use Rattle.edicheck_core.specs.Form.{Asked, Text, Tables}
-use Rattle.edicheck_core.specs.Inputs.{Inputs}
-use Rattle.edicheck_core.specs.Printing.{printed}
-use Rattle.edicheck_core.specs.Refusal.{stop_status, stop_text}
-use Rattle.edicheck_core.specs.Tables.{tables_text}
+use Rattle.edicheck_core.specs.declared.status.Status.TheVariants.{Done, WriteFault, TooLarge}
+use Rattle.edicheck_core.specs.declared.help.TheConstants.{HELP, VERSION}
+use Rattle.edicheck_core.specs.Form.{Asked, Help, Version, Text, Tables, needs_of}
+use Rattle.edicheck_core.specs.Inputs.{Inputs, Held}
+use Rattle.edicheck_core.specs.Outcome.{Outcome, done, memory_refused, no_form, read_failed, too_large}
+use Rattle.edicheck_core.specs.Refusal.{refusal}
 
--- a line that ends a run
-abbrev pub last_line : List ℕ → List ℕ
-last_line text = text ++ 10 ∷ []
+-- for a text in some detail: its listing, unless it has over 4,194,304 octets
+abbrev pub listed : Detail → List ℕ → Outcome
+listed detail text = if nat_lt 4194304 (length text) then too_large (codes "-") else done (printed_text detail text)
 
--- the input, of at most 4,194,304 octets, was read to its end
-abbrev pub HasRead : Inputs → Inputs → (List ℕ → Type 0) → Type 0
-HasRead before now P = IfSome before.input (λ text. (length text ≤ 4194304) × (now.input ≡ Some []) × P text)
+-- what comes next with the directory that was loaded, or the refusal
+abbrev pub after_loading : (Parts → Outcome) → Result Parts LoadStop → Outcome
+after_loading next (Ok directory) = next directory
+after_loading next (Err stop) = refusal stop
 
--- for a text in this detail, the status and the whole output that a run comes to, before the first octet is put
-abbrev pub IsListed : Detail → Inputs → Inputs → Status → List ℕ → Type 0
-IsListed detail before now Done output = HasRead before now (λ text. output ≡ printed detail text)
-IsListed detail before now ReadFault output =
-    HasRisen before.input_faults now.input_faults × TakesFront before.input now.input (λ n. n ≤ 4194304) × (output ≡ last_line (codes "fault read"))
-IsListed detail before now TooLarge output =
-    TakesFront before.input now.input (λ n. 4194304 < n) × (output ≡ last_line (codes "fault large -"))
-IsListed detail before now Memory output =
-    TakesFront before.input now.input (λ n. n ≤ 4194304) × (output ≡ last_line (codes "fault memory"))
-IsListed detail before now Found output = ⊥
-IsListed detail before now Words output = ⊥
-IsListed detail before now BadDirectory output = ⊥
-IsListed detail before now WriteFault output = ⊥
-IsListed detail before now BadScript output = ⊥
-IsListed detail before now Absent output = ⊥
+-- for the tables of a directory
+abbrev pub tabled : Result Parts LoadStop → Outcome
+tabled loaded = after_loading (λ directory. done (tables_text directory)) loaded
 
--- the files stand for a directory under the name of a manifest
-abbrev pub HasLoaded : List ℕ → Inputs → (Parts → Type 0) → Type 0
-HasLoaded name before P = IfSome before.files (λ files. (directory : Parts) × (load_of files name ≡ Ok directory) × P directory)
+-- what a run comes to by its words and what is told of its inputs
+abbrev pub made_by : Option Asked → Inputs → Option Outcome
+made_by None before = Some no_form
+made_by (Some Help) before = Some (done HELP.now)
+made_by (Some Version) before = Some (done VERSION.now)
+made_by (Some (Text detail)) before = option_map (listed detail) before.rest
+made_by (Some (Tables name)) before = option_map (λ files. tabled (load_of files name)) before.files
 
--- the files give no directory, for a reason that has this status; the last line tells it
-abbrev pub IsRefused : List ℕ → Inputs → Status → List ℕ → Type 0
-IsRefused name before status output =
-    IfSome before.files (λ files. (stop : LoadStop) × (load_of files name ≡ Err stop) × (stop_status stop ≡ status) × (output ≡ last_line (stop_text stop)))
+-- what it may come to where its inputs tell nothing
+abbrev pub IsPossible : Option Asked → Outcome → Type 0
+IsPossible None due = due ≡ no_form
+IsPossible (Some Help) due = due ≡ done HELP.now
+IsPossible (Some Version) due = due ≡ done VERSION.now
+IsPossible (Some (Text detail)) due = (text : List ℕ) × (due ≡ listed detail text)
+IsPossible (Some (Tables name)) due = (loaded : Result Parts LoadStop) × (due ≡ tabled loaded)
 
--- for the tables of the directory of this manifest, the same
-abbrev pub IsTabled : List ℕ → Inputs → Inputs → Status → List ℕ → Type 0
-IsTabled name before now Done output = HasLoaded name before (λ directory. output ≡ tables_text directory)
-IsTabled name before now BadDirectory output = IsRefused name before BadDirectory output
-IsTabled name before now ReadFault output = HasRisen before.shelf_faults now.shelf_faults × (output ≡ last_line (codes "fault read"))
-IsTabled name before now TooLarge output = IsRefused name before TooLarge output
-IsTabled name before now Absent output = IsRefused name before Absent output
-IsTabled name before now Memory output = output ≡ last_line (codes "fault memory")
-IsTabled name before now Found output = ⊥
-IsTabled name before now Words output = ⊥
-IsTabled name before now WriteFault output = ⊥
-IsTabled name before now BadScript output = ⊥
+-- an object that the words need has failed in this run
+abbrev pub HasFailed : Option Asked → Inputs → Inputs → Type 0
+HasFailed asked before now =
+    (((needs_of asked).input ≡ true) × HasRisen before.input_faults now.input_faults)
+    ⊎ (((needs_of asked).shelf ≡ true) × HasRisen before.shelf_faults now.shelf_faults)
 
--- the same for what words ask for
-abbrev pub IsDueFor : Asked → Inputs → Inputs → Status → List ℕ → Type 0
-IsDueFor (Text detail) before now status output = IsListed detail before now status output
-IsDueFor (Tables name) before now status output = IsTabled name before now status output
+-- what was made: by what is told, where it is told
+abbrev pub IsMade : Type 0 → Option Outcome → Outcome → Type 0
+IsMade Possible made due = Possible × IfSome made (λ m. due ≡ m)
 
--- the same for any words: those of no form are refused, and then nothing is taken
-abbrev pub IsDue : Option Asked → Inputs → Inputs → Status → List ℕ → Type 0
-IsDue (Some asked) before now status output = IsDueFor asked before now status output
-IsDue None before now status output = (status ≡ Words) × (output ≡ last_line (codes "fault words")) × (now ≡ before)
+-- what was made; or a read fault, where an object failed; or want of memory, where memory is needed
+abbrev pub IsOneOf : Type 0 → Option Outcome → Type 0 → Type 0 → Outcome → Type 0
+IsOneOf Possible made Failed Needed due = IsMade Possible made due ⊎ ((due ≡ read_failed) × Failed) ⊎ ((due ≡ memory_refused) × Needed)
+
+-- what a run may come to
+abbrev pub IsDue : Option Asked → Inputs → Inputs → Outcome → Type 0
+IsDue asked before now due =
+    IsOneOf (IsPossible asked due) (made_by asked before) (HasFailed asked before now) ((needs_of asked).memory ≡ true) due
+
+-- what was taken of a text: all of it where it was printed, more than the limit where it is too large, else at most the limit
+abbrev pub TakesText : Status → Option (List ℕ) → Option (List ℕ) → Type 0
+TakesText Done before now = IfSome before (λ text. now ≡ Some [])
+TakesText TooLarge before now = TakesFront before now (λ n. 4194304 < n)
+TakesText status before now = TakesFront before now (λ n. n ≤ 4194304)
+
+-- what was taken from the input, by the status that was due
+abbrev pub Takes : Option Asked → Status → Option (List ℕ) → Option (List ℕ) → Type 0
+Takes (Some (Text detail)) status before now = TakesText status before now
+Takes asked status before now = now ≡ before
 
 -- a sink grew by these octets
 abbrev pub Grew : Option (List ℕ) → Option (List ℕ) → List ℕ → Type 0
 Grew before now octets = IfSome before (λ held. now ≡ Some (held ++ octets))
 
--- a run comes to a status and an output, and the whole output stands in the sink
-abbrev pub IsPutWhole : Option Asked → Inputs → Inputs → Option (List ℕ) → Option (List ℕ) → Status → Type 0
-IsPutWhole asked before now held held' status = (output : List ℕ) × IsDue asked before now status output × Grew held held' output
+-- how it ends: the outcome that was due with its whole output in the sink, or the sink failed and a proper prefix of it is there
+abbrev pub IsFinish : Outcome → Held → Held → Status → Type 0
+IsFinish due before now status =
+    ((status ≡ due.status) × Grew before.octets now.octets due.output)
+    ⊎ ((status ≡ WriteFault) × HasRisen before.faults now.faults × IsCut before.octets now.octets due.output)
 
--- what a status says: the whole output that was due stands in the sink; at a write fault the sink failed, and a proper prefix of it stands there
-abbrev pub IsAnswer : Option Asked → Inputs → Inputs → Option (List ℕ) → Option (List ℕ) → ℕ → ℕ → Status → Type 0
-IsAnswer asked before now held held' faults faults' WriteFault =
-    HasRisen faults faults' × ((due : Status) × (output : List ℕ) × IsDue asked before now due output × IsCut held held' output)
-IsAnswer asked before now held held' faults faults' Done = IsPutWhole asked before now held held' Done
-IsAnswer asked before now held held' faults faults' Found = IsPutWhole asked before now held held' Found
-IsAnswer asked before now held held' faults faults' Words = IsPutWhole asked before now held held' Words
-IsAnswer asked before now held held' faults faults' BadDirectory = IsPutWhole asked before now held held' BadDirectory
-IsAnswer asked before now held held' faults faults' ReadFault = IsPutWhole asked before now held held' ReadFault
-IsAnswer asked before now held held' faults faults' BadScript = IsPutWhole asked before now held held' BadScript
-IsAnswer asked before now held held' faults faults' TooLarge = IsPutWhole asked before now held held' TooLarge
-IsAnswer asked before now held held' faults faults' Memory = IsPutWhole asked before now held held' Memory
-IsAnswer asked before now held held' faults faults' Absent = IsPutWhole asked before now held held' Absent
-
--- a status that was due is answered with its whole output, or the sink failed
-abbrev pub IsFinish : Option (List ℕ) → Option (List ℕ) → ℕ → ℕ → Status → List ℕ → Status → Type 0
-IsFinish held held' faults faults' due output status =
-    ((status ≡ due) × Grew held held' output) ⊎ ((status ≡ WriteFault) × HasRisen faults faults' × IsCut held held' output)
+-- what a status says of a run
+abbrev pub IsAnswer : Option Asked → Inputs → Inputs → Held → Held → Status → Type 0
+IsAnswer asked before now held held' status =
+    (due : Outcome) × IsDue asked before now due × Takes asked due.status before.rest now.rest × IsFinish due held held' status

@@ -2,24 +2,31 @@
 use Rattle.std.specs.Prelude.{ℕ, Bool, true, false, ◌&&◌, List, [], ◌∷◌, Option, Some, None, codes, if◌then◌else◌}
 use Rattle.std.specs.Str.{bytes_eq}
 use Rattle.edi_octets.specs.Name.{is_name_of}
-use Rattle.edicheck_core.specs.declared.form.Detail.{Detail}
-use Rattle.edicheck_core.specs.declared.form.Detail.TheVariants.{Segments, Values}
+use Rattle.text_printer.specs.declared.text.Detail.{Detail}
+use Rattle.text_printer.specs.declared.text.Detail.TheVariants.{Segments, Values}
 use Rattle.edicheck_core.specs.declared.form.Form.{Form}
 use Rattle.edicheck_core.specs.declared.form.Form.TheVariants as form
 
--- what words ask for: a text in some detail, or the tables of the directory of a manifest
+-- what words ask for: help, the version, a text in some detail, or the tables of the directory of a manifest
 pub data Asked : Type 0 where
+  Help : Asked
+  Version : Asked
   Text : (detail : Detail) → Asked
   Tables : (manifest : List ℕ) → Asked
 
 abbrev pub form_shown : Form → Asked
+form_shown form.Help = Help
+form_shown form.Version = Version
 form_shown (form.Text detail) = Text detail
 form_shown (form.Tables manifest) = Tables manifest.now
 
--- `segments`, or `values`
+-- `--help`, `--version`, `segments` or `values`
 abbrev pub lone_word : List ℕ → Option Asked
 lone_word word =
-    if bytes_eq word (codes "segments") then Some (Text Segments) else (if bytes_eq word (codes "values") then Some (Text Values) else None)
+    if bytes_eq word (codes "--help") then Some Help
+    else (if bytes_eq word (codes "--version") then Some Version
+    else (if bytes_eq word (codes "segments") then Some (Text Segments)
+    else (if bytes_eq word (codes "values") then Some (Text Values) else None)))
 
 -- `tables`, and the name of a manifest
 abbrev pub with_manifest : List ℕ → List ℕ → Option Asked
@@ -31,13 +38,15 @@ form_of (word ∷ []) = lone_word word
 form_of (word ∷ manifest ∷ []) = with_manifest word manifest
 form_of words = None
 
--- words that have the input read, and words that have the shelf read
-abbrev pub reads_input : Option Asked → Bool
-reads_input None = false
-reads_input (Some (Text detail)) = true
-reads_input (Some (Tables manifest)) = false
+-- what a run takes for what words ask for: the input, the shelf, memory
+pub record Needs : Type 0 where
+  pub input : Bool
+  pub shelf : Bool
+  pub memory : Bool
 
-abbrev pub reads_shelf : Option Asked → Bool
-reads_shelf None = false
-reads_shelf (Some (Text detail)) = false
-reads_shelf (Some (Tables manifest)) = true
+abbrev pub needs_of : Option Asked → Needs
+needs_of None = record { input = false; shelf = false; memory = false }
+needs_of (Some Help) = record { input = false; shelf = false; memory = false }
+needs_of (Some Version) = record { input = false; shelf = false; memory = false }
+needs_of (Some (Text detail)) = record { input = true; shelf = false; memory = true }
+needs_of (Some (Tables manifest)) = record { input = false; shelf = true; memory = true }

@@ -1,8 +1,7 @@
 pub mod Answer
 pub mod Form
 pub mod Inputs
-pub mod Made
-pub mod Printing
+pub mod Outcome
+pub mod Output
 pub mod Refusal
 pub mod Status
-pub mod Tables

@@ -5,19 +5,15 @@ ghost use Rattle.edicheck_core.specs.Form.{form_of, form_shown, lone_word, with_
 
 use edi_octets::is_name;
 use edi_tables::Chunk;
-
-/// How much is printed of a text.
-#[derive(Clone, Copy, Debug, PartialEq, Eq)]
-pub enum Detail {
-    /// Its segments.
-    Segments,
-    /// Its segments with their values.
-    Values,
-}
+use text_printer::Detail;
 
 /// What the words ask for.
 #[derive(Clone, Copy, Debug)]
 pub enum Form<'a> {
+    /// A short text that says what the program does.
+    Help,
+    /// The version of the program, and of the toolchain that proved it.
+    Version,
     /// The text on the input, in this detail.
     Text(Detail),
     /// The segment tables of the directory of the manifest of this name.
@@ -38,7 +34,11 @@ pub fn read_form(words: &[Chunk]) -> Option<Form<'_>>
 fn read_lone_word(word: &[u8]) -> Option<Form<'static>>
     ensures { option_map form_shown result ≡ lone_word word.now }
 {
-    if word == b"segments".as_slice() {
+    if word == b"--help".as_slice() {
+        Some(Form::Help)
+    } else if word == b"--version".as_slice() {
+        Some(Form::Version)
+    } else if word == b"segments".as_slice() {
         Some(Form::Text(Detail::Segments))
     } else if word == b"values".as_slice() {
         Some(Form::Text(Detail::Values))

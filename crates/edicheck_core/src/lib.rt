@@ -2,18 +2,18 @@
 #![tactic(auto)]
 
 mod form;
-mod made;
-mod print;
-mod print_line;
-mod print_stop;
-mod print_table;
-mod print_value;
+mod help;
+mod outcome;
 mod program;
+mod refusal;
 mod status;
+mod tables;
+mod text;
 
-pub use form::{Detail, Form, read_form};
-pub use program::run;
+pub use form::{Form, read_form};
+pub use program::{refuse_memory, run};
 pub use status::Status;
+pub use text_printer::Detail;
 
 #[cfg(test)]
 mod tests;

@@ -1,0 +1,10 @@
+-- The octets of an output.
+use Rattle.std.specs.Prelude.{ℕ, List, ◌++◌}
+use Rattle.edicheck_core.specs.declared.outcome.Output.{Output}
+use Rattle.edicheck_core.specs.declared.outcome.Output.TheVariants.{Fixed, Lines, Headed}
+
+-- all octets of an output, in the order in which they are put
+abbrev pub octets_of : Output → List ℕ
+octets_of (Fixed octets) = octets.now
+octets_of (Lines lines) = lines
+octets_of (Headed head lines) = head ++ lines

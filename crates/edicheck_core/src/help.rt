@@ -1,0 +1,25 @@
+//! Texts for people.
+
+/// What `--help` prints.
+pub const HELP: &[u8] = b"edicheck checks UN/EDIFACT interchanges and directories.
+
+edicheck segments < TEXT     print the segments of a text
+edicheck values < TEXT       print its segments with their values
+edicheck tables MANIFEST     print the segment tables of a directory, and where they are ambiguous
+edicheck --help              print this help
+edicheck --version           print the version
+
+MANIFEST is the name of a file in the folder that edicheck runs in. Output ends with a line
+'fault ..' where something is refused.
+
+exit status: 0 done, 2 words of no form, 3 bad directory, 4 read fault, 5 write fault,
+7 too large, 8 out of memory, 9 no such file
+
+example: edicheck segments < order.edi
+";
+
+/// What `--version` prints: the version of the crate `edicheck`, and of the toolchain that it is proved with, which that
+/// toolchain tells of itself.
+pub const VERSION: &[u8] = b"edicheck 0.1.0
+rattle-kit-13f logic dac8208d650f15bf
+";

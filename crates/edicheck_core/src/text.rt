@@ -1,0 +1,29 @@
+//! What the text on the input comes to.
+ghost use Rattle.std.specs.Prelude.{◌≡◌, ◌≢◌, List, ℕ, true};
+ghost use Rattle.std.specs.Option.{option_map as map_told};
+ghost use Rattle.edi_ports.specs.Faults.{HasRisen};
+ghost use Rattle.edicheck_core.specs.Answer.{IsOneOf, TakesText, listed};
+
+use crate::Status;
+use crate::outcome::Made;
+use edi_ports::{ReadStop, Source, read_all};
+use std::alloc::Global;
+use text_printer::{Detail, print_text};
+
+// The most octets of a text.
+const LONGEST_TEXT: usize = 4_194_304;
+
+/// What the text on the input comes to, in this detail.
+pub fn list_text<I: Source>(alloc: Global, detail: Detail, input: &mut I) -> Made
+    ensures due { IsOneOf ((text : List ℕ) × (result ≡ listed detail text)) (map_told (listed detail) (I.rest input.old))
+        (HasRisen (I.faults input.old) (I.faults input.new)) (Unit {0}) result }
+    ensures takes { TakesText result.status (I.rest input.old) (I.rest input.new) }
+    ensures steady { I.is_steady input.old → result.status ≢ Status.ReadFault }
+{
+    match read_all(alloc, input, LONGEST_TEXT) {
+        Err(ReadStop::Fault) => Made::read_failed(),
+        Err(ReadStop::TooLong) => Made::fixed(Status::TooLarge, b"fault large -\n"),
+        Err(ReadStop::Memory) => Made::memory_refused(),
+        Ok(text) => Made::text(print_text(alloc, detail, &text)),
+    }
+}

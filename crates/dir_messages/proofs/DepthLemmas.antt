@@ -1,18 +1,22 @@
 -- Rows of which the depth is held in one octet break first what the rows break first.
-use Rattle.std.proofs.Common.{◌≡◌, ◌≢◌, ℕ, zero, suc, ◌+◌, ◌-◌, ◌<◌, ◌≤◌, Bool, true, false, not, ◌==◌, ◌&&◌, ◌||◌, nat_lt, min, if◌then◌else◌, Option, Some, None, List, [], ◌∷◌, ◌++◌, length, map, slice_get, refl, sym, ap, ◌∙◌, ⊎_elim, arith, lt-ltb, le-ltb, eq-eqb, ne_eqb, eqb-true}
+use Rattle.std.proofs.Common.{◌≡◌, ◌≢◌, ℕ, zero, suc, ◌+◌, ◌-◌, ◌<◌, ◌≤◌, Bool, true, false, not, ◌==◌, ◌&&◌, nat_lt, min, if◌then◌else◌, Option, Some, None, Ok, Err, unwrap_or, List, [], ◌∷◌, ◌++◌, length, map, slice_get, get_or, refl, sym, ap, ◌∙◌, ⊎_elim, arith, lt-ltb, le-ltb, eq-eqb, ne_eqb, eqb-true}
 use borrow.Author.Tests.{ltb-false}
-use Rattle.std.specs.Prelude.{codes}
-use Rattle.std.specs.List.{range_with_len, flat_map}
+use Rattle.std.specs.List.{All, range_with_len, flat_map}
 use Rattle.std.specs.Option.{option_map}
 use Rattle.std.proofs.lemmas.Bool.{cases_Bool, cases_lt, eqb-false}
 use Rattle.std.proofs.lemmas.List.{length-map}
+use Rattle.std.proofs.lemmas.List.Elements.{All-head, All-tail}
 use Rattle.std.proofs.lemmas.Option.{slice_get-map}
 use Rattle.edi_tables.specs.declared.segment.TableRow.{TableRow}
+use Rattle.edi_tables.specs.declared.table.Node.{Node}
 use Rattle.edi_tables.specs.declared.table.TableKind.{TableKind}
-use Rattle.edi_tables.specs.declared.table.TableKind.TheVariants.{TooMany, NoUnhUnt, EnvelopeTag, BadMax, BadDepth, TooDeep, NoTrigger}
-use Rattle.edi_tables.specs.Rows.{has_name, is_group_row, is_frame_row, breaks_frame, breaks_envelope, breaks_max, breaks_depth, breaks_trigger, depth_behind, row_before, is_trigger_row, when, row_faults, faults_at, table_faults}
-use Rattle.edi_octets.proofs.EachLemmas.{nothing-append}
-use Rattle.dir_messages.specs.Drawing.{held, BeginsWith}
+use Rattle.edi_tables.specs.declared.table.TableKind.TheVariants.{NoUnhUnt, EnvelopeTag, BadMax, BadDepth, TooDeep, NoTrigger}
+use Rattle.edi_tables.specs.Rows.{is_group_row, breaks_frame, breaks_envelope, breaks_max, breaks_depth, breaks_trigger, depth_behind, row_before, is_trigger_row, when, row_faults, faults_at, table_faults, first_or}
+use Rattle.edi_tables.proofs.Faults.{first_of_nil, small_depth}
+use Rattle.edi_octets.specs.Lines.{Line}
+use Rattle.dir_messages.specs.declared.drawing.Drawing.{Drawing}
+use Rattle.dir_messages.specs.Message.{kind_of, row_fault, rows_of}
+use Rattle.dir_messages.specs.Drawing.{held, IsDrawn, BeginsWith, rows_faults}
 
 -- ---- depths below 255 are held as they are, and a deeper one stays deeper
 
@@ -97,8 +101,8 @@ module _ (rows : List TableRow) where
   before-held : (i : ℕ) → row_before all_held i ≡ option_map held (row_before rows i)
   before-held i =
       ⊎_elim
-      (λ (first : (i == 0) ≡ true). rw (first, first) refl)
-      (λ (later : (i == 0) ≡ false). rw (later, later) (slice_get-map held rows (i - 1)))
+      (λ (first : (i == 0) ≡ true). rw first refl)
+      (λ (later : (i == 0) ≡ false). rw later (slice_get-map held rows (i - 1)))
       (cases_Bool (i == 0))
 
   frame-held : (i : ℕ) (row : TableRow) → breaks_frame all_held i (held row) ≡ breaks_frame rows i row
@@ -174,10 +178,66 @@ module _ (rows : List TableRow) where
   first-held =
       rw (length-map rows held)
       (⊎_elim
-        (λ (many : nat_lt 2000 (length rows) ≡ true). rw (many, many) refl)
+        (λ (many : nat_lt 2000 (length rows) ≡ true). rw many refl)
         (λ (few : nat_lt 2000 (length rows) ≡ false).
         ⊎_elim
-        (λ (none : (length rows == 0) ≡ true). rw (few, none, few, none) refl)
-        (λ (some : (length rows == 0) ≡ false). rw (few, some, few, some) (from-held 0 (length rows) shallow-none))
+        (λ (none : (length rows == 0) ≡ true). rw (few, none) refl)
+        (λ (some : (length rows == 0) ≡ false). rw (few, some) (from-held 0 (length rows) shallow-none))
         (cases_Bool (length rows == 0)))
         (cases_Bool (nat_lt 2000 (length rows))))
+
+map-same : {A : Type 0} (f : A → A) (xs : List A) → All (λ x. f x ≡ x) xs → map f xs ≡ xs
+map-same f [] all = refl
+map-same f (x ∷ xs) all = rw (All-head (λ x. f x ≡ x) x xs all, map-same f xs (All-tail (λ x. f x ≡ x) x xs all)) refl
+
+held-same : (row : TableRow) → row.depth ≤ 16 → held row ≡ row
+held-same row few = let same : min row.depth 255 ≡ row.depth = omega arith in ap (λ (depth : ℕ). record row { depth = depth }) same
+
+-- rows that break nothing are held as they are
+rows-held : (rows : List TableRow) → table_faults rows ≡ [] → map held rows ≡ rows
+rows-held rows sound =
+    map-same held rows (λ k d lt. held-same (get_or rows k d) (small_depth rows sound k (get_or rows k d).depth d lt refl))
+
+begins_from : {A : Type 0} (x : A) (xs : List A) → slice_get xs 0 ≡ Some x → BeginsWith x xs
+begins_from x [] is = cc
+begins_from x (y ∷ xs) is = (xs, ap (λ z. z ∷ xs) (let same : y ≡ x = cc in same))
+
+begins_map : {A B : Type 0} (h : A → B) (x : A) (xs : List A) → BeginsWith x xs → BeginsWith (h x) (map h xs)
+begins_map h x xs begins = (map h begins.0, ap (map h) begins.1)
+
+-- a row's fault stands at the line that was noted for the row
+line_noted : (type : Line) (lines : List Line) (at : ℕ) (kind : TableKind) (line : Option Line) → line ≡ slice_get lines at → row_fault type lines (at, kind) ≡ record { line = unwrap_or (option_map (λ (l : Line). l.number) line) type.number; kind = kind_of kind }
+line_noted type lines at kind None is = rw (← is, row_fault) refl
+line_noted type lines at kind (Some line) is = rw (← is, row_fault) refl
+
+module _ (type : Line) (drawn : List Line) (drawing : Drawing) (is : IsDrawn drawn drawing) where
+  faults-held : slice_get (table_faults drawing.rows.items) 0 ≡ slice_get (table_faults (rows_of drawn)) 0
+  faults-held = rw is.rows (first-held (rows_of drawn))
+
+  -- rows that are a table break nothing, and are the rows of their lines
+  pub rows-sound : slice_get (table_faults drawing.rows.items) 0 ≡ None → rows_faults type drawn ≡ []
+  rows-sound none = ap (map (row_fault type drawn)) (first_of_nil (table_faults (rows_of drawn)) (sym faults-held ∙ none))
+
+  none-map_fault : (faults : List (ℕ × TableKind)) → map (row_fault type drawn) faults ≡ [] → faults ≡ []
+  none-map_fault [] none = refl
+  none-map_fault (fault ∷ faults) none = cc
+
+  pub rows-same : rows_faults type drawn ≡ [] → drawing.rows.items ≡ rows_of drawn
+  rows-same none = is.rows ∙ rows-held (rows_of drawn) (none-map_fault (table_faults (rows_of drawn)) none)
+
+  -- what the rows break first stands at its row's line
+  pub rows-faulty : (at : ℕ) (kind : TableKind) → slice_get (table_faults drawing.rows.items) 0 ≡ Some (at, kind) → BeginsWith (record { line = unwrap_or (slice_get drawing.row_lines.items at) type.number; kind = kind_of kind }) (rows_faults type drawn)
+  rows-faulty at kind first =
+      let begins = begins_map (row_fault type drawn) (at, kind) (table_faults (rows_of drawn)) (begins_from (at, kind) (table_faults (rows_of drawn)) (sym faults-held ∙ first)) in
+      let noted : slice_get drawing.row_lines.items at ≡ option_map (λ (l : Line). l.number) (slice_get drawn at) = rw is.numbers (slice_get-map (λ (l : Line). l.number) drawn at) in
+      let line : row_fault type drawn (at, kind) ≡ record { line = unwrap_or (slice_get drawing.row_lines.items at) type.number; kind = kind_of kind } = rw noted (line_noted type drawn at kind (slice_get drawn at) refl) in
+      (begins.0, begins.1 ∙ ap (λ fault. fault ∷ begins.0) line)
+
+-- what `build` answers
+pub build-fault : (faults : List (ℕ × TableKind)) (nodes : List Node) (at : ℕ) (kind : TableKind) → first_or faults nodes ≡ Err (at, kind) → slice_get faults 0 ≡ Some (at, kind)
+build-fault [] nodes at kind is = cc
+build-fault (fault ∷ faults) nodes at kind is = let same : fault ≡ (at, kind) = cc in ap Some same
+
+pub build-none : (faults : List (ℕ × TableKind)) (nodes found : List Node) → first_or faults nodes ≡ Ok found → slice_get faults 0 ≡ None
+build-none [] nodes found is = refl
+build-none (fault ∷ faults) nodes found is = cc

@@ -18,7 +18,7 @@ use Rattle.dir_messages.specs.declared.drawing.Drawing.{Drawing}
 use Rattle.dir_messages.specs.declared.drawing.DrawnRow.{DrawnRow}
 use Rattle.dir_messages.specs.Message.{name_on, has_rest, is_in_order, drawing_faults, is_group_line, is_table_line, is_type_line, line_faults, groups_among, open_after, ends_drawn, position_of, last_position, middle_of, status_of, max_of, number_drawn, tag_drawn, row_of, rows_of}
 use Rattle.dir_messages.specs.Form.{form_faults, row_tag, is_greater}
-use Rattle.dir_messages.specs.Drawing.{ends_among, IsDrawn, kinds_broken, BeginsWith, DrawsRow, Puts}
+use Rattle.dir_messages.specs.Drawing.{held, ends_among, IsDrawn, kinds_broken, BeginsWith, DrawsRow, Puts}
 
 -- the form's faults of a line behind others
 form_is : (earlier : List Line) (line : Line) → drawing_faults earlier line ≡ form_faults (middle_of line) (ends_drawn line) (groups_among earlier) (open_after earlier)
@@ -57,13 +57,13 @@ begins x xs ys same first = (first.0, same ∙ first.1)
 -- a row, by the parts of its line
 row_made : Option Tag → Option Bool → ℕ → ℕ → TableRow
 row_made tag status max open_groups =
-    record { tag = tag; must = elim status [ None ↦ false | Some must ↦ must ]; max = max; depth = min open_groups 255 }
+    record { tag = tag; must = elim status [ None ↦ false | Some must ↦ must ]; max = max; depth = open_groups }
 
 row_of-made : (earlier : List Line) (line : Line) → row_of earlier line ≡ row_made (row_tag (middle_of line)) (status_of line) (max_of line) (open_after earlier)
 unfolding row_made
 row_of-made earlier line = refl
 
-row_made-some : (tag : Option Tag) (must : Bool) (max open_groups : ℕ) → row_made tag (Some must) max open_groups ≡ record { tag = tag; must = must; max = max; depth = min open_groups 255 }
+row_made-some : (tag : Option Tag) (must : Bool) (max open_groups : ℕ) → row_made tag (Some must) max open_groups ≡ record { tag = tag; must = must; max = max; depth = open_groups }
 unfolding row_made
 row_made-some tag must max open_groups = refl
 
@@ -91,15 +91,15 @@ module _ (earlier : List Line) (line : Line) (drawing : Drawing) (position : ℕ
       ∙ ap (λ g. form_faults middle ends g (open_after earlier)) (sym drawn.groups)
       ∙ ap (form_faults middle ends drawing.groups) open_is
 
-  pub row-drawn : (middle : List (List ℕ)) (must : Bool) (max : ℕ) (tag : Option Tag) → middle_of line ≡ middle → status_of line ≡ Some must → max_of line ≡ max → tag ≡ row_tag middle → record { tag = tag; must = must; max = max; depth = min drawing.open_groups 255 } ≡ row_of earlier line
+  pub row-drawn : (middle : List (List ℕ)) (must : Bool) (max : ℕ) (tag : Option Tag) → middle_of line ≡ middle → status_of line ≡ Some must → max_of line ≡ max → tag ≡ row_tag middle → record { tag = tag; must = must; max = max; depth = min drawing.open_groups 255 } ≡ held (row_of earlier line)
   row-drawn middle must max tag middle_is status_is max_is tag_is =
-      sym (row_of-made earlier line
+      ap held (sym (row_of-made earlier line
       ∙ ap (λ m. row_made (row_tag m) (status_of line) (max_of line) (open_after earlier)) middle_is
       ∙ ap (λ t. row_made t (status_of line) (max_of line) (open_after earlier)) (sym tag_is)
       ∙ ap (λ s. row_made tag s (max_of line) (open_after earlier)) status_is
       ∙ ap (λ m. row_made tag (Some must) m (open_after earlier)) max_is
       ∙ ap (row_made tag (Some must) max) open_is
-      ∙ row_made-some tag must max drawing.open_groups)
+      ∙ row_made-some tag must max drawing.open_groups))
 
 -- with one more line behind
 rows_of-push : (lines : List Line) (line : Line) → rows_of (lines ++ (line ∷ [])) ≡ rows_of lines ++ (row_of lines line ∷ [])
@@ -190,7 +190,7 @@ module _ (lines : List Line) (line : Line) (old new : Drawing) (position : ℕ) 
   pub IsDrawn-more : position_of line ≡ position → IsDrawn (lines ++ (line ∷ [])) new
   IsDrawn-more placed =
       record {
-        rows = puts.rows ∙ ap (λ rows. rows ++ (row.row ∷ [])) drawn.rows ∙ ap (λ last. rows_of lines ++ (last ∷ [])) draws.row ∙ sym (rows_of-push lines line);
+        rows = puts.rows ∙ ap (λ rows. rows ++ (row.row ∷ [])) drawn.rows ∙ ap (λ last. map held (rows_of lines) ++ (last ∷ [])) draws.row ∙ sym (ap (map held) (rows_of-push lines line) ∙ map_push held (rows_of lines) (row_of lines line));
         numbers = puts.numbers ∙ ap (λ numbers. numbers ++ (line.number ∷ [])) drawn.numbers ∙ sym (map_push (λ (l : Line). l.number) lines line);
         groups = counts-more.0;
         open_groups = counts-more.1;

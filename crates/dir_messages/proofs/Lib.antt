@@ -1,4 +1,5 @@
 pub mod CountLemmas
+pub mod DepthLemmas
 pub mod DrawingLemmas
 pub mod FinishLemmas
 pub mod FormLemmas

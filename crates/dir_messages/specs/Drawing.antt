@@ -1,5 +1,6 @@
--- What has been drawn behind some table lines, and what the next line does to it.
-use Rattle.std.specs.Prelude.{◌≡◌, ◌+◌, ◌-◌, ℕ, not, List, [], ◌∷◌, ◌++◌, map, filter, sum_by, Some, Result, Ok, Err, is_some, if◌then◌else◌}
+-- What bodies and their invariants need of a drawing: what has been drawn after some table lines, and what the next line does to it.
+use Rattle.std.specs.Prelude.{◌≡◌, ◌+◌, ◌-◌, ℕ, not, List, [], ◌∷◌, ◌++◌, map, filter, min, sum_by, Some, Result, Ok, Err, is_some, if◌then◌else◌}
+use Rattle.edi_tables.specs.declared.segment.TableRow.{TableRow}
 use Rattle.edi_tables.specs.Rows.{when, table_faults}
 use Rattle.edi_octets.specs.declared.fault.DirKind.{DirKind}
 use Rattle.edi_octets.specs.declared.fault.DirKind.TheVariants.{BadLine, BadPosition}
@@ -15,9 +16,13 @@ use Rattle.dir_messages.specs.Message.{ends_drawn, is_group_line, is_table_line,
 abbrev pub ends_among : List Line → ℕ
 ends_among lines = sum_by ends_drawn (filter (λ line. not (is_group_line line)) lines)
 
+-- a row as it is held: in one octet, a depth of 255 or more is 255; any deeper than 16 is refused
+abbrev pub held : TableRow → TableRow
+held row = record row { depth = min row.depth 255 }
+
 -- the drawing of these table lines, of which none closes a group that isn't open
 pub record IsDrawn (lines : List Line) (drawing : Drawing) : Type 0 where
-  pub rows : drawing.rows.items ≡ rows_of lines
+  pub rows : drawing.rows.items ≡ map held (rows_of lines)
   pub numbers : drawing.row_lines.items ≡ map (λ line. line.number) lines
   pub groups : drawing.groups ≡ groups_among lines
   pub open_groups : drawing.open_groups + ends_among lines ≡ groups_among lines
@@ -35,7 +40,7 @@ BeginsWith {A} x xs = (more : List A) × (xs ≡ x ∷ more)
 -- a table line breaks no rule behind these, and this is its row; on a segment line so many groups end
 pub record DrawsRow (earlier : List Line) (line : Line) (drawn : DrawnRow) : Type 0 where
   pub sound : kinds_broken earlier line ≡ []
-  pub row : drawn.row ≡ row_of earlier line
+  pub row : drawn.row ≡ held (row_of earlier line)
   pub ends : drawn.ends ≡ ends_drawn line
 
 -- a drawing with one more row behind it: a group is opened, or groups are closed

@@ -1,5 +1,5 @@
 -- What a drawn message file is.
-use Rattle.std.specs.Prelude.{◌-◌, ◌+◌, ℕ, Bool, true, false, not, ◌==◌, ◌&&◌, ◌||◌, nat_le, nat_lt, min, List, [], ◌∷◌, ◌++◌, length, map, filter, find, take, drop, reverse, sum_by, count_by, slice_get, slice_index, Option, Some, None, is_some, unwrap_or, option_and_then, Result, Err, codes, if◌then◌else◌}
+use Rattle.std.specs.Prelude.{◌-◌, ◌+◌, ℕ, Bool, true, false, not, ◌==◌, ◌&&◌, ◌||◌, nat_le, nat_lt, List, [], ◌∷◌, ◌++◌, length, map, filter, find, take, drop, reverse, sum_by, count_by, slice_get, slice_index, Option, Some, None, is_some, unwrap_or, option_and_then, Result, Err, codes, if◌then◌else◌}
 use Rattle.std.specs.List.{slice_split, list_all, flat_map, before_last, after_last, prefix_len, join_with_byte}
 use Rattle.std.specs.Str.{all_ascii_digits, bytes_eq, str_eq_ignore_ascii_case}
 use Rattle.std.specs.Str.Parse.{digits_value}
@@ -140,14 +140,14 @@ line_faults earlier line =
     if is_type_line line then at_line BadLine line ∷ []
     else (if is_table_line line then table_line_faults (filter is_table_line earlier) line else [])
 
--- the row of a table line after these; groups deeper than 255 count as 255 deep
+-- the row of a table line after these: it is as deep as groups are open
 abbrev pub row_of : List Line → Line → TableRow
 row_of earlier line =
     record {
       tag = if is_group_line line then None else tag_drawn (middle_of line);
       must = elim (status_of line) [ None ↦ false | Some must ↦ must ];
       max = max_of line;
-      depth = min (open_after earlier) 255;
+      depth = open_after earlier;
     }
 
 abbrev pub rows_of : List Line → List TableRow

@@ -11,7 +11,7 @@ use edi_octets::{Cells, DirFault, DirKind, DirStop, LineText};
 use edi_tables::{Chunk, List, MessageDef, Table, TableKind, TableRow, TableStop, Tag};
 use std::alloc::{AllocError, Global};
 
-/// The greatest depth that a row can have; groups deeper than that count as so deep.
+/// The greatest depth that a row holds. A row that is deeper holds this one: any depth over 16 is refused.
 const MAX_DEPTH: u64 = 255;
 
 /// What the table lines so far have drawn.

@@ -12,10 +12,10 @@ use Rattle.std.proofs.lemmas.Bool.{cases_Bool, cases_lt, and_parts, lt-leb, and_
 use Rattle.std.proofs.lemmas.List.Sums.{prefix_len-le-length}
 use Rattle.edi_tables.specs.Tag.{is_digit}
 use Rattle.edi_octets.specs.Decimal.{decimal_in}
-use Rattle.edi_octets.specs.Lines.{is_filled}
+use Rattle.edi_octets.specs.Lines.{is_filled, after_spaces}
 use Rattle.edi_octets.proofs.DecimalLemmas.{digit_between, digits_value-room, decimal_in-value}
 use Rattle.dir_messages.specs.Message.{is_tail_octet, is_plain_number}
-use Rattle.dir_messages.specs.Parts.{behind_spaces, count_in, counts_in, IsNumber}
+use Rattle.dir_messages.specs.Parts.{count_in, counts_in, IsNumber}
 
 -- the digits in front are digits
 pub digits-in_front : (text : List ℕ) → all_ascii_digits (take (prefix_len is_digit text) text) ≡ true
@@ -41,7 +41,7 @@ counts_in-parts rest k is =
     rw (long, is) (joined (nat_le 1 (prefix_len is_digit rest)) (nat_le (prefix_len is_digit rest) 6) (list_all is_tail_octet (drop (prefix_len is_digit rest) rest)) (λ max. record { max = max; ends = count_by (λ x. x == 43) (drop (prefix_len is_digit rest) rest) }) (digits_value 10 (take (prefix_len is_digit rest) rest)))
 
 -- a text cut behind its digits
-pub counts_in-read : (text rest digits tail : List ℕ) (k : ℕ) → rest ≡ behind_spaces text → digits ≡ take k rest → tail ≡ drop k rest → k ≡ prefix_len is_digit rest → counts_in (behind_spaces text) ≡ (if list_all is_tail_octet tail then option_map (λ max. record { max = max; ends = count_by (λ x. x == 43) tail }) (count_in digits) else None)
+pub counts_in-read : (text rest digits tail : List ℕ) (k : ℕ) → rest ≡ after_spaces text → digits ≡ take k rest → tail ≡ drop k rest → k ≡ prefix_len is_digit rest → counts_in (after_spaces text) ≡ (if list_all is_tail_octet tail then option_map (λ max. record { max = max; ends = count_by (λ x. x == 43) tail }) (count_in digits) else None)
 counts_in-read text rest digits tail k behind front back is =
     rw (front, back) (ap counts_in (sym behind) ∙ counts_in-parts rest k is)
 

@@ -1,5 +1,5 @@
 -- Rows of which the depth is held in one octet break first what the rows break first.
-use Rattle.std.proofs.Common.{◌≡◌, ◌≢◌, ℕ, zero, suc, ◌+◌, ◌-◌, ◌<◌, ◌≤◌, Bool, true, false, not, ◌==◌, ◌&&◌, nat_lt, min, if◌then◌else◌, Option, Some, None, Ok, Err, unwrap_or, List, [], ◌∷◌, ◌++◌, length, map, slice_get, get_or, refl, sym, ap, ◌∙◌, ⊎_elim, arith, lt-ltb, le-ltb, eq-eqb, ne_eqb, eqb-true}
+use Rattle.std.proofs.Common.{◌≡◌, ◌≢◌, ℕ, zero, suc, ◌+◌, ◌-◌, ◌<◌, ◌≤◌, Bool, true, false, not, ◌==◌, ◌&&◌, nat_lt, min, if◌then◌else◌, Option, Some, None, unwrap_or, List, [], ◌∷◌, ◌++◌, length, map, slice_get, get_or, refl, sym, ap, ◌∙◌, ⊎_elim, arith, lt-ltb, le-ltb, eq-eqb, ne_eqb, eqb-true}
 use borrow.Author.Tests.{ltb-false}
 use Rattle.std.specs.List.{All, range_with_len, flat_map}
 use Rattle.std.specs.Option.{option_map}
@@ -8,15 +8,16 @@ use Rattle.std.proofs.lemmas.List.{length-map}
 use Rattle.std.proofs.lemmas.List.Elements.{All-head, All-tail}
 use Rattle.std.proofs.lemmas.Option.{slice_get-map}
 use Rattle.edi_tables.specs.declared.segment.TableRow.{TableRow}
-use Rattle.edi_tables.specs.declared.table.Node.{Node}
+use Rattle.edi_tables.specs.declared.table.RowFault.{RowFault}
 use Rattle.edi_tables.specs.declared.table.TableKind.{TableKind}
 use Rattle.edi_tables.specs.declared.table.TableKind.TheVariants.{NoUnhUnt, EnvelopeTag, BadMax, BadDepth, TooDeep, NoTrigger}
-use Rattle.edi_tables.specs.Rows.{is_group_row, breaks_frame, breaks_envelope, breaks_max, breaks_depth, breaks_trigger, depth_behind, row_before, is_trigger_row, when, row_faults, faults_at, table_faults, first_or}
+use Rattle.edi_tables.specs.Rows.{is_group_row, breaks_frame, breaks_envelope, breaks_max, breaks_depth, breaks_trigger, depth_behind, row_before, is_trigger_row, when, row_faults, faults_at, table_faults}
 use Rattle.edi_tables.proofs.Faults.{first_of_nil, small_depth}
+use Rattle.edi_octets.specs.declared.fault.DirFault.{DirFault}
 use Rattle.edi_octets.specs.Lines.{Line}
 use Rattle.dir_messages.specs.declared.drawing.Drawing.{Drawing}
-use Rattle.dir_messages.specs.Message.{kind_of, row_fault, rows_of}
-use Rattle.dir_messages.specs.Drawing.{held, IsDrawn, BeginsWith, rows_faults}
+use Rattle.dir_messages.specs.Message.{kind_of, row_fault, rows_of, rows_faults}
+use Rattle.dir_messages.specs.Drawing.{held, IsDrawn, BeginsWith}
 
 -- ---- depths below 255 are held as they are, and a deeper one stays deeper
 
@@ -206,7 +207,7 @@ begins_map : {A B : Type 0} (h : A → B) (x : A) (xs : List A) → BeginsWith x
 begins_map h x xs begins = (map h begins.0, ap (map h) begins.1)
 
 -- a row's fault stands at the line that was noted for the row
-line_noted : (type : Line) (lines : List Line) (at : ℕ) (kind : TableKind) (line : Option Line) → line ≡ slice_get lines at → row_fault type lines (at, kind) ≡ record { line = unwrap_or (option_map (λ (l : Line). l.number) line) type.number; kind = kind_of kind }
+line_noted : (type : Line) (lines : List Line) (at : ℕ) (kind : TableKind) (line : Option Line) → line ≡ slice_get lines at → row_fault type lines (record { at = at; kind = kind }) ≡ record { line = unwrap_or (option_map (λ (l : Line). l.number) line) type.number; kind = kind_of kind }
 line_noted type lines at kind None is = rw (← is, row_fault) refl
 line_noted type lines at kind (Some line) is = rw (← is, row_fault) refl
 
@@ -218,7 +219,7 @@ module _ (type : Line) (drawn : List Line) (drawing : Drawing) (is : IsDrawn dra
   pub rows-sound : slice_get (table_faults drawing.rows.items) 0 ≡ None → rows_faults type drawn ≡ []
   rows-sound none = ap (map (row_fault type drawn)) (first_of_nil (table_faults (rows_of drawn)) (sym faults-held ∙ none))
 
-  none-map_fault : (faults : List (ℕ × TableKind)) → map (row_fault type drawn) faults ≡ [] → faults ≡ []
+  none-map_fault : (faults : List RowFault) → map (row_fault type drawn) faults ≡ [] → faults ≡ []
   none-map_fault [] none = refl
   none-map_fault (fault ∷ faults) none = cc
 
@@ -226,18 +227,10 @@ module _ (type : Line) (drawn : List Line) (drawing : Drawing) (is : IsDrawn dra
   rows-same none = is.rows ∙ rows-held (rows_of drawn) (none-map_fault (table_faults (rows_of drawn)) none)
 
   -- what the rows break first stands at its row's line
-  pub rows-faulty : (at : ℕ) (kind : TableKind) → slice_get (table_faults drawing.rows.items) 0 ≡ Some (at, kind) → BeginsWith (record { line = unwrap_or (slice_get drawing.row_lines.items at) type.number; kind = kind_of kind }) (rows_faults type drawn)
+  pub rows-faulty : (at : ℕ) (kind : TableKind) → slice_get (table_faults drawing.rows.items) 0 ≡ Some (record { at = at; kind = kind }) → BeginsWith (record { line = unwrap_or (slice_get drawing.row_lines.items at) type.number; kind = kind_of kind }) (rows_faults type drawn)
   rows-faulty at kind first =
-      let begins = begins_map (row_fault type drawn) (at, kind) (table_faults (rows_of drawn)) (begins_from (at, kind) (table_faults (rows_of drawn)) (sym faults-held ∙ first)) in
+      let fault : RowFault = record { at = at; kind = kind } in
+      let begins = begins_map (row_fault type drawn) fault (table_faults (rows_of drawn)) (begins_from fault (table_faults (rows_of drawn)) (sym faults-held ∙ first)) in
       let noted : slice_get drawing.row_lines.items at ≡ option_map (λ (l : Line). l.number) (slice_get drawn at) = rw is.numbers (slice_get-map (λ (l : Line). l.number) drawn at) in
-      let line : row_fault type drawn (at, kind) ≡ record { line = unwrap_or (slice_get drawing.row_lines.items at) type.number; kind = kind_of kind } = rw noted (line_noted type drawn at kind (slice_get drawn at) refl) in
-      (begins.0, begins.1 ∙ ap (λ fault. fault ∷ begins.0) line)
-
--- what `build` answers
-pub build-fault : (faults : List (ℕ × TableKind)) (nodes : List Node) (at : ℕ) (kind : TableKind) → first_or faults nodes ≡ Err (at, kind) → slice_get faults 0 ≡ Some (at, kind)
-build-fault [] nodes at kind is = cc
-build-fault (fault ∷ faults) nodes at kind is = let same : fault ≡ (at, kind) = cc in ap Some same
-
-pub build-none : (faults : List (ℕ × TableKind)) (nodes found : List Node) → first_or faults nodes ≡ Ok found → slice_get faults 0 ≡ None
-build-none [] nodes found is = refl
-build-none (fault ∷ faults) nodes found is = cc
+      let line : row_fault type drawn fault ≡ record { line = unwrap_or (slice_get drawing.row_lines.items at) type.number; kind = kind_of kind } = rw noted (line_noted type drawn at kind (slice_get drawn at) refl) in
+      (begins.0, begins.1 ∙ ap (λ (f : DirFault). f ∷ begins.0) line)

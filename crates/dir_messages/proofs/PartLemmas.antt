@@ -7,33 +7,34 @@ use Rattle.std.proofs.lemmas.List.Elements.{All-from_get_or}
 use Rattle.std.proofs.lemmas.List.Folds.{list_any-append}
 use Rattle.std.proofs.lemmas.List.Splits.{slice_split_none}
 use Rattle.memchr.specs.Find.{NoneAfter, Passes, is_byte}
-use Rattle.dir_messages.specs.Parts.{is_space, parts_in, behind_spaces, CutsAtLastSpace}
+use Rattle.dir_messages.specs.Parts.{CutsAtLastSpace}
+use Rattle.edi_octets.specs.Lines.{is_space, pieces_in, after_spaces}
 
 -- there is always a first part
-pub first_part : (text : List ℕ) → (part : List ℕ) × (parts : List (List ℕ)) × (parts_in text ≡ part ∷ parts)
+pub first_part : (text : List ℕ) → (part : List ℕ) × (parts : List (List ℕ)) × (pieces_in text ≡ part ∷ parts)
 first_part [] = ([], [], refl)
 first_part (x ∷ text) =
     let behind = first_part text in
     ⊎_elim
-    (λ (space : is_space x ≡ true). ([], parts_in text, rw space refl))
+    (λ (space : is_space x ≡ true). ([], pieces_in text, rw space refl))
     (λ (other : is_space x ≡ false). (x ∷ behind.0, behind.1, rw (other, behind.2) refl))
     (cases_Bool (is_space x))
 
-onto_first-append : (x : ℕ) (text : List ℕ) (others : List (List ℕ)) → onto_first x (parts_in text ++ others) ≡ onto_first x (parts_in text) ++ others
+onto_first-append : (x : ℕ) (text : List ℕ) (others : List (List ℕ)) → onto_first x (pieces_in text ++ others) ≡ onto_first x (pieces_in text) ++ others
 onto_first-append x text others = let first = first_part text in rw first.2 refl
 
 -- a space parts the parts before it from those behind it
-pub parts_in-append : (before behind : List ℕ) → parts_in (before ++ (32 ∷ behind)) ≡ parts_in before ++ parts_in behind
-parts_in-append [] behind = refl
-parts_in-append (x ∷ before) behind =
+pub pieces_in-append : (before behind : List ℕ) → pieces_in (before ++ (32 ∷ behind)) ≡ pieces_in before ++ pieces_in behind
+pieces_in-append [] behind = refl
+pieces_in-append (x ∷ before) behind =
     ⊎_elim
-    (λ (space : is_space x ≡ true). rw space (ap (λ parts. [] ∷ parts) (parts_in-append before behind)))
-    (λ (other : is_space x ≡ false). rw other (ap (onto_first x) (parts_in-append before behind) ∙ onto_first-append x before (parts_in behind)))
+    (λ (space : is_space x ≡ true). rw space (ap (λ parts. [] ∷ parts) (pieces_in-append before behind)))
+    (λ (other : is_space x ≡ false). rw other (ap (onto_first x) (pieces_in-append before behind) ∙ onto_first-append x before (pieces_in behind)))
     (cases_Bool (is_space x))
 
 -- a text without a space is one part
-pub parts_in-one : (text : List ℕ) → ((k : ℕ) → k < length text → Passes (is_byte 32) text k → ⊥) → parts_in text ≡ text ∷ []
-parts_in-one text none =
+pub pieces_in-one : (text : List ℕ) → ((k : ℕ) → k < length text → Passes (is_byte 32) text k → ⊥) → pieces_in text ≡ text ∷ []
+pieces_in-one text none =
     slice_split_none is_space text (All-from_get_or (λ x. is_space x ≡ false) text 0 (λ i lt. false_from_ne_true _ (none i lt)))
 
 -- a text is cut where its last space was found
@@ -43,9 +44,9 @@ CutsAtLastSpace-found text k found =
     let space : get_or text k 0 ≡ 32 = eqb-true (get_or text k 0) 32 found.1 in
     let whole : text ≡ take k text ++ (32 ∷ drop (k + 1) text) =
     sym (take-append-drop k text) ∙ ap (λ rest. take k text ++ rest) (drop_more text k 0 within ∙ ap (λ x. x ∷ drop (k + 1) text) space) in
-    let one : parts_in (drop (k + 1) text) ≡ drop (k + 1) text ∷ [] =
-    parts_in-one (drop (k + 1) text) (λ j lt space. found.0.after (k + 1 + j) (omega arith) (omega (arith, length-drop (k + 1) text)) (rw (get_or-drop (k + 1) text j 0) at space)) in
-    record { whole = whole; parts = ap parts_in whole ∙ parts_in-append (take k text) (drop (k + 1) text) ∙ ap (λ parts. parts_in (take k text) ++ parts) one }
+    let one : pieces_in (drop (k + 1) text) ≡ drop (k + 1) text ∷ [] =
+    pieces_in-one (drop (k + 1) text) (λ j lt space. found.0.after (k + 1 + j) (omega arith) (omega (arith, length-drop (k + 1) text)) (rw (get_or-drop (k + 1) text j 0) at space)) in
+    record { whole = whole; pieces = ap pieces_in whole ∙ pieces_in-append (take k text) (drop (k + 1) text) ∙ ap (λ parts. pieces_in (take k text) ++ parts) one }
 
 -- what stands behind members that don't pass
 find-behind : {A : Type 0} (p : A → Bool) (xs ys : List A) → list_any p xs ≡ false → find p (xs ++ ys) ≡ find p ys
@@ -106,6 +107,6 @@ join-spaced part [] = sym (append-nil part)
 join-spaced part (next ∷ parts) = ap (λ rest. part ++ (32 ∷ rest)) (join-spaced next parts)
 
 -- behind the spaces in front stands the same, whether or not the first part has a space in front
-pub behind_spaces-spaced : (parts : List (List ℕ)) → behind_spaces (spaced parts) ≡ behind_spaces (join_with_byte 32 parts)
-behind_spaces-spaced [] = refl
-behind_spaces-spaced (part ∷ parts) = rw (join-spaced part parts, one-add) refl
+pub after_spaces-spaced : (parts : List (List ℕ)) → after_spaces (spaced parts) ≡ after_spaces (join_with_byte 32 parts)
+after_spaces-spaced [] = refl
+after_spaces-spaced (part ∷ parts) = rw (join-spaced part parts, one-add) refl

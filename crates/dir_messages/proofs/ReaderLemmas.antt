@@ -14,8 +14,8 @@ use Rattle.edi_tables.specs.First.{Answers, unless_faulty}
 use Rattle.edi_octets.specs.DirStop.{fault_in}
 use Rattle.edi_octets.proofs.EarlierLemmas.{judged-none, judged-first}
 use Rattle.dir_messages.specs.declared.drawing.Drawing.{Drawing}
-use Rattle.dir_messages.specs.Message.{name_on, is_type_line, is_table_line, is_group_line, line_faults, open_faults, rows_of, row_fault, message_behind, message_from, message_in}
-use Rattle.dir_messages.specs.Drawing.{IsDrawn, Judges, rows_faults}
+use Rattle.dir_messages.specs.Message.{name_on, is_type_line, is_table_line, is_group_line, line_faults, open_faults, rows_of, row_fault, message_after, message_from, message_in, rows_faults}
+use Rattle.dir_messages.specs.Drawing.{IsDrawn, Judges}
 
 -- what each line breaks behind those before it
 abbrev pub judge : List Line × Line → List DirFault
@@ -41,9 +41,9 @@ answer type lines faults =
     unless_faulty (faults ++ open_faults (filter is_table_line lines) ++ map (row_fault type (filter is_table_line lines)) (table_faults (rows_of (filter is_table_line lines))))
     (record { name = unwrap_or (name_on (fields_of type.octets)) []; rows = rows_of (filter is_table_line lines) })
 
-message_behind-is : (type : Line) (lines : List Line) → message_behind type lines ≡ answer type lines (flat_map judge (with_earlier lines))
+message_after-is : (type : Line) (lines : List Line) → message_after type lines ≡ answer type lines (flat_map judge (with_earlier lines))
 unfolding answer
-message_behind-is type lines = refl
+message_after-is type lines = refl
 
 answer-fault : (type : Line) (lines : List Line) (fault : DirFault) (more : List DirFault) → answer type lines (fault ∷ more) ≡ Err fault
 unfolding answer
@@ -54,19 +54,19 @@ unfolding answer
 answer-none type lines = refl
 
 -- a line at which the reading stops
-pub Answers-stopped : (type : Line) (lines seen rest : List Line) (line : Line) (old new : Drawing) (stop : DirStop) → lines ≡ seen ++ (line ∷ rest) → HasRead seen old → Judges seen line (Err stop) new → Answers (λ (m : MessageDef). m) fault_in (Err stop) (message_behind type lines)
+pub Answers-stopped : (type : Line) (lines seen rest : List Line) (line : Line) (old new : Drawing) (stop : DirStop) → lines ≡ seen ++ (line ∷ rest) → HasRead seen old → Judges seen line (Err stop) new → Answers (λ (m : MessageDef). m) fault_in (Err stop) (message_after type lines)
 Answers-stopped type lines seen rest line old new (Fault fault) whole read first =
-    message_behind-is type lines ∙ ap (λ all. answer type lines (flat_map judge (with_earlier all))) whole
+    message_after-is type lines ∙ ap (λ all. answer type lines (flat_map judge (with_earlier all))) whole
     ∙ ap (answer type lines) (judged-first judge seen line rest fault first.0 read.sound first.1)
     ∙ answer-fault type lines fault (first.0 ++ flat_map judge (with_earlier_from (seen ++ (line ∷ [])) rest))
 Answers-stopped type lines seen rest line old new Memory whole read first = tt
 
 -- the lines end
-pub Answers-end : (type : Line) (lines : List Line) (name : List ℕ) (drawing : Drawing) (result : Result MessageDef DirStop) → name_on (fields_of type.octets) ≡ Some name → HasRead lines drawing → Answers (λ (m : MessageDef). m) fault_in result (unless_faulty (open_faults (filter is_table_line lines) ++ rows_faults type (filter is_table_line lines)) (record { name = name; rows = rows_of (filter is_table_line lines) })) → Answers (λ (m : MessageDef). m) fault_in result (message_behind type lines)
+pub Answers-end : (type : Line) (lines : List Line) (name : List ℕ) (drawing : Drawing) (result : Result MessageDef DirStop) → name_on (fields_of type.octets) ≡ Some name → HasRead lines drawing → Answers (λ (m : MessageDef). m) fault_in result (unless_faulty (open_faults (filter is_table_line lines) ++ rows_faults type (filter is_table_line lines)) (record { name = name; rows = rows_of (filter is_table_line lines) })) → Answers (λ (m : MessageDef). m) fault_in result (message_after type lines)
 Answers-end type lines name drawing result named read given =
     let drawn = filter is_table_line lines in
-    let same : message_behind type lines ≡ unless_faulty (open_faults drawn ++ rows_faults type drawn) (record { name = name; rows = rows_of drawn }) =
-    message_behind-is type lines ∙ ap (answer type lines) read.sound ∙ answer-none type lines
+    let same : message_after type lines ≡ unless_faulty (open_faults drawn ++ rows_faults type drawn) (record { name = name; rows = rows_of drawn }) =
+    message_after-is type lines ∙ ap (answer type lines) read.sound ∙ answer-none type lines
     ∙ ap (λ (n : List ℕ). unless_faulty (open_faults drawn ++ rows_faults type drawn) (record { name = n; rows = rows_of drawn })) (ap (λ o. unwrap_or o []) named) in
     subst (λ file. Answers (λ (m : MessageDef). m) fault_in result file) (sym same) given
 
@@ -87,7 +87,7 @@ IsSought-more file line left rest count sought first text =
       counted = omega (arith, sought.counted, ap length first);
     }
 
-pub sought-found : (file : List ℕ) (line : Line) (left rest : List Line) (count : ℕ) → IsSought file left count → left ≡ line ∷ rest → is_type_line line ≡ true → message_in file ≡ message_behind line rest
+pub sought-found : (file : List ℕ) (line : Line) (left rest : List Line) (count : ℕ) → IsSought file left count → left ≡ line ∷ rest → is_type_line line ≡ true → message_in file ≡ message_after line rest
 sought-found file line left rest count sought first type =
     sought.same ∙ ap (message_from (length (lines_of file))) first ∙ rw type refl
 

@@ -4,33 +4,33 @@ use Rattle.std.specs.List.{list_any, position_or_len}
 use Rattle.std.proofs.lemmas.Bool.{cases_Bool}
 use Rattle.std.proofs.lemmas.List.{append-nil}
 use Rattle.std.proofs.lemmas.List.Prefix.{front_rest}
-use Rattle.edi_octets.specs.Lines.{cells_of}
+use Rattle.edi_octets.specs.Lines.{cells_of, is_space, pieces_in, after_spaces}
 use Rattle.edi_octets.specs.Profile.{status_in}
 use Rattle.dir_messages.specs.Message.{is_status}
-use Rattle.dir_messages.specs.Parts.{is_space, parts_in, behind_spaces, CutsAtLastSpace, CutsAtStatus}
-use Rattle.dir_messages.proofs.PartLemmas.{spaced, behind_spaces-spaced}
+use Rattle.dir_messages.specs.Parts.{CutsAtLastSpace, CutsAtStatus}
+use Rattle.dir_messages.proofs.PartLemmas.{spaced, after_spaces-spaced}
 
 -- a text in front, and behind it, each with a space before it, parts that are no status
 pub record HasFront (text front : List ℕ) : Type 0 where
   pub more : List (List ℕ)
-  pub parts : parts_in text ≡ parts_in front ++ more
+  pub pieces : pieces_in text ≡ pieces_in front ++ more
   pub last : list_any is_status more ≡ false
   pub whole : text ≡ front ++ spaced more
 
 pub HasFront-whole : (text : List ℕ) → HasFront text text
 HasFront-whole text =
-    record { more = []; parts = sym (append-nil (parts_in text)); last = refl; whole = sym (append-nil text) }
+    record { more = []; pieces = sym (append-nil (pieces_in text)); last = refl; whole = sym (append-nil text) }
 
-parts_of_cut : (text front before field : List ℕ) (h : HasFront text front) → CutsAtLastSpace front before field → parts_in text ≡ parts_in before ++ (field ∷ h.more)
+parts_of_cut : (text front before field : List ℕ) (h : HasFront text front) → CutsAtLastSpace front before field → pieces_in text ≡ pieces_in before ++ (field ∷ h.more)
 parts_of_cut text front before field h cut =
-    h.parts ∙ ap (λ parts. parts ++ h.more) cut.parts ∙ append_assoc (parts_in before) (field ∷ []) h.more
+    h.pieces ∙ ap (λ parts. parts ++ h.more) cut.pieces ∙ append_assoc (pieces_in before) (field ∷ []) h.more
 
 -- a field that is no status is passed
 pub HasFront-before : (text front before field : List ℕ) → HasFront text front → CutsAtLastSpace front before field → status_in field ≡ None → HasFront text before
 HasFront-before text front before field h cut none =
     record {
       more = field ∷ h.more;
-      parts = parts_of_cut text front before field h cut;
+      pieces = parts_of_cut text front before field h cut;
       last = rw none h.last;
       whole = h.whole ∙ ap (λ front. front ++ spaced h.more) cut.whole ∙ append_assoc before (32 ∷ field) (spaced h.more);
     }
@@ -43,19 +43,19 @@ pub CutsAtStatus-found : (text front before field : List ℕ) (must : Bool) → 
 unfolding cells_of
 CutsAtStatus-found text front before field must h cut is =
     record {
-      front = parts_in before;
+      front = pieces_in before;
       status = field;
       more = h.more;
-      parts = parts_of_cut text front before field h cut;
+      pieces = parts_of_cut text front before field h cut;
       is = is;
       last = h.last;
       cells = refl;
-      rest = ap behind_spaces (front_rest text front (spaced h.more) h.whole) ∙ behind_spaces-spaced h.more;
+      rest = ap after_spaces (front_rest text front (spaced h.more) h.whole) ∙ after_spaces-spaced h.more;
     }
 
 -- where no space is left in front of a text that begins with one, or is empty, it has no status
-pub none-HasFront : (text front : List ℕ) → HasFront text front → parts_in front ≡ front ∷ [] → position_or_len is_space text ≡ 0 → list_any is_status (parts_in text) ≡ false
-none-HasFront text [] h one begins = rw h.parts h.last
+pub none-HasFront : (text front : List ℕ) → HasFront text front → pieces_in front ≡ front ∷ [] → position_or_len is_space text ≡ 0 → list_any is_status (pieces_in text) ≡ false
+none-HasFront text [] h one begins = rw h.pieces h.last
 none-HasFront text (x ∷ front) h one begins =
     ⊎_elim
     (λ (space : is_space x ≡ true). cc (rw space at one))

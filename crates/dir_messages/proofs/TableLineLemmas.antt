@@ -1,9 +1,7 @@
 -- What stands on a table line, found behind its position.
-use Rattle.std.proofs.Common.{◌≡◌, ℕ, zero, suc, ◌+◌, ◌<◌, ◌≤◌, Bool, true, false, not, ◌==◌, ◌&&◌, nat_le, if◌then◌else◌, Some, None, List, [], ◌∷◌, ◌++◌, length, get_or, take, drop, replicate, filter, count_by, is_some, refl, sym, ap, ◌∙◌, ⊎_elim, arith, one-add, append_assoc, length-drop, length-take-le, take_all, eqb-true}
-use Rattle.std.specs.List.{prefix_len, position_or_len, list_any, list_all}
+use Rattle.std.proofs.Common.{◌≡◌, ℕ, zero, suc, ◌+◌, ◌<◌, ◌≤◌, Bool, true, false, not, ◌==◌, ◌&&◌, nat_le, if◌then◌else◌, Some, None, List, [], ◌∷◌, ◌++◌, length, get_or, take, drop, replicate, filter, is_some, refl, sym, ap, ◌∙◌, ⊎_elim, arith, one-add, append_assoc, length-drop, length-take-le, take_all, eqb-true}
+use Rattle.std.specs.List.{prefix_len, position_or_len, list_any}
 use Rattle.std.specs.Str.{all_ascii_digits}
-use Rattle.std.specs.Str.Parse.{digits_value}
-use Rattle.edi_tables.specs.Tag.{is_digit}
 use Rattle.std.proofs.lemmas.Bool.{cases_Bool, cases_lt, and_parts}
 use borrow.Author.Tests.{leb-true}
 use Rattle.std.proofs.lemmas.List.{length-replicate, drop_more, drop_all, drop-drop}
@@ -12,12 +10,12 @@ use Rattle.std.proofs.lemmas.List.Folds.{list_any-append}
 use Rattle.std.proofs.lemmas.List.Splits.{slice_split_first, slice_split_none}
 use Rattle.std.proofs.lemmas.List.Sums.{prefix_len-le-length, fails_before_first, passes_at_first}
 use Rattle.std.proofs.lemmas.Slice.{drop-append-drop}
-use Rattle.edi_octets.specs.Lines.{Line, is_filled, cells_of}
+use Rattle.edi_octets.specs.Lines.{Line, is_filled, cells_of, is_space, pieces_in, after_spaces}
 use Rattle.edi_octets.specs.Profile.{is_marked, marks_of, unmarked, fields_of, indentation_of, first_field, has_digits, status_in, after_position}
 use Rattle.edi_octets.proofs.CellLemmas.{cells_of-skip, cells_of-first, cells_of-nil, no_octet, prefix_len-behind}
 use Rattle.dir_messages.specs.declared.table_line.Counts.{Counts}
-use Rattle.dir_messages.specs.Message.{is_table_line, is_status, status_of, rest_of, middle_of, max_of, ends_drawn, has_rest, parts_of, is_tail_octet}
-use Rattle.dir_messages.specs.Parts.{is_space, parts_in, behind_spaces, counts_in, CutsAtStatus, StandsBehind}
+use Rattle.dir_messages.specs.Message.{is_table_line, is_status, status_of, rest_of, middle_of, max_of, max_in, tail_in, ends_in, has_counts, ends_drawn, has_rest, pieces_of}
+use Rattle.dir_messages.specs.Parts.{counts_in, CutsAtStatus, StandsBehind}
 use Rattle.dir_messages.proofs.PartLemmas.{first_part, find_last, after_last-last, before_last-last, find_none}
 
 fields_are : (octets : List ℕ) → fields_of octets ≡ cells_of (unmarked octets)
@@ -29,11 +27,11 @@ unfolding indentation_of
 indentation_is octets = refl
 
 -- spaces in front are empty parts
-parts_in-skip : (xs : List ℕ) → parts_in xs ≡ replicate (prefix_len is_space xs) [] ++ parts_in (drop (prefix_len is_space xs) xs)
-parts_in-skip [] = refl
-parts_in-skip (x ∷ xs) =
+pieces_in-skip : (xs : List ℕ) → pieces_in xs ≡ replicate (prefix_len is_space xs) [] ++ pieces_in (drop (prefix_len is_space xs) xs)
+pieces_in-skip [] = refl
+pieces_in-skip (x ∷ xs) =
     ⊎_elim
-    (λ (space : is_space x ≡ true). rw (space, one-add) (ap (λ parts. [] ∷ parts) (parts_in-skip xs)))
+    (λ (space : is_space x ≡ true). rw (space, one-add) (ap (λ parts. [] ∷ parts) (pieces_in-skip xs)))
     (λ (other : is_space x ≡ false). rw (other, other) refl)
     (cases_Bool (is_space x))
 
@@ -52,14 +50,14 @@ drop-unmarked octets n far =
     (λ (kept : is_marked octets ≡ false). rw kept refl)
     (cases_Bool (is_marked octets))
 
--- a text that begins with a first field of so many octets: its parts, and those of what stands behind the field
+-- a text that begins with a first field of so many octets: its pieces, and those of what comes after the field
 record FirstField (text : List ℕ) (k : ℕ) : Type 0 where
   more : List (List ℕ)
-  parts : parts_in text ≡ take k text ∷ more
-  behind : parts_in (drop k text) ≡ [] ∷ more
+  pieces : pieces_in text ≡ take k text ∷ more
+  behind : pieces_in (drop k text) ≡ [] ∷ more
 
-parts_in-space : (x : ℕ) (text : List ℕ) → is_space x ≡ true → parts_in (x ∷ text) ≡ [] ∷ parts_in text
-parts_in-space x text space = rw space refl
+pieces_in-space : (x : ℕ) (text : List ℕ) → is_space x ≡ true → pieces_in (x ∷ text) ≡ [] ∷ pieces_in text
+pieces_in-space x text space = rw space refl
 
 first_field-cut : (text : List ℕ) (k : ℕ) → k ≡ position_or_len is_space text → k ≤ length text → FirstField text k
 first_field-cut text k is within =
@@ -67,16 +65,16 @@ first_field-cut text k is within =
     (λ (lt : k < length text).
     let space : is_space (get_or text k 0) ≡ true = rw is (passes_at_first is_space text 0 (rw (← is) lt)) in
     record {
-      more = parts_in (drop (k + 1) text);
-      parts = rw is (slice_split_first is_space text 0 (rw (← is) lt));
-      behind = ap parts_in (drop_more text k 0 lt) ∙ parts_in-space (get_or text k 0) (drop (k + 1) text) space;
+      more = pieces_in (drop (k + 1) text);
+      pieces = rw is (slice_split_first is_space text 0 (rw (← is) lt));
+      behind = ap pieces_in (drop_more text k 0 lt) ∙ pieces_in-space (get_or text k 0) (drop (k + 1) text) space;
     })
     (λ (ge : length text ≤ k).
     record {
       more = [];
-      parts =
+      pieces =
           slice_split_none is_space text (All-from_get_or (λ x. is_space x ≡ false) text 0 (λ i lt. fails_before_first is_space text i 0 (omega arith))) ∙ ap (λ part. part ∷ []) (sym (take_all k text ge));
-      behind = ap parts_in (drop_all k text ge);
+      behind = ap pieces_in (drop_all k text ge);
     })
     (cases_lt k (length text))
 
@@ -126,17 +124,17 @@ Position-of octets digits =
         front = replicate k [];
         position = take 4 text;
         more = cut.more;
-        parts = parts_in-skip u ∙ ap (λ parts. replicate k [] ++ parts) cut.parts;
+        pieces = pieces_in-skip u ∙ ap (λ parts. replicate k [] ++ parts) cut.pieces;
         blank = filter-blank k;
         none = list_any-blank k;
         filled = field.1;
         apart = field.0;
-        text = ap parts_in (sym same) ∙ cut.behind;
+        text = ap pieces_in (sym same) ∙ cut.behind;
       };
     })
 
 -- a text whose first part is empty begins with a space, or is empty
-pub begins_with_space : (text : List ℕ) (more : List (List ℕ)) → parts_in text ≡ [] ∷ more → position_or_len is_space text ≡ 0
+pub begins_with_space : (text : List ℕ) (more : List (List ℕ)) → pieces_in text ≡ [] ∷ more → position_or_len is_space text ≡ 0
 begins_with_space [] more parts = refl
 begins_with_space (x ∷ text) more parts =
     ⊎_elim
@@ -145,17 +143,17 @@ begins_with_space (x ∷ text) more parts =
     (cases_Bool (is_space x))
 
 -- a line with no status behind its position has none
-pub has_rest-none : (line : Line) (text : List ℕ) → StandsBehind line.octets text → list_any is_status (parts_in text) ≡ false → has_rest line ≡ false
+pub has_rest-none : (line : Line) (text : List ℕ) → StandsBehind line.octets text → list_any is_status (pieces_in text) ≡ false → has_rest line ≡ false
 has_rest-none line text stands none =
     let no_more : list_any is_status stands.more ≡ false = rw stands.text at none in
-    let no_part : list_any is_status (parts_of line) ≡ false =
-    ap (list_any is_status) stands.parts ∙ list_any-append is_status stands.front (stands.position ∷ stands.more) ∙ rw (stands.none, stands.apart, no_more) refl in
-    rw (find_none is_status (parts_of line) no_part) refl
+    let no_part : list_any is_status (pieces_of line) ≡ false =
+    ap (list_any is_status) stands.pieces ∙ list_any-append is_status stands.front (stands.position ∷ stands.more) ∙ rw (stands.none, stands.apart, no_more) refl in
+    rw (find_none is_status (pieces_of line) no_part) refl
 
 -- what a line with a status has
 pub record StatusFound (line : Line) (before : List ℕ) (must : Bool) (behind : List ℕ) : Type 0 where
   pub status : status_of line ≡ Some must
-  pub rest : rest_of line ≡ behind_spaces behind
+  pub rest : rest_of line ≡ after_spaces behind
   pub middle : middle_of line ≡ after_position (cells_of before)
 
 -- the parts behind an empty one
@@ -167,10 +165,10 @@ behind_first more (field ∷ front) others status is parts = (front, cc, cc)
 pub StatusFound-behind : (line : Line) (text before : List ℕ) (must : Bool) (behind : List ℕ) → StandsBehind line.octets text → CutsAtStatus text before must behind → StatusFound line before must behind
 StatusFound-behind line text before must behind stands cut =
     let passes : is_status cut.status ≡ true = ap (λ status. is_some status) cut.is in
-    let found = behind_first stands.more cut.front cut.more cut.status passes (sym cut.parts ∙ stands.text) in
+    let found = behind_first stands.more cut.front cut.more cut.status passes (sym cut.pieces ∙ stands.text) in
     let front : List (List ℕ) = stands.front ++ (stands.position ∷ found.0) in
-    let parts : parts_of line ≡ front ++ (cut.status ∷ cut.more) =
-    stands.parts ∙ ap (λ more. stands.front ++ (stands.position ∷ more)) found.2 ∙ sym (append_assoc stands.front (stands.position ∷ found.0) (cut.status ∷ cut.more)) in
+    let parts : pieces_of line ≡ front ++ (cut.status ∷ cut.more) =
+    stands.pieces ∙ ap (λ more. stands.front ++ (stands.position ∷ more)) found.2 ∙ sym (append_assoc stands.front (stands.position ∷ found.0) (cut.status ∷ cut.more)) in
     let cells : filter is_filled front ≡ stands.position ∷ filter is_filled found.0 =
     filter-append is_filled stands.front (stands.position ∷ found.0) ∙ rw (stands.blank, stands.filled) refl in
     let before_is : cells_of before ≡ filter is_filled found.0 = cut.cells ∙ ap (filter is_filled) found.1 in
@@ -180,37 +178,32 @@ StatusFound-behind line text before must behind stands cut =
       middle = rw (parts, before_last-last is_status front cut.status cut.more passes cut.last, cells) (ap after_position (sym before_is));
     }
 
--- a status, one to six digits, and a tail
+-- a status, and then one to six digits and a tail
 good_rest : Bool → List ℕ → Bool
-good_rest status rest =
-    status && nat_le 1 (prefix_len is_digit rest) && nat_le (prefix_len is_digit rest) 6 && list_all is_tail_octet (drop (prefix_len is_digit rest) rest)
+good_rest status rest = status && has_counts rest
 
 has_rest-is : (line : Line) → has_rest line ≡ good_rest (is_some (status_of line)) (rest_of line)
 unfolding good_rest
 has_rest-is line = refl
 
-not_all : {A : Type 0} (status a b d : Bool) (x : A) → (if a && b && d then Some x else None) ≡ None → (status && a && b && d) ≡ false
-not_all false a b d x none = refl
-not_all true false b d x none = refl
-not_all true true false d x none = refl
-not_all true true true false x none = refl
-not_all true true true true x none = cc
+not_both : {A : Type 0} (status counts : Bool) (x : A) → (if counts then Some x else None) ≡ None → (status && counts) ≡ false
+not_both false counts x none = refl
+not_both true false x none = refl
+not_both true true x none = cc
 
-all_three : {A : Type 0} (a b d : Bool) (x y : A) → (if a && b && d then Some x else None) ≡ Some y → ((true && a && b && d) ≡ true) × (x ≡ y)
-all_three true true true x y some = (refl, cc)
-all_three true true false x y some = cc
-all_three true false d x y some = cc
-all_three false b d x y some = cc
+good_where : {A : Type 0} (counts : Bool) (x y : A) → (if counts then Some x else None) ≡ Some y → ((true && counts) ≡ true) × (x ≡ y)
+good_where true x y some = (refl, cc)
+good_where false x y some = cc
 
 counts_of : List ℕ → Counts
 counts_of rest =
-    record { max = digits_value 10 (take (prefix_len is_digit rest) rest); ends = count_by (λ x. x == 43) (drop (prefix_len is_digit rest) rest) }
+    record { max = max_in rest; ends = ends_in (tail_in rest) }
 
 -- what stands behind the status decides
 good_rest-no_counts : (status : Bool) (rest : List ℕ) → counts_in rest ≡ None → good_rest status rest ≡ false
 unfolding good_rest counts_of
 good_rest-no_counts status rest none =
-    not_all status (nat_le 1 (prefix_len is_digit rest)) (nat_le (prefix_len is_digit rest) 6) (list_all is_tail_octet (drop (prefix_len is_digit rest) rest)) (counts_of rest) none
+    not_both status (has_counts rest) (counts_of rest) none
 
 pub has_rest-no_counts : (line : Line) (rest : List ℕ) → rest_of line ≡ rest → counts_in rest ≡ None → has_rest line ≡ false
 has_rest-no_counts line rest is none =
@@ -219,7 +212,7 @@ has_rest-no_counts line rest is none =
 good_rest-counts : (rest : List ℕ) (counts : Counts) → counts_in rest ≡ Some counts → (good_rest true rest ≡ true) × (counts_of rest ≡ counts)
 unfolding good_rest counts_of
 good_rest-counts rest counts some =
-    all_three (nat_le 1 (prefix_len is_digit rest)) (nat_le (prefix_len is_digit rest) 6) (list_all is_tail_octet (drop (prefix_len is_digit rest) rest)) (counts_of rest) counts some
+    good_where (has_counts rest) (counts_of rest) counts some
 
 pub record CountsFound (line : Line) (counts : Counts) : Type 0 where
   pub sound : has_rest line ≡ true

@@ -1,20 +1,13 @@
 -- What bodies and their invariants need of a drawing: what has been drawn after some table lines, and what the next line does to it.
-use Rattle.std.specs.Prelude.{◌≡◌, ◌+◌, ◌-◌, ℕ, not, List, [], ◌∷◌, ◌++◌, map, filter, min, sum_by, Some, Result, Ok, Err, is_some, if◌then◌else◌}
+use Rattle.std.specs.Prelude.{◌≡◌, ◌+◌, ◌-◌, ℕ, List, [], ◌∷◌, ◌++◌, map, filter, min, Some, Result, Ok, Err, is_some, if◌then◌else◌}
 use Rattle.edi_tables.specs.declared.segment.TableRow.{TableRow}
-use Rattle.edi_tables.specs.Rows.{when, table_faults}
-use Rattle.edi_octets.specs.declared.fault.DirKind.{DirKind}
-use Rattle.edi_octets.specs.declared.fault.DirKind.TheVariants.{BadLine, BadPosition}
 use Rattle.edi_octets.specs.declared.fault.DirFault.{DirFault}
 use Rattle.edi_octets.specs.declared.fault.DirStop.{DirStop}
 use Rattle.edi_octets.specs.declared.fault.DirStop.TheVariants.{Fault, Memory}
 use Rattle.edi_octets.specs.Lines.{Line}
 use Rattle.dir_messages.specs.declared.drawing.Drawing.{Drawing}
 use Rattle.dir_messages.specs.declared.drawing.DrawnRow.{DrawnRow}
-use Rattle.dir_messages.specs.Message.{ends_drawn, is_group_line, is_table_line, groups_among, has_rest, is_in_order, last_position, drawing_faults, line_faults, rows_of, row_of, row_fault}
-
--- how many groups these table lines have closed
-abbrev pub ends_among : List Line → ℕ
-ends_among lines = sum_by ends_drawn (filter (λ line. not (is_group_line line)) lines)
+use Rattle.dir_messages.specs.Message.{ends_among, kinds_broken, ends_drawn, is_table_line, groups_among, last_position, line_faults, rows_of, row_of}
 
 -- a row as it is held: in one octet, a depth of 255 or more is 255; any deeper than 16 is refused
 abbrev pub held : TableRow → TableRow
@@ -27,11 +20,6 @@ pub record IsDrawn (lines : List Line) (drawing : Drawing) : Type 0 where
   pub groups : drawing.groups ≡ groups_among lines
   pub open_groups : drawing.open_groups + ends_among lines ≡ groups_among lines
   pub position : drawing.last_position ≡ last_position lines
-
--- what a table line breaks behind these, in judging order
-abbrev pub kinds_broken : List Line → Line → List DirKind
-kinds_broken earlier line =
-    when (not (has_rest line)) BadLine ++ when (not (is_in_order earlier line)) BadPosition ++ drawing_faults earlier line
 
 -- a list begins with this member
 abbrev pub BeginsWith : {A : Type 0} → A → List A → Type 0
@@ -56,10 +44,6 @@ abbrev pub Judges : List Line → Line → Result (Unit {0}) DirStop → Drawing
 Judges earlier line (Ok done) drawing = (line_faults earlier line ≡ []) × IsDrawn (filter is_table_line (earlier ++ (line ∷ []))) drawing
 Judges earlier line (Err (Fault fault)) drawing = BeginsWith fault (line_faults earlier line)
 Judges earlier line (Err Memory) drawing = Unit {0}
-
--- what the rows break, each fault at its row's line
-abbrev pub rows_faults : Line → List Line → List DirFault
-rows_faults type lines = map (row_fault type lines) (table_faults (rows_of lines))
 
 -- nothing is wrong, or the first fault is answered, or memory runs out
 abbrev pub FirstOf : Result (Unit {0}) DirStop → List DirFault → Type 0

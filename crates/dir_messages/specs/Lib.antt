@@ -1,4 +1,3 @@
 pub mod Drawing
-pub mod Form
 pub mod Message
 pub mod Parts

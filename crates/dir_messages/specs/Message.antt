@@ -1,6 +1,6 @@
 -- What a drawn message file is.
-use Rattle.std.specs.Prelude.{◌-◌, ◌+◌, ℕ, Bool, true, false, not, ◌==◌, ◌&&◌, ◌||◌, nat_le, nat_lt, List, [], ◌∷◌, ◌++◌, length, map, filter, find, take, drop, reverse, sum_by, count_by, slice_get, slice_index, Option, Some, None, is_some, unwrap_or, option_and_then, Result, Err, codes, if◌then◌else◌}
-use Rattle.std.specs.List.{slice_split, list_all, flat_map, before_last, after_last, prefix_len, join_with_byte}
+use Rattle.std.specs.Prelude.{◌-◌, ◌+◌, ℕ, Bool, false, not, ◌==◌, ◌&&◌, ◌||◌, nat_le, nat_lt, List, [], ◌∷◌, ◌++◌, length, map, filter, find, take, drop, reverse, sum_by, count_by, slice_get, slice_index, Option, Some, None, is_some, unwrap_or, option_and_then, Result, Err, codes, if◌then◌else◌}
+use Rattle.std.specs.List.{list_all, flat_map, before_last, after_last, prefix_len, join_with_byte}
 use Rattle.std.specs.Str.{all_ascii_digits, bytes_eq, str_eq_ignore_ascii_case}
 use Rattle.std.specs.Str.Parse.{digits_value}
 use Rattle.edi_tables.specs.Forms.{is_message_name}
@@ -15,15 +15,20 @@ use Rattle.edi_tables.specs.Rows.{table_faults, when}
 use Rattle.edi_octets.specs.declared.fault.DirKind.{DirKind}
 use Rattle.edi_octets.specs.declared.fault.DirKind.TheVariants.{BadLine, BadPosition, NoType, BadGroup, CloseWithoutOpen, NotClosed, TooMany, NoUnhUnt, EnvelopeTag, BadMax, TooDeep, NoTrigger}
 use Rattle.edi_octets.specs.declared.fault.DirFault.{DirFault}
-use Rattle.edi_octets.specs.Lines.{Line, is_filled, lines_of}
-use Rattle.edi_octets.specs.Profile.{unmarked, fields_of, indentation_of, first_field, has_digits, status_in, after_position, with_earlier}
+use Rattle.edi_octets.specs.Lines.{Line, is_filled, lines_of, pieces_in, after_spaces}
+use Rattle.edi_octets.specs.Profile.{unmarked, fields_of, indentation_of, first_field, has_digits, status_in, after_position, is_greater, with_earlier}
 use Rattle.edi_tables.specs.First.{unless_faulty}
 use Rattle.edi_octets.specs.DirStop.{at_line}
+
+-- the words that a type line begins with
+abbrev pub begins_type : List ℕ → List ℕ → List ℕ → Bool
+begins_type message type colon =
+    bytes_eq message (codes "Message") && bytes_eq type (codes "Type") && bytes_eq colon (codes ":")
 
 -- the name on a type line: a line with exactly the fields `Message`, `Type`, `:` and a message's name
 abbrev pub name_on : List (List ℕ) → Option (List ℕ)
 name_on (message ∷ type ∷ colon ∷ name ∷ []) =
-    if bytes_eq message (codes "Message") && bytes_eq type (codes "Type") && bytes_eq colon (codes ":") && is_message_name name then Some name else None
+    if begins_type message type colon && is_message_name name then Some name else None
 name_on fields = None
 
 abbrev pub is_type_line : Line → Bool
@@ -33,57 +38,63 @@ is_type_line line = is_some (name_on (fields_of line.octets))
 abbrev pub is_table_line : Line → Bool
 is_table_line line = nat_le (indentation_of line.octets) 4 && has_digits 4 (first_field (fields_of line.octets))
 
--- the parts of a line between single spaces; a cell is a part that isn't empty
-abbrev pub parts_of : Line → List (List ℕ)
-parts_of line = slice_split (λ x. x == 32) (unmarked line.octets)
+-- the pieces of a line between single spaces
+abbrev pub pieces_of : Line → List (List ℕ)
+pieces_of line = pieces_in (unmarked line.octets)
 
 abbrev pub is_status : List ℕ → Bool
 is_status part = is_some (status_in part)
 
 -- the status of a table line is its last field that is `M` or `C`
 abbrev pub status_of : Line → Option Bool
-status_of line = option_and_then status_in (find is_status (reverse (parts_of line)))
+status_of line = option_and_then status_in (find is_status (reverse (pieces_of line)))
 
 -- what follows the status on the line, without the spaces in front
 abbrev pub rest_of : Line → List ℕ
-rest_of line =
-    let rest = join_with_byte 32 (after_last is_status (parts_of line)) in drop (prefix_len (λ x. x == 32) rest) rest
+rest_of line = after_spaces (join_with_byte 32 (after_last is_status (pieces_of line)))
 
--- how many digits stand there: the greatest count
-abbrev pub max_digits_of : Line → ℕ
-max_digits_of line = prefix_len is_digit (rest_of line)
+-- the greatest count in such a rest: the digits that it begins with
+abbrev pub max_in : List ℕ → ℕ
+max_in rest = digits_value 10 (take (prefix_len is_digit rest) rest)
 
--- the greatest count of a table line
-abbrev pub max_of : Line → ℕ
-max_of line = digits_value 10 (take (max_digits_of line) (rest_of line))
-
--- the tail behind it, in which the groups are drawn
-abbrev pub tail_of : Line → List ℕ
-tail_of line = drop (max_digits_of line) (rest_of line)
+-- the tail after it, in which the groups are drawn
+abbrev pub tail_in : List ℕ → List ℕ
+tail_in rest = drop (prefix_len is_digit rest) rest
 
 -- a tail has spaces, `-`, `|` and `+`
 abbrev pub is_tail_octet : ℕ → Bool
 is_tail_octet x = x == 32 || x == 45 || x == 124 || x == 43
 
 -- how many `+` a tail has
-abbrev pub ends_drawn : Line → ℕ
-ends_drawn line = count_by (λ x. x == 43) (tail_of line)
+abbrev pub ends_in : List ℕ → ℕ
+ends_in tail = count_by (λ x. x == 43) tail
 
--- a status, one to six digits, and a tail
+-- one to six digits, and a tail
+abbrev pub has_counts : List ℕ → Bool
+has_counts rest =
+    nat_le 1 (prefix_len is_digit rest) && nat_le (prefix_len is_digit rest) 6 && list_all is_tail_octet (tail_in rest)
+
+-- the greatest count of a table line, and how many groups its tail ends
+abbrev pub max_of : Line → ℕ
+max_of line = max_in (rest_of line)
+
+abbrev pub ends_drawn : Line → ℕ
+ends_drawn line = ends_in (tail_in (rest_of line))
+
+-- a status, and then one to six digits and a tail
 abbrev pub has_rest : Line → Bool
-has_rest line =
-    is_some (status_of line) && nat_le 1 (max_digits_of line) && nat_le (max_digits_of line) 6 && list_all is_tail_octet (tail_of line)
+has_rest line = is_some (status_of line) && has_counts (rest_of line)
 
 -- the fields between the position and the status
 abbrev pub middle_of : Line → List (List ℕ)
-middle_of line = after_position (drop 1 (filter is_filled (before_last is_status (parts_of line))))
+middle_of line = after_position (drop 1 (filter is_filled (before_last is_status (pieces_of line))))
 
 -- a segment line has a tag and a name there
 abbrev pub tag_drawn : List (List ℕ) → Option Tag
 tag_drawn (tag ∷ name ∷ more) = if is_tag_of tag then Some (record { octets = tag }) else None
 tag_drawn fields = None
 
--- two or more `-`; any number of them
+-- `-` alone, any number of them
 abbrev pub is_dashes : List ℕ → Bool
 is_dashes field = list_all (λ x. x == 45) field
 
@@ -92,24 +103,31 @@ abbrev pub is_plain_number : List ℕ → Bool
 is_plain_number field =
     is_filled field && all_ascii_digits field && (length field == 1 || not (slice_index field 0 == 48))
 
--- a group line has there two or more `-`, the words `Segment` and `group` in any case, a number, and fields of `-` alone
+-- the fields that a group line begins with: two or more `-`, and the words `Segment` and `group` in any case
+abbrev pub begins_group : List ℕ → List ℕ → List ℕ → Bool
+begins_group dashes segment group =
+    nat_le 2 (length dashes) && is_dashes dashes && str_eq_ignore_ascii_case segment (codes "Segment") && str_eq_ignore_ascii_case group (codes "group")
+
+-- a group line has these there, a number, and fields of `-` alone
 abbrev pub number_drawn : List (List ℕ) → Option ℕ
 number_drawn (dashes ∷ segment ∷ group ∷ number ∷ more) =
-    if nat_le 2 (length dashes) && is_dashes dashes && str_eq_ignore_ascii_case segment (codes "Segment") && str_eq_ignore_ascii_case group (codes "group") && is_plain_number number && list_all is_dashes more
-    then Some (digits_value 10 number) else None
+    if begins_group dashes segment group && is_plain_number number && list_all is_dashes more then Some (digits_value 10 number) else None
 number_drawn fields = None
 
 abbrev pub is_group_line : Line → Bool
 is_group_line line = is_some (number_drawn (middle_of line))
 
--- how many groups table lines have opened, and how many of these they have closed
+-- how many groups table lines have opened, how many of these they have closed, and how many are still open
 abbrev pub groups_among : List Line → ℕ
 groups_among lines = count_by is_group_line lines
 
-abbrev pub open_after : List Line → ℕ
-open_after lines = groups_among lines - sum_by ends_drawn (filter (λ line. not (is_group_line line)) lines)
+abbrev pub ends_among : List Line → ℕ
+ends_among lines = sum_by ends_drawn (filter (λ line. not (is_group_line line)) lines)
 
--- the position of a table line; 0 where there is no line
+abbrev pub open_after : List Line → ℕ
+open_after lines = groups_among lines - ends_among lines
+
+-- the position of a table line
 abbrev pub position_of : Line → ℕ
 position_of line = digits_value 10 (first_field (fields_of line.octets))
 
@@ -119,32 +137,43 @@ last_position lines = elim (reverse lines) [ [] ↦ None | line ∷ more ↦ Som
 
 -- a position is greater than that of the table line before
 abbrev pub is_in_order : List Line → Line → Bool
-is_in_order earlier line = elim (last_position earlier) [ None ↦ true | Some position ↦ nat_lt position (position_of line) ]
+is_in_order earlier line = is_greater (last_position earlier) (position_of line)
 
--- what a group line or a segment line breaks, after these table lines
-abbrev pub drawing_faults : List Line → Line → List DirKind
-drawing_faults earlier line =
-    elim (number_drawn (middle_of line)) [
-      | Some number ↦ when (not (ends_drawn line == 1 && number == groups_among earlier + 1)) BadGroup
-      | None ↦ if is_some (tag_drawn (middle_of line)) then when (nat_lt (open_after earlier) (ends_drawn line)) CloseWithoutOpen else BadLine ∷ []
+-- what a group line or a segment line breaks, with so many `+`, after so many groups, of which so many are open
+abbrev pub form_faults : List (List ℕ) → ℕ → ℕ → ℕ → List DirKind
+form_faults middle ends groups open_groups =
+    elim (number_drawn middle) [
+      | Some number ↦ when (not (ends == 1 && number == groups + 1)) BadGroup
+      | None ↦ if is_some (tag_drawn middle) then when (nat_lt open_groups ends) CloseWithoutOpen else BadLine ∷ []
     ]
 
--- a table line after these: its status and rest, its position, its form, its groups, in this order
-abbrev pub table_line_faults : List Line → Line → List DirFault
-table_line_faults earlier line =
-    map (λ kind. at_line kind line) (when (not (has_rest line)) BadLine ++ when (not (is_in_order earlier line)) BadPosition ++ drawing_faults earlier line)
+abbrev pub drawing_faults : List Line → Line → List DirKind
+drawing_faults earlier line =
+    form_faults (middle_of line) (ends_drawn line) (groups_among earlier) (open_after earlier)
 
--- a line behind the type line: no second type line; a table line; else text
+-- what a table line breaks after these: its status and rest, its position, its form, its groups, in this order
+abbrev pub kinds_broken : List Line → Line → List DirKind
+kinds_broken earlier line =
+    when (not (has_rest line)) BadLine ++ when (not (is_in_order earlier line)) BadPosition ++ drawing_faults earlier line
+
+abbrev pub table_line_faults : List Line → Line → List DirFault
+table_line_faults earlier line = map (λ kind. at_line kind line) (kinds_broken earlier line)
+
+-- a line after the type line: no second type line; a table line; else text
 abbrev pub line_faults : List Line → Line → List DirFault
 line_faults earlier line =
     if is_type_line line then at_line BadLine line ∷ []
     else (if is_table_line line then table_line_faults (filter is_table_line earlier) line else [])
 
+-- the tag of a table line's row: a group has none
+abbrev pub row_tag : List (List ℕ) → Option Tag
+row_tag middle = if is_some (number_drawn middle) then None else tag_drawn middle
+
 -- the row of a table line after these: it is as deep as groups are open
 abbrev pub row_of : List Line → Line → TableRow
 row_of earlier line =
     record {
-      tag = if is_group_line line then None else tag_drawn (middle_of line);
+      tag = row_tag (middle_of line);
       must = elim (status_of line) [ None ↦ false | Some must ↦ must ];
       max = max_of line;
       depth = open_after earlier;
@@ -153,7 +182,7 @@ row_of earlier line =
 abbrev pub rows_of : List Line → List TableRow
 rows_of lines = map (λ p. row_of p.0 p.1) (with_earlier lines)
 
--- groups are still open behind the last table line
+-- groups are still open after the last table line
 abbrev pub open_faults : List Line → List DirFault
 open_faults lines =
     elim (reverse lines) [ [] ↦ [] | last ∷ more ↦ when (nat_lt 0 (open_after lines)) (at_line NotClosed last) ]
@@ -172,22 +201,26 @@ kind_of table.NoTrigger = NoTrigger
 abbrev pub row_fault : Line → List Line → RowFault → DirFault
 row_fault type lines fault = elim (slice_get lines fault.at) [ None ↦ at_line (kind_of fault.kind) type | Some line ↦ at_line (kind_of fault.kind) line ]
 
--- the faults behind the type line, in judging order: each line, groups left open, the rows
+-- what the rows break, each fault at its row's line
+abbrev pub rows_faults : Line → List Line → List DirFault
+rows_faults type lines = map (row_fault type lines) (table_faults (rows_of lines))
+
+-- the faults after the type line, in judging order: each line, groups left open, the rows
 abbrev pub table_part_faults : Line → List Line → List DirFault
 table_part_faults type lines =
     let drawn = filter is_table_line lines in
-    flat_map (λ p. line_faults p.0 p.1) (with_earlier lines) ++ open_faults drawn ++ map (row_fault type drawn) (table_faults (rows_of drawn))
+    flat_map (λ p. line_faults p.0 p.1) (with_earlier lines) ++ open_faults drawn ++ rows_faults type drawn
 
--- the message of a type line's name and the lines behind it
-abbrev pub message_behind : Line → List Line → Result MessageDef DirFault
-message_behind type lines =
+-- the message of a type line's name and the lines after it
+abbrev pub message_after : Line → List Line → Result MessageDef DirFault
+message_after type lines =
     unless_faulty (table_part_faults type lines)
     (record { name = unwrap_or (name_on (fields_of type.octets)) []; rows = rows_of (filter is_table_line lines) })
 
 -- lines are text up to the type line; a file without one is `no-type` at the number of its lines
 abbrev pub message_from : ℕ → List Line → Result MessageDef DirFault
 message_from count [] = Err (record { line = count; kind = NoType })
-message_from count (line ∷ lines) = if is_type_line line then message_behind line lines else message_from count lines
+message_from count (line ∷ lines) = if is_type_line line then message_after line lines else message_from count lines
 
 -- a message file stands for its message, or for its first fault
 unfoldable pub message_in : List ℕ → Result MessageDef DirFault

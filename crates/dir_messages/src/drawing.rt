@@ -2,13 +2,14 @@
 ghost use Rattle.std.specs.Prelude.{◌≡◌, ◌≤◌, ◌<◌, ◌^◌, ◌∷◌, [], MatchResult, IfOk, IsSome};
 ghost use Rattle.edi_octets.specs.Left.{cells_left};
 ghost use Rattle.dir_messages.specs.Message as message;
-ghost use Rattle.dir_messages.specs.Form.{form_faults, row_tag, is_greater};
+ghost use Rattle.dir_messages.specs.Message.{form_faults, row_tag};
+ghost use Rattle.edi_octets.specs.Profile.{is_greater};
 
 use crate::form::{Form, form_of};
 use crate::table_line::read_table_line;
 use crate::words;
 use edi_octets::{Cells, DirFault, DirKind, DirStop, LineText};
-use edi_tables::{Chunk, List, MessageDef, Table, TableKind, TableRow, TableStop, Tag};
+use edi_tables::{Chunk, List, MessageDef, RowFault, Table, TableKind, TableRow, Tag};
 use std::alloc::{AllocError, Global};
 
 /// The greatest depth that a row holds. A row that is deeper holds this one: any depth over 16 is refused.
@@ -40,8 +41,8 @@ impl Drawing {
     ghost use Rattle.edi_octets.specs.Left.{line_shown};
     ghost use Rattle.edi_tables.specs.First.{Answers, unless_faulty};
     ghost use Rattle.edi_octets.specs.DirStop.{fault_in};
-    ghost use Rattle.dir_messages.specs.Message.{is_table_line, position_of, open_faults, rows_of};
-    ghost use Rattle.dir_messages.specs.Drawing.{IsDrawn, Judges, FirstOf, rows_faults, DrawsRow, Puts, BeginsWith, kinds_broken};
+    ghost use Rattle.dir_messages.specs.Message.{is_table_line, kinds_broken, position_of, open_faults, rows_faults, rows_of};
+    ghost use Rattle.dir_messages.specs.Drawing.{IsDrawn, Judges, FirstOf, DrawsRow, Puts, BeginsWith};
 
     /// Nothing drawn yet. It takes no memory.
     pub(crate) fn new(alloc: Global) -> Drawing
@@ -92,7 +93,7 @@ impl Drawing {
         if let Some(line) = self.unclosed_line() {
             return Err(stop_at(line, DirKind::NotClosed));
         }
-        self.judge_rows(alloc, type_line)?;
+        self.judge_rows(type_line)?;
         let name = Chunk::of(alloc, name)?;
         Ok(MessageDef {
             name,
@@ -114,17 +115,15 @@ impl Drawing {
     }
 
     /// Judges the rows as a segment table: the first fault stands at its row's line, or at the type line.
-    fn judge_rows(&self, alloc: Global, type_line: u32) -> Result<(), DirStop>
+    fn judge_rows(&self, type_line: u32) -> Result<(), DirStop>
         ensures { (type : Line) (drawn : List Line) → type.number ≡ type_line → IsDrawn drawn self.now
             → FirstOf result (rows_faults type drawn) }
     {
-        match Table::build(alloc, &self.rows) {
-            Ok(_) => Ok(()),
-            Err(TableStop::Fault { at, kind }) => Err(stop_at(
-                self.line_of(at, type_line),
-                kind_of(kind),
-            )),
-            Err(TableStop::Memory) => Err(DirStop::Memory),
+        match Table::first_fault(&self.rows) {
+            None => Ok(()),
+            Some(RowFault { at, kind }) => {
+                Err(stop_at(self.line_of(at, type_line), kind_of(kind)))
+            }
         }
     }
 

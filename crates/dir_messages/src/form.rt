@@ -4,12 +4,13 @@ ghost use Rattle.std.specs.List.{list_all};
 ghost use Rattle.std.specs.Option.{option_map};
 ghost use Rattle.std.specs.Str.Parse.{digits_value};
 ghost use Rattle.edi_octets.specs.Left.{cells_left};
+ghost use Rattle.dir_messages.specs.Message as message;
 ghost use Rattle.dir_messages.specs.Message.{is_dashes, is_plain_number, number_drawn, tag_drawn};
-ghost use Rattle.dir_messages.specs.Parts.{HasNoForm, IsForm, tag_in, begins_group_line};
+ghost use Rattle.dir_messages.specs.Parts.{HasNoForm, IsForm};
 
 use crate::words::{are_dashes, is_number, is_word};
 use edi_octets::{Cells, read_decimal};
-use edi_tables::{Tag, is_tag};
+use edi_tables::Tag;
 
 /// What stands between the position and the status of a table line.
 #[derive(Clone, Copy, Debug)]
@@ -38,19 +39,7 @@ fn segment_tag(mut middle: Cells<'_>) -> Option<Tag>
 {
     let tag = middle.next()?;
     let _name = middle.next()?;
-    read_tag(tag)
-}
-
-/// The tag that a field is.
-fn read_tag(field: &[u8]) -> Option<Tag>
-    ensures { result ≡ tag_in field.now }
-{
-    match field {
-        [first, second, third] if is_tag(field) => Some(Tag {
-            octets: [*first, *second, *third],
-        }),
-        _ => None,
-    }
+    Tag::read(tag)
 }
 
 /// The number of a group line: `-`, `Segment`, `group`, a number, and fields of `-` alone stand there.
@@ -78,7 +67,7 @@ fn are_all_dashes(mut fields: Cells<'_>) -> bool
 
 /// Whether these are the fields that a group line begins with.
 fn begins_group(dashes: &[u8], segment: &[u8], group: &[u8]) -> bool
-    ensures { result ≡ begins_group_line dashes.now segment.now group.now }
+    ensures { result ≡ message.begins_group dashes.now segment.now group.now }
 {
     dashes.len() >= 2
         && are_dashes(dashes)

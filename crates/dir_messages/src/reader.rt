@@ -6,7 +6,7 @@ ghost use Rattle.edi_octets.specs.DirStop.{fault_in};
 ghost use Rattle.edi_octets.specs.Left.{lines_left};
 ghost use Rattle.edi_octets.specs.Lines.{Line};
 ghost use Rattle.edi_octets.specs.Profile.{fields_of};
-ghost use Rattle.dir_messages.specs.Message.{message_in, message_behind, name_on};
+ghost use Rattle.dir_messages.specs.Message.{message_in, message_after, name_on};
 
 use crate::drawing::{Drawing, stop_at};
 use crate::words::type_name;
@@ -15,8 +15,9 @@ use edi_tables::MessageDef;
 use std::alloc::Global;
 
 /// Reads a drawn message file of at most 4,194,304 octets: its message's name and the rows of its segment
-/// table, or its first fault in the order of judging. Lines are text up to the type line; behind it the table
-/// lines draw the rows, which have to be a segment table. Memory is taken for the rows alone.
+/// table, or its first fault in the order of judging. Lines are text up to the type line; after it the table
+/// lines draw the rows, which have to be a segment table. Memory is taken for the
+/// rows, the lines of the rows, and the name.
 pub fn read_message(alloc: Global, file: &[u8]) -> Result<MessageDef, DirStop>
     requires { length file.now ≤ 4194304 }
     ensures answers { Answers (λ m. m) fault_in result (message_in file.now) }
@@ -42,7 +43,7 @@ fn read_drawing(
 ) -> Result<MessageDef, DirStop>
     requires { length (lines_left lines) ≤ 4194304 }
     ensures { (type : Line) → type.number ≡ type_line → name_on (fields_of type.octets) ≡ Some name.now
-        → Answers (λ m. m) fault_in result (message_behind type (lines_left lines.entry)) }
+        → Answers (λ m. m) fault_in result (message_after type (lines_left lines.entry)) }
 {
     let mut drawing = Drawing::new(alloc);
     for line in lines {

@@ -2,7 +2,8 @@
 ghost use Rattle.std.specs.Prelude.{◌≡◌, ◌≤◌, ◌++◌, ◌∷◌, [], false, MatchOption, length};
 ghost use Rattle.std.specs.List.{slice_split, list_any, position_or_len};
 ghost use Rattle.dir_messages.specs.Message.{is_status};
-ghost use Rattle.dir_messages.specs.Parts.{is_space, CutsAtStatus, CutsAtLastSpace};
+ghost use Rattle.edi_octets.specs.Lines.{is_space};
+ghost use Rattle.dir_messages.specs.Parts.{CutsAtStatus, CutsAtLastSpace};
 
 use edi_octets::read_status;
 use memchr::memrchr;

@@ -5,7 +5,8 @@ ghost use Rattle.std.specs.Str.{all_ascii_digits};
 ghost use Rattle.edi_tables.specs.Tag.{is_digit};
 ghost use Rattle.edi_octets.specs.Left.{line_shown, cells_left};
 ghost use Rattle.dir_messages.specs.Message as message;
-ghost use Rattle.dir_messages.specs.Parts.{is_space, count_in, counts_in, behind_spaces, StandsBehind};
+ghost use Rattle.edi_octets.specs.Lines.{is_space, after_spaces};
+ghost use Rattle.dir_messages.specs.Parts.{count_in, counts_in, StandsBehind};
 
 use crate::status::cut_at_status;
 use crate::words::POSITION_DIGITS;
@@ -64,7 +65,7 @@ fn behind_position<'a>(line: &LineText<'a>) -> &'a [u8]
 
 /// The counts behind a status; `None` where anything else stands there.
 fn read_counts(text: &[u8]) -> Option<Counts>
-    ensures { result ≡ counts_in (behind_spaces text.now) }
+    ensures { result ≡ counts_in (after_spaces text.now) }
 {
     let rest = skip_spaces(text);
     let (digits, tail) = rest.split_at(digits_in_front(rest));
@@ -107,7 +108,7 @@ fn ends_in(tail: &[u8]) -> u64
 
 /// What stands behind the spaces in front of a text.
 fn skip_spaces(text: &[u8]) -> &[u8]
-    ensures { result.now ≡ behind_spaces text.now }
+    ensures { result.now ≡ after_spaces text.now }
 {
     &text[spaces_in_front(text)..]
 }

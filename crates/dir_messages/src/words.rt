@@ -7,7 +7,7 @@ ghost use Rattle.edi_octets.specs.Profile.{fields_of};
 ghost use Rattle.edi_tables.specs.Forms.{is_message_name};
 ghost use Rattle.edi_tables.specs.Tag.{is_tag_octet_of};
 ghost use Rattle.dir_messages.specs.Message as message;
-ghost use Rattle.dir_messages.specs.Parts.{begins_type};
+ghost use Rattle.dir_messages.specs.Message.{begins_type};
 
 use edi_octets::{LineText, read_decimal};
 

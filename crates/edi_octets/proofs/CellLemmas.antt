@@ -6,12 +6,8 @@ use Rattle.std.proofs.lemmas.List.{drop_more, drop_all}
 use Rattle.std.proofs.lemmas.List.Elements.{All-from_get_or}
 use Rattle.std.proofs.lemmas.List.Sums.{prefix_len-le-length, fails_before_first, passes_at_first}
 use Rattle.std.proofs.lemmas.List.Splits.{slice_split_first, slice_split_none}
-use Rattle.edi_octets.specs.Lines.{is_filled, cells_of}
+use Rattle.edi_octets.specs.Lines.{is_filled, is_space, cells_of}
 use Rattle.edi_octets.specs.Profile.{is_mark, is_marked, marks_of, fields_of, indentation_of}
-
--- a space
-abbrev pub is_space : ℕ → Bool
-is_space x = x == 32
 
 pub is_filled-true : {A : Type 0} (xs : List A) → 0 < length xs → is_filled xs ≡ true
 is_filled-true [] some = absurd (omega arith)

@@ -1,6 +1,6 @@
 -- The lines of a file, and the words of a line.
-use Rattle.std.specs.Prelude.{◌-◌, ◌+◌, ℕ, Bool, true, false, ◌==◌, List, [], ◌∷◌, length, take, filter, slice_index, if◌then◌else◌}
-use Rattle.std.specs.List.{slice_split}
+use Rattle.std.specs.Prelude.{◌-◌, ◌+◌, ℕ, Bool, true, false, ◌==◌, List, [], ◌∷◌, length, take, drop, filter, slice_index, if◌then◌else◌}
+use Rattle.std.specs.List.{slice_split, prefix_len}
 
 -- a line and its number, from 1
 pub record Line : Type 0 where
@@ -35,6 +35,17 @@ lines_from n text = numbered_from n (line_octets (slice_split (λ x. x == 10) te
 abbrev pub lines_of : List ℕ → List Line
 lines_of file = lines_from 1 file
 
+abbrev pub is_space : ℕ → Bool
+is_space x = x == 32
+
+-- the pieces of a text between single spaces; a piece may be empty
+abbrev pub pieces_in : List ℕ → List (List ℕ)
+pieces_in text = slice_split is_space text
+
+-- a text without the spaces in front
+abbrev pub after_spaces : List ℕ → List ℕ
+after_spaces text = drop (prefix_len is_space text) text
+
 -- the cells of a line: its longest parts without a space, in order
 unfoldable pub cells_of : List ℕ → List (List ℕ)
-cells_of line = filter is_filled (slice_split (λ x. x == 32) line)
+cells_of line = filter is_filled (pieces_in line)

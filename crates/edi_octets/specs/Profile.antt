@@ -1,12 +1,12 @@
 -- The words of the directory text profile, which every directory file shares.
-use Rattle.std.specs.Prelude.{ℕ, Bool, true, false, not, ◌==◌, ◌&&◌, ◌||◌, nat_le, List, [], ◌∷◌, ◌++◌, length, drop, filter, map, slice_index, replicate, Option, Some, None, if◌then◌else◌}
+use Rattle.std.specs.Prelude.{ℕ, Bool, true, false, not, ◌==◌, ◌&&◌, ◌||◌, nat_le, nat_lt, List, [], ◌∷◌, ◌++◌, length, drop, filter, map, slice_index, replicate, Option, Some, None, if◌then◌else◌}
 use Rattle.std.specs.List.{slice_split, list_all, prefix_len, before_first}
 use Rattle.std.specs.Str.{all_ascii_digits, bytes_eq}
 use Rattle.std.specs.Str.Parse.{digits_value}
 use Rattle.edi_tables.specs.declared.element.Class.{Class}
 use Rattle.edi_tables.specs.declared.element.Class.TheVariants.{A, N, An}
 use Rattle.edi_tables.specs.declared.element.Repr.{Repr}
-use Rattle.edi_octets.specs.Lines.{Line, is_filled, cells_of}
+use Rattle.edi_octets.specs.Lines.{Line, is_filled, is_space, cells_of}
 
 -- a mark of the published files: `+`, `*`, `#`, `|` or `X`
 abbrev pub is_mark : ℕ → Bool
@@ -30,7 +30,7 @@ fields_of line = cells_of (unmarked line)
 
 -- the indentation of a line: the spaces in front, marks in front read as spaces
 unfoldable pub indentation_of : List ℕ → ℕ
-indentation_of line = prefix_len (λ x. x == 32) (unmarked line)
+indentation_of line = prefix_len is_space (unmarked line)
 
 -- a line is blank where it has no field
 abbrev pub is_written : Line → Bool
@@ -48,11 +48,11 @@ is_separator_of fields = false
 abbrev pub is_separator : Line → Bool
 is_separator line = is_separator_of (fields_of line.octets)
 
--- the entries of a file: what stands behind its first separator, cut at separators, without blank lines; a part without a line is nothing
+-- the entries of a file: what stands after its first separator, cut at separators, without blank lines; a part without a line is nothing
 unfoldable pub entries_of : List Line → List (List Line)
 entries_of lines = filter is_filled (map (filter is_written) (drop 1 (slice_split is_separator lines)))
 
--- the entries of lines behind a separator
+-- the entries of lines after a separator
 unfoldable pub entries_within : List Line → List (List Line)
 entries_within lines = filter is_filled (map (filter is_written) (slice_split is_separator lines))
 
@@ -65,10 +65,15 @@ abbrev pub is_lone_mark : List ℕ → Bool
 is_lone_mark (x ∷ []) = is_mark x
 is_lone_mark field = false
 
--- the fields behind a position
+-- the fields after a position
 abbrev pub after_position : List (List ℕ) → List (List ℕ)
 after_position [] = []
 after_position (field ∷ fields) = if is_lone_mark field then fields else field ∷ fields
+
+-- a position is greater than the one before, if there is one
+abbrev pub is_greater : Option ℕ → ℕ → Bool
+is_greater None position = true
+is_greater (Some before) position = nat_lt before position
 
 -- as many digits as that, and nothing else
 abbrev pub has_digits : ℕ → List ℕ → Bool
@@ -79,7 +84,7 @@ abbrev pub length_in : List ℕ → Option ℕ
 length_in field =
     if nat_le 1 (length field) && nat_le (length field) 4 && all_ascii_digits field && not (slice_index field 0 == 48) then Some (digits_value 10 field) else None
 
--- the representation of a class with a length behind it, exact where no `..` stands between
+-- the representation of a class with a length after it, exact where no `..` stands between
 abbrev pub sized_repr : Class → Bool → Option ℕ → Option Repr
 sized_repr class exact None = None
 sized_repr class exact (Some max) = Some (record { class = class; exact = exact; max = max })

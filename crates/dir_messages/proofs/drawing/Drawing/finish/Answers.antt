@@ -1,6 +1,5 @@
 use Rattle.std.proofs.Common.{◌≡◌, [], refl, ◌∙◌}
-use Rattle.dir_messages.specs.Message.{open_faults, rows_of}
-use Rattle.dir_messages.specs.Drawing.{rows_faults}
+use Rattle.dir_messages.specs.Message.{open_faults, rows_of, rows_faults}
 use Rattle.dir_messages.proofs.DepthLemmas.{rows-same}
 use Rattle.dir_messages.proofs.drawing.Drawing.finish.Goals as goal
 

@@ -2,7 +2,8 @@ use Rattle.std.proofs.Common.{◌≡◌, ◌≢◌, ◌<◌, ◌∷◌, not, [],
 use Rattle.std.proofs.lemmas.Bool.{eqb-false}
 use Rattle.std.proofs.lemmas.List.Sums.{prefix_len-le-length}
 use Rattle.edi_octets.specs.Lines.{cells_of}
-use Rattle.edi_octets.proofs.CellLemmas.{is_space, cells_of-skip, cells_of-first, cells_of-nil, no_octet, prefix_len-behind}
+use Rattle.edi_octets.specs.Lines.{is_space}
+use Rattle.edi_octets.proofs.CellLemmas.{cells_of-skip, cells_of-first, cells_of-nil, no_octet, prefix_len-behind}
 use Rattle.edi_octets.proofs.cells.CellsIterator.next.Goals as goal
 
 pub split_at-requires : goal.split_at-requires

@@ -10,11 +10,10 @@ ghost use Rattle.edi_octets.specs.Lines.{Line};
 ghost use Rattle.edi_octets.specs.Profile.{with_earlier, fields_of, indentation_of};
 ghost use Rattle.dir_lists.specs.Codes as codes;
 
-use crate::head::{read_head, stop_at};
-use crate::seen::Seen;
-use edi_octets::{Body, DirKind, DirStop, Entries, Entry, LineText};
+use crate::head::read_head;
+use edi_octets::{Body, DirKind, DirStop, Entries, Entry, LineText, Seen};
 use edi_tables::{Chunk, CodeList, List};
-use std::alloc::{AllocError, Global};
+use std::alloc::Global;
 
 /// Reads a code file of at most 4,194,304 octets: one list an entry, in order; an entry without a code is
 /// an empty list. Else the first fault in judging order: `bad-code` and `twice` at a head, `bad-line` at a
@@ -28,12 +27,12 @@ pub fn read_codes(alloc: Global, file: &[u8]) -> Result<Vec<CodeList>, DirStop>
     let mut seen = Seen::new(alloc);
     for entry in Entries::of(file) {
         let list = read_list(alloc, &entry, &mut seen)?;
-        lists.push(list).map_err(AllocError::from)?;
+        lists.push(list)?;
     }
     Ok(lists)
 }
 
-/// Reads an entry behind others, whose codes are seen.
+/// Reads an entry after others, whose codes are seen.
 fn read_list<'a>(alloc: Global, entry: &Entry<'a>, seen: &mut Seen<'a>) -> Result<CodeList, DirStop>
     ensures judged { (earlier : List (List Line)) → seen.old ≡ map head_field earlier
         → Answers (λ list. list) fault_in result (unless_faulty (codes.list_faults earlier (entry_shown entry.now))
@@ -48,7 +47,7 @@ fn read_list<'a>(alloc: Global, entry: &Entry<'a>, seen: &mut Seen<'a>) -> Resul
     })
 }
 
-/// Reads the codes of an entry, from its lines behind its head.
+/// Reads the codes of an entry, from its lines after its head.
 fn read_values(alloc: Global, body: Body<'_>) -> Result<Vec<Chunk>, DirStop>
     ensures { Answers (λ values. values.items) fault_in result
         (unless_faulty (flat_map (λ p. codes.body_faults p.0 p.1) (with_earlier (body_left body.entry))) (codes.values_of (body_left body.entry))) }
@@ -60,7 +59,7 @@ fn read_values(alloc: Global, body: Body<'_>) -> Result<Vec<Chunk>, DirStop>
     Ok(seen.copies(alloc)?)
 }
 
-/// Reads a line of an entry behind others, whose codes are seen. Its code joins them.
+/// Reads a line of an entry after others, whose codes are seen. Its code joins them.
 fn read_line<'a>(line: &LineText<'a>, seen: &mut Seen<'a>) -> Result<(), DirStop>
     ensures judged { (earlier : List Line) → seen.old ≡ codes.values_of earlier
         → Answers (λ done. done) fault_in result (unless_faulty (codes.body_faults earlier (line_shown line.now)) tt) }
@@ -70,10 +69,10 @@ fn read_line<'a>(line: &LineText<'a>, seen: &mut Seen<'a>) -> Result<(), DirStop
         return Ok(());
     }
     if !has_value(line) {
-        return Err(stop_at(DirKind::BadLine, line));
+        return Err(line.breaks(DirKind::BadLine));
     }
     if !seen.add(line.first_field())? {
-        return Err(stop_at(DirKind::Twice, line));
+        return Err(line.breaks(DirKind::Twice));
     }
     Ok(())
 }

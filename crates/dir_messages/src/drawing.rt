@@ -3,12 +3,11 @@ ghost use Rattle.std.specs.Prelude.{◌≡◌, ◌≤◌, ◌<◌, ◌^◌, ◌�
 ghost use Rattle.edi_octets.specs.Left.{cells_left};
 ghost use Rattle.dir_messages.specs.Message as message;
 ghost use Rattle.dir_messages.specs.Message.{form_faults, row_tag};
-ghost use Rattle.edi_octets.specs.Profile.{is_greater};
 
 use crate::form::{Form, form_of};
 use crate::table_line::read_table_line;
 use crate::words;
-use edi_octets::{Cells, DirFault, DirKind, DirStop, LineText};
+use edi_octets::{Cells, DirFault, DirKind, DirStop, LineText, is_greater};
 use edi_tables::{Chunk, List, MessageDef, RowFault, Table, TableKind, TableRow, Tag};
 use std::alloc::{AllocError, Global};
 
@@ -28,7 +27,7 @@ pub(crate) struct Drawing {
     ghost open_within: { open_groups ≤ groups },
 }
 
-/// The row of a table line, and how many groups end behind it; of a group line, how many `+` it has.
+/// The row of a table line, and how many groups end after it; of a group line, how many `+` it has.
 #[derive(Clone, Copy, Debug)]
 pub(crate) struct DrawnRow {
     pub row: TableRow,
@@ -57,7 +56,7 @@ impl Drawing {
         }
     }
 
-    /// Judges a line behind the type line, and draws it where it is a table line.
+    /// Judges a line after the type line, and draws it where it is a table line.
     pub(crate) fn judge(&mut self, line: &LineText<'_>) -> Result<(), DirStop>
         requires { self.old.groups < 2 ^ 63 }
         ensures { (earlier : List Line) → IsDrawn (filter is_table_line earlier) self.old
@@ -78,7 +77,7 @@ impl Drawing {
         }
     }
 
-    /// The message that is drawn, with the name of its type line, or the first fault behind the last line:
+    /// The message that is drawn, with the name of its type line, or the first fault after the last line:
     /// groups that are still open, or what the rows break.
     pub(crate) fn finish(
         self,
@@ -101,7 +100,7 @@ impl Drawing {
         })
     }
 
-    /// The last table line, where groups are still open behind it.
+    /// The last table line, where groups are still open after it.
     fn unclosed_line(&self) -> Option<u32>
         ensures { (drawn : List Line) → IsDrawn drawn self.now
             → MatchOption result
@@ -137,7 +136,7 @@ impl Drawing {
         }
     }
 
-    /// The row of a table line behind those drawn so far, or the first rule that the line breaks.
+    /// The row of a table line after those drawn so far, or the first rule that the line breaks.
     fn row_of(&self, line: &LineText<'_>, position: u64) -> Result<DrawnRow, DirKind>
         requires few { self.now.groups < 2 ^ 63 }
         requires table_line { is_table_line (line_shown line.now) ≡ true }
@@ -151,7 +150,7 @@ impl Drawing {
         let Some(read) = read_table_line(line) else {
             return Err(DirKind::BadLine);
         };
-        if !is_behind(self.last_position, position) {
+        if !is_greater(self.last_position, position) {
             return Err(DirKind::BadPosition);
         }
         let tag = judge_form(read.middle, read.ends, self.groups, self.open_groups)?;
@@ -166,7 +165,7 @@ impl Drawing {
         })
     }
 
-    /// Puts a row behind those drawn so far. Where memory is refused, the drawing is not to be used again.
+    /// Puts a row after those drawn so far. Where memory is refused, the drawing is not to be used again.
     fn push(&mut self, number: u32, position: u64, drawn: DrawnRow) -> Result<(), AllocError>
         requires few { self.old.groups < 2 ^ 63 }
         requires ends { IsSome drawn.row.tag → drawn.ends ≤ self.old.open_groups }
@@ -206,18 +205,8 @@ fn kind_of(kind: TableKind) -> DirKind
     }
 }
 
-/// Whether a position is greater than the one before, if there is one.
-fn is_behind(last: Option<u64>, position: u64) -> bool
-    ensures { result ≡ is_greater last position }
-{
-    match last {
-        None => true,
-        Some(last) => last < position,
-    }
-}
-
 /// The tag of the row of a table line, which a group has not; or the rule that the line breaks, with
-/// so many ends, behind so many groups of which some are open.
+/// so many ends, after so many groups of which some are open.
 fn judge_form(
     middle: Cells<'_>,
     ends: u64,

@@ -102,7 +102,7 @@ fn the_table_with_collisions_gives_its_rows(rt: HostRuntime) -> Result<(), Fail>
     Ok(())
 }
 
-/// Reads a drawing that begins at line 4: before it a line of text, the type line and UNH, behind it a line of
+/// Reads a drawing that begins at line 4: before it a line of text, the type line and UNH, after it a line of
 /// text and UNT.
 fn read_between(rt: &impl Abort, alloc: Global, drawing: &str) -> Result<MessageDef, DirStop> {
     let file = format!(in alloc;
@@ -192,13 +192,13 @@ fn expect_faults(rt: &impl Abort, alloc: Global, cases: &[(&str, u32, DirKind)])
 #[test]
 fn a_table_line_out_of_form_is_refused(rt: HostRuntime) {
     let cases = [
-        // no status, no count behind it, seven digits, another octet in the tail
+        // no status, no count after it, seven digits, another octet in the tail
         ("0020 BGM Beginning 1", 4, DirKind::BadLine),
         ("0020 BGM Beginning M", 4, DirKind::BadLine),
         ("0020 BGM Beginning M 0000001", 4, DirKind::BadLine),
         ("0020 BGM Beginning M 1 x", 4, DirKind::BadLine),
         ("0020 BGM Beginning M 1 - 2", 4, DirKind::BadLine),
-        // positions, which are judged behind the rest and before the form
+        // positions, which are judged after the rest and before the form
         ("0010 BGM Beginning M 1", 4, DirKind::BadPosition),
         ("0020 BGM A name M 1\n0019 bgm M 1", 5, DirKind::BadPosition),
         ("0010 bgm M x", 4, DirKind::BadLine),

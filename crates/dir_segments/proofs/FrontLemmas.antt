@@ -8,15 +8,15 @@ use Rattle.edi_octets.specs.declared.fault.DirFault.{DirFault}
 use Rattle.edi_octets.specs.declared.fault.DirStop.{DirStop}
 use Rattle.edi_tables.specs.First.{Answers, unless_faulty}
 use Rattle.edi_octets.specs.DirStop.{fault_in}
+use Rattle.edi_octets.specs.Head.{head_field}
 use Rattle.edi_octets.specs.Lines.{Line}
 use Rattle.edi_octets.specs.Profile.{with_earlier, with_earlier_from}
 use Rattle.edi_octets.proofs.EarlierLemmas.{judged-none, judged-at}
-use Rattle.dir_segments.specs.Heads.{HasHeads}
 use Rattle.dir_segments.specs.Parts.{last_of}
 use Rattle.dir_segments.proofs.StopLemmas.{stops}
 
 module _ {A : Type 0} where
-  -- one more has come
+  -- one more seen come
   pub goes_on : (all front : List A) (x : A) (rest later : List A) → all ≡ front ++ rest → rest ≡ x ∷ later → all ≡ (front ++ x ∷ []) ++ later
   goes_on all front x rest later splits here =
       splits ∙ ap (λ r. front ++ r) here ∙ sym (append_assoc front (x ∷ []) later)
@@ -54,7 +54,7 @@ module _ {A D : Type 0} (judge : Option ℕ → A → List DirFault) (place : A 
   abbrev pub judge_behind : List A × A → List DirFault
   judge_behind p = judge (last_of (map place p.0)) p.1
 
-  -- a front of all has been read, in which nothing is broken: the place of its last, and what it defines
+  -- a front of all seen been read, in which nothing is broken: the place of its last, and what it defines
   pub record IsRead (all rest : List A) (before : Option ℕ) (values : List D) : Type 0 where
     pub front : List A
     pub splits : all ≡ front ++ rest
@@ -67,12 +67,12 @@ module _ {A D : Type 0} (judge : Option ℕ → A → List DirFault) (place : A 
   read_none all =
       record { front = []; splits = refl; clean = refl; last = refl; found = refl; many = refl }
 
-  -- text has come
+  -- text seen come
   pub read_text : (all rest later : List A) (before : Option ℕ) (values : List D) → IsRead all rest before values → rest ≡ later → IsRead all later before values
   read_text all rest later before values read same =
       record { front = read.front; splits = read.splits ∙ ap (λ r. read.front ++ r) same; clean = read.clean; last = read.last; found = read.found; many = read.many }
 
-  -- x has come, in which nothing is broken
+  -- x seen come, in which nothing is broken
   pub read_more : (all rest : List A) (x : A) (later : List A) (before : Option ℕ) (values : List D) (position : ℕ) (d : D) → IsRead all rest before values → rest ≡ x ∷ later → judge before x ≡ [] → place x ≡ position → value x ≡ Some d → IsRead all later (Some position) (values ++ d ∷ [])
   read_more all rest x later before values position d read here none at is =
       let front = read.front in
@@ -88,7 +88,7 @@ module _ {A D : Type 0} (judge : Option ℕ → A → List DirFault) (place : A 
         many = omega (arith, length-append values (d ∷ []), length-append front (x ∷ []), read.many);
       }
 
-  -- x has come, and stops
+  -- x seen come, and stops
   pub read_stops : {X Y X' Y' : Type 0} (view : X → Y) (outer : X' → Y') (stop : DirStop) (all rest : List A) (x : A) (later : List A) (before : Option ℕ) (values : List D) (tail : List DirFault) (v : Y) (w : Y') → IsRead all rest before values → rest ≡ x ∷ later → Answers view fault_in (Err stop) (unless_faulty (judge before x) v) → Answers outer fault_in (Err stop) (unless_faulty (flat_map judge_behind (with_earlier all) ++ tail) w)
   read_stops view outer stop all rest x later before values tail v w read here given =
       let same : judge before x ≡ judge_behind (read.front, x) = ap (λ b. judge b x) read.last in
@@ -112,36 +112,36 @@ module _ {D : Type 0} (judge : List (List Line) → List Line → List DirFault)
   abbrev pub judge_entry : List (List Line) × List Line → List DirFault
   judge_entry p = judge p.0 p.1
 
-  -- a front of the entries has been read, in which nothing is broken: the codes of their heads, and what they define
-  pub record AreRead (all rest : List (List Line)) (has : List ℕ → Bool) (values : List D) : Type 0 where
+  -- a front of the entries seen been read, in which nothing is broken: the codes of their heads, and what they define
+  pub record AreRead (all rest : List (List Line)) (seen : List (List ℕ)) (values : List D) : Type 0 where
     pub front : List (List Line)
     pub splits : all ≡ front ++ rest
     pub clean : flat_map judge_entry (with_earlier front) ≡ []
-    pub heads : HasHeads has front
+    pub heads : seen ≡ map head_field front
     pub found : values ≡ map define front
 
-  pub entries_none : (all rest : List (List Line)) (has : List ℕ → Bool) → all ≡ rest → HasHeads has [] → AreRead all rest has []
-  entries_none all rest has same heads =
+  pub entries_none : (all rest : List (List Line)) (seen : List (List ℕ)) → all ≡ rest → seen ≡ [] → AreRead all rest seen []
+  entries_none all rest seen same heads =
       record { front = []; splits = same; clean = refl; heads = heads; found = refl }
 
-  -- an entry has come, in which nothing is broken
-  pub entries_more : (all rest : List (List Line)) (entry : List Line) (later : List (List Line)) (has then : List ℕ → Bool) (values : List D) (d : D) (read : AreRead all rest has values) → rest ≡ entry ∷ later → judge read.front entry ≡ [] → define entry ≡ d → HasHeads then (read.front ++ entry ∷ []) → AreRead all later then (values ++ d ∷ [])
-  entries_more all rest entry later has then values d read here none is heads =
+  -- an entry seen come, in which nothing is broken
+  pub entries_more : (all rest : List (List Line)) (entry : List Line) (later : List (List Line)) (seen then : List (List ℕ)) (values : List D) (d : D) (read : AreRead all rest seen values) → rest ≡ entry ∷ later → judge read.front entry ≡ [] → define entry ≡ d → then ≡ seen ++ head_field entry ∷ [] → AreRead all later then (values ++ d ∷ [])
+  entries_more all rest entry later seen then values d read here none is heads =
       record {
         front = read.front ++ entry ∷ [];
         splits = goes_on all read.front entry rest later read.splits here;
         clean = judged-none judge_entry read.front entry read.clean none;
-        heads = heads;
+        heads = heads ∙ ap (λ codes. codes ++ head_field entry ∷ []) read.heads ∙ sym (map_push head_field read.front entry);
         found = sym (map_push define read.front entry ∙ rw (is, sym read.found) refl);
       }
 
-  -- an entry has come, and stops
-  pub entries_stop : {X Y X' Y' : Type 0} (view : X → Y) (outer : X' → Y') (stop : DirStop) (all rest : List (List Line)) (entry : List Line) (later : List (List Line)) (has : List ℕ → Bool) (values : List D) (v : Y) (w : Y') (read : AreRead all rest has values) → rest ≡ entry ∷ later → Answers view fault_in (Err stop) (unless_faulty (judge read.front entry) v) → Answers outer fault_in (Err stop) (unless_faulty (flat_map judge_entry (with_earlier all)) w)
-  entries_stop view outer stop all rest entry later has values v w read here given =
+  -- an entry seen come, and stops
+  pub entries_stop : {X Y X' Y' : Type 0} (view : X → Y) (outer : X' → Y') (stop : DirStop) (all rest : List (List Line)) (entry : List Line) (later : List (List Line)) (seen : List (List ℕ)) (values : List D) (v : Y) (w : Y') (read : AreRead all rest seen values) → rest ≡ entry ∷ later → Answers view fault_in (Err stop) (unless_faulty (judge read.front entry) v) → Answers outer fault_in (Err stop) (unless_faulty (flat_map judge_entry (with_earlier all)) w)
+  entries_stop view outer stop all rest entry later seen values v w read here given =
       rw append-nil at (first_at judge_entry view outer stop all read.front entry later [] v w (goes_at all read.front entry rest later read.splits here) read.clean given)
 
   -- nothing more comes
-  pub entries_all : (all rest : List (List Line)) (has : List ℕ → Bool) (values : List D) → AreRead all rest has values → rest ≡ [] → (flat_map judge_entry (with_earlier all) ≡ []) × (map define all ≡ values)
-  entries_all all rest has values read ended =
+  pub entries_all : (all rest : List (List Line)) (seen : List (List ℕ)) (values : List D) → AreRead all rest seen values → rest ≡ [] → (flat_map judge_entry (with_earlier all) ≡ []) × (map define all ≡ values)
+  entries_all all rest seen values read ended =
       let whole = goes_all all read.front rest read.splits ended in
       (ap (λ l. flat_map judge_entry (with_earlier l)) whole ∙ read.clean, ap (map define) whole ∙ sym read.found)

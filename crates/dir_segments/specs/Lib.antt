@@ -1,4 +1,3 @@
 pub mod Composites
-pub mod Heads
 pub mod Parts
 pub mod Segments

@@ -1,8 +1,6 @@
 //! Composite files.
 ghost use Rattle.std.specs.Prelude.{◌≡◌, ◌≤◌, List, [], ◌∷◌, ◌++◌, length, map, true, IfOk, OnOk};
 ghost use Rattle.std.specs.List.{list_all, flat_map};
-ghost use Rattle.std.specs.HashSet.{contains};
-ghost use Rattle.std.specs.Str.{bytes_eq};
 ghost use Rattle.edi_tables.specs.Forms.{is_composite_formed};
 ghost use Rattle.edi_tables.specs.First.{Answers, unless_faulty};
 ghost use Rattle.edi_octets.specs.DirStop.{fault_in};
@@ -10,17 +8,15 @@ ghost use Rattle.edi_octets.specs.Left.{line_shown, body_left, entry_shown};
 ghost use Rattle.edi_octets.specs.Lines.{Line};
 ghost use Rattle.edi_octets.specs.Profile.{with_earlier};
 ghost use Rattle.dir_segments.specs.Composites as composites;
-ghost use Rattle.dir_segments.specs.Heads.{HasHeads};
+ghost use Rattle.edi_octets.specs.Head.{head_field};
 ghost use Rattle.dir_segments.specs.Parts.{count_faults};
 
-use crate::add::add;
 use crate::fields::is_item_line;
 use crate::head::read_code_head;
 use crate::part_line::{judge_count, read_part};
-use edi_octets::{DirStop, Entries, Entry};
+use edi_octets::{DirStop, Entries, Entry, Seen};
 use edi_tables::{CompositeDef, List, PartDef};
 use std::alloc::Global;
-use std::collections::HashSet;
 
 /// Reads a composite file of at most 4,194,304 octets: one composite an entry, in order. Else the first
 /// fault in judging order: `bad-code` and `twice` at a head, `bad-line`, `bad-position`, `bad-status` and
@@ -31,27 +27,26 @@ pub fn read_composites(alloc: Global, file: &[u8]) -> Result<Vec<CompositeDef>, 
     ensures forms { IfOk result (λ found. list_all is_composite_formed found.items ≡ true) }
 {
     let mut found = Vec::new(alloc);
-    let mut seen = HashSet::new(alloc);
+    let mut seen = Seen::new(alloc);
     for entry in Entries::of(file) {
         let composite = read_entry(alloc, &mut seen, &entry)?;
-        add(&mut found, composite)?;
+        found.push(composite)?;
     }
     Ok(found)
 }
 
-/// Reads an entry behind others, whose codes are seen.
-fn read_entry(
+/// Reads an entry after others, whose codes are seen.
+fn read_entry<'a>(
     alloc: Global,
-    seen: &mut HashSet<[u8; 4]>,
-    entry: &Entry<'_>,
+    seen: &mut Seen<'a>,
+    entry: &Entry<'a>,
 ) -> Result<CompositeDef, DirStop>
-    ensures judged { (earlier : List (List Line)) → HasHeads (contains bytes_eq seen.old) earlier
+    ensures judged { (earlier : List (List Line)) → seen.old ≡ map head_field earlier
         → Answers (λ composite. composite) fault_in result
         (unless_faulty (composites.composite_faults earlier (entry_shown entry.now)) (composites.composite_of (entry_shown entry.now))) }
-    ensures joins { (earlier : List (List Line)) → HasHeads (contains bytes_eq seen.old) earlier
-        → OnOk result (HasHeads (contains bytes_eq seen.new) (earlier ++ entry_shown entry.now ∷ [])) }
+    ensures joins { OnOk result (seen.new ≡ seen.old ++ head_field (entry_shown entry.now) ∷ []) }
 {
-    let code = read_code_head(seen, &entry.head)?;
+    let code = read_code_head(&entry.head, seen)?;
     let parts = read_parts(alloc, entry)?;
     Ok(CompositeDef {
         code,
@@ -72,7 +67,7 @@ fn read_parts(alloc: Global, entry: &Entry<'_>) -> Result<Vec<PartDef>, DirStop>
             continue;
         }
         let (position, part) = read_part(before, &line)?;
-        add(&mut parts, part)?;
+        parts.push(part)?;
         before = Some(position);
     }
     judge_count(&entry.head, parts.len())?;

@@ -9,10 +9,8 @@ ghost use Rattle.edi_octets.specs.Profile.{fields_of};
 ghost use Rattle.dir_segments.specs.Parts.{Passes, fields_behind, is_composite_form, part_in};
 ghost use Rattle.dir_segments.specs.Segments as segments;
 
-use crate::add::add;
 use crate::fields::{is_item_line, read_element};
 use crate::known::KnownComposites;
-use crate::part_line::stop_at;
 use edi_octets::{Body, DirKind, DirStop, LineText, is_element_code};
 use edi_tables::{ItemDef, PartDef};
 use std::alloc::Global;
@@ -36,7 +34,7 @@ pub(crate) fn read_details(
             continue;
         }
         let part = read_repeated(below_composite, &line)?;
-        add(&mut parts, part)?;
+        parts.push(part)?;
     }
     Ok(parts)
 }
@@ -66,7 +64,7 @@ pub(crate) fn judge_end(
     }
     match known.find(code) {
         Some(composite) if !are_same(parts, composite.parts.items()) => {
-            Err(stop_at(line, DirKind::PartsDiffer))
+            Err(line.breaks(DirKind::PartsDiffer))
         }
         _ => Ok(()),
     }
@@ -94,7 +92,7 @@ fn read_repeated(below_composite: bool, line: &LineText<'_>) -> Result<PartDef, 
 {
     match read_whole_element(line) {
         Some(part) if below_composite => Ok(part),
-        _ => Err(stop_at(line, DirKind::BadLine)),
+        _ => Err(line.breaks(DirKind::BadLine)),
     }
 }
 

@@ -10,7 +10,7 @@ use edi_octets::{
 };
 use edi_tables::{Code, Repr};
 
-/// The fields of a data element: its code, and the status and the representation behind its name, where they are good.
+/// The fields of a data element: its code, and the status and the representation after its name, where they are good.
 #[derive(Clone, Copy, Debug)]
 pub(crate) struct ElementFields {
     pub code: Code,
@@ -18,7 +18,7 @@ pub(crate) struct ElementFields {
     pub repr: Option<Repr>,
 }
 
-/// The fields of a composite: its code, and the status behind its name, where it is good.
+/// The fields of a composite: its code, and the status after its name, where it is good.
 #[derive(Clone, Copy, Debug)]
 pub(crate) struct CompositeFields {
     pub code: Code,
@@ -33,18 +33,17 @@ pub(crate) fn is_item_line(line: &LineText<'_>) -> bool
 }
 
 /// The position of a line: its first field, where that is three digits.
-pub(crate) fn read_position(line: &LineText<'_>) -> Option<u16>
+pub(crate) fn read_position(line: &LineText<'_>) -> Option<u64>
     ensures { result ≡ (if parts.has_position (line_shown line.now) then Some (parts.position_of (line_shown line.now)) else None) }
 {
     let field = line.first_field();
     if field.len() != 3 {
         return None;
     }
-    let position = read_decimal(field)?;
-    Some(position as u16)
+    read_decimal(field)
 }
 
-/// The fields behind the position of a line.
+/// The fields after the position of a line.
 pub(crate) fn fields_behind<'a>(line: &LineText<'a>) -> Cells<'a>
     ensures { cells_left result ≡ parts.fields_behind (line_shown line.now) }
 {
@@ -62,7 +61,7 @@ pub(crate) fn read_element(fields: Cells<'_>) -> Option<ElementFields>
     if !is_element_code(first) || !has_fourth(fields) {
         return None;
     }
-    let code = read_code(first)?;
+    let code = Code::read(first)?;
     let (before, last) = last_two(fields);
     Some(ElementFields {
         code,
@@ -80,24 +79,12 @@ pub(crate) fn read_composite(fields: Cells<'_>) -> Option<CompositeFields>
     if !is_composite_code(first) || !has_third(fields) {
         return None;
     }
-    let code = read_code(first)?;
+    let code = Code::read(first)?;
     let (_before, last) = last_two(fields);
     Some(CompositeFields {
         code,
         must: read_status(last),
     })
-}
-
-/// The code that four octets are.
-pub(crate) fn read_code(field: &[u8]) -> Option<Code>
-    ensures { result ≡ (if length field.now == 4 then Some (record { octets = field.now }) else None) }
-{
-    match field {
-        [a, b, c, d] => Some(Code {
-            octets: [*a, *b, *c, *d],
-        }),
-        _ => None,
-    }
 }
 
 /// The first of some fields; no octet where there is none.

@@ -1,7 +1,6 @@
 //! Composite and segment files of a directory.
 #![tactic(auto)]
 
-mod add;
 mod composites;
 mod details;
 mod fields;

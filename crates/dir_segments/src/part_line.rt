@@ -1,4 +1,4 @@
-//! Lines of parts and items, judged behind the position before them.
+//! Lines of parts and items, judged after the position before them.
 ghost use Rattle.std.specs.Prelude.{◌≡◌, Some, IsTrue};
 ghost use Rattle.edi_tables.specs.First.{Answers, unless_faulty};
 ghost use Rattle.edi_octets.specs.DirStop.{at_line, fault_in};
@@ -10,41 +10,31 @@ ghost use Rattle.dir_segments.specs.Segments as segments;
 use crate::fields::{
     CompositeFields, ElementFields, fields_behind, read_composite, read_element, read_position,
 };
-use edi_octets::{DirFault, DirKind, DirStop, LineText};
+use edi_octets::{DirKind, DirStop, LineText, is_greater};
 use edi_tables::{ItemDef, PartDef};
 
-/// The answer that a line breaks a rule.
-pub(crate) fn stop_at(line: &LineText<'_>, kind: DirKind) -> DirStop
-    ensures { result ≡ Fault (at_line kind (line_shown line.now)) }
-{
-    DirStop::Fault(DirFault {
-        line: line.number,
-        kind,
-    })
-}
-
-/// Reads a part line behind the position before: its position and its part.
-pub(crate) fn read_part(before: Option<u16>, line: &LineText<'_>) -> Result<(u16, PartDef), DirStop>
+/// Reads a part line after the position before: its position and its part.
+pub(crate) fn read_part(before: Option<u64>, line: &LineText<'_>) -> Result<(u64, PartDef), DirStop>
     ensures { let shown = line_shown line.now in
         parts.GivesPlaced result (parts.part_faults before shown) (parts.position_of shown) (parts.part_in (parts.fields_behind shown)) }
 {
     let Some(position) = read_position(line) else {
-        return Err(stop_at(line, DirKind::BadLine));
+        return Err(line.breaks(DirKind::BadLine));
     };
     let Some(element) = read_element(fields_behind(line)) else {
-        return Err(stop_at(line, DirKind::BadLine));
+        return Err(line.breaks(DirKind::BadLine));
     };
     let part = judge_element(before, position, line, &element)?;
     Ok((position, part))
 }
 
-/// Reads an item line behind the position before: its position and its item.
-pub(crate) fn read_item(before: Option<u16>, line: &LineText<'_>) -> Result<(u16, ItemDef), DirStop>
+/// Reads an item line after the position before: its position and its item.
+pub(crate) fn read_item(before: Option<u64>, line: &LineText<'_>) -> Result<(u64, ItemDef), DirStop>
     ensures { let shown = line_shown line.now in
         parts.GivesPlaced result (segments.line_faults before shown) (parts.position_of shown) (segments.item_in (parts.fields_behind shown)) }
 {
     let Some(position) = read_position(line) else {
-        return Err(stop_at(line, DirKind::BadLine));
+        return Err(line.breaks(DirKind::BadLine));
     };
     let fields = fields_behind(line);
     if let Some(element) = read_element(fields) {
@@ -52,7 +42,7 @@ pub(crate) fn read_item(before: Option<u16>, line: &LineText<'_>) -> Result<(u16
         return Ok((position, ItemDef::Alone { part }));
     }
     let Some(composite) = read_composite(fields) else {
-        return Err(stop_at(line, DirKind::BadLine));
+        return Err(line.breaks(DirKind::BadLine));
     };
     let item = judge_composite(before, position, line, &composite)?;
     Ok((position, item))
@@ -60,8 +50,8 @@ pub(crate) fn read_item(before: Option<u16>, line: &LineText<'_>) -> Result<(u16
 
 /// Judges the data element of a line with this position: its part.
 fn judge_element(
-    before: Option<u16>,
-    position: u16,
+    before: Option<u64>,
+    position: u64,
     line: &LineText<'_>,
     element: &ElementFields,
 ) -> Result<PartDef, DirStop>
@@ -72,14 +62,14 @@ fn judge_element(
         Answers (λ part. Some part) fault_in result
         (unless_faulty (parts.fault_list shown (parts.element_fault before shown)) (parts.part_in (parts.fields_behind shown))) }
 {
-    if !is_behind(before, position) {
-        return Err(stop_at(line, DirKind::BadPosition));
+    if !is_greater(before, position) {
+        return Err(line.breaks(DirKind::BadPosition));
     }
     let Some(must) = element.must else {
-        return Err(stop_at(line, DirKind::BadStatus));
+        return Err(line.breaks(DirKind::BadStatus));
     };
     let Some(repr) = element.repr else {
-        return Err(stop_at(line, DirKind::BadRepr));
+        return Err(line.breaks(DirKind::BadRepr));
     };
     Ok(PartDef {
         code: element.code,
@@ -90,8 +80,8 @@ fn judge_element(
 
 /// Judges the composite of a line with this position: its item.
 fn judge_composite(
-    before: Option<u16>,
-    position: u16,
+    before: Option<u64>,
+    position: u64,
     line: &LineText<'_>,
     composite: &CompositeFields,
 ) -> Result<ItemDef, DirStop>
@@ -102,11 +92,11 @@ fn judge_composite(
         Answers (λ item. Some item) fault_in result
         (unless_faulty (parts.fault_list shown (parts.composite_fault before shown)) (segments.item_in (parts.fields_behind shown))) }
 {
-    if !is_behind(before, position) {
-        return Err(stop_at(line, DirKind::BadPosition));
+    if !is_greater(before, position) {
+        return Err(line.breaks(DirKind::BadPosition));
     }
     let Some(must) = composite.must else {
-        return Err(stop_at(line, DirKind::BadStatus));
+        return Err(line.breaks(DirKind::BadStatus));
     };
     Ok(ItemDef::Composite {
         code: composite.code,
@@ -119,17 +109,7 @@ pub(crate) fn judge_count(head: &LineText<'_>, count: usize) -> Result<(), DirSt
     ensures { parts.Passes result (parts.count_faults (line_shown head.now) count) }
 {
     if count == 0 || count > 99 {
-        return Err(stop_at(head, DirKind::BadLine));
+        return Err(head.breaks(DirKind::BadLine));
     }
     Ok(())
-}
-
-/// Whether a position is greater than the one before.
-fn is_behind(before: Option<u16>, position: u16) -> bool
-    ensures { result ≡ parts.is_greater before position }
-{
-    match before {
-        Some(before) => before < position,
-        None => true,
-    }
 }

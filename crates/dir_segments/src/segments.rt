@@ -1,27 +1,23 @@
 //! Segment files.
 ghost use Rattle.std.specs.Prelude.{◌≡◌, ◌≤◌, List, [], ◌∷◌, ◌++◌, length, map, true, IfOk, OnOk};
 ghost use Rattle.std.specs.List.{list_all};
-ghost use Rattle.std.specs.HashSet.{contains};
-ghost use Rattle.std.specs.Str.{bytes_eq};
 ghost use Rattle.edi_tables.specs.Forms.{is_segment_formed};
 ghost use Rattle.edi_tables.specs.First.{Answers, unless_faulty};
 ghost use Rattle.edi_octets.specs.DirStop.{fault_in};
 ghost use Rattle.edi_octets.specs.Left.{line_shown, body_left, entry_shown};
 ghost use Rattle.edi_octets.specs.Lines.{Line};
-ghost use Rattle.dir_segments.specs.Heads.{HasHeads};
+ghost use Rattle.edi_octets.specs.Head.{head_field};
 ghost use Rattle.dir_segments.specs.Parts as parts;
 ghost use Rattle.dir_segments.specs.Segments as segments;
 
-use crate::add::add;
 use crate::details::{is_composite_item, judge_end, read_details};
 use crate::fields::is_item_line;
 use crate::head::read_tag_head;
 use crate::known::KnownComposites;
 use crate::part_line::{judge_count, read_item};
-use edi_octets::{Body, DirStop, Entries, Entry, LineText};
+use edi_octets::{Body, DirStop, Entries, Entry, LineText, Seen};
 use edi_tables::{CompositeDef, ItemDef, List, SegmentDef};
 use std::alloc::Global;
-use std::collections::HashSet;
 
 /// Reads a segment file of at most 4,194,304 octets with known composites: one segment an entry, in order.
 /// Else the first fault in judging order: `bad-code` and `twice` at a head, `bad-line`, `bad-position`,
@@ -39,28 +35,27 @@ pub fn read_segments(
 {
     let composites = KnownComposites::new(alloc, known)?;
     let mut found = Vec::new(alloc);
-    let mut seen = HashSet::new(alloc);
+    let mut seen = Seen::new(alloc);
     for entry in Entries::of(file) {
         let segment = read_entry(alloc, &composites, &mut seen, &entry)?;
-        add(&mut found, segment)?;
+        found.push(segment)?;
     }
     Ok(found)
 }
 
-/// Reads an entry behind others, whose tags are seen.
-fn read_entry(
+/// Reads an entry after others, whose tags are seen.
+fn read_entry<'a>(
     alloc: Global,
     known: &KnownComposites<'_>,
-    seen: &mut HashSet<[u8; 3]>,
-    entry: &Entry<'_>,
+    seen: &mut Seen<'a>,
+    entry: &Entry<'a>,
 ) -> Result<SegmentDef, DirStop>
-    ensures judged { (earlier : List (List Line)) → HasHeads (contains bytes_eq seen.old) earlier
+    ensures judged { (earlier : List (List Line)) → seen.old ≡ map head_field earlier
         → Answers (λ segment. segment) fault_in result
         (unless_faulty (segments.segment_faults known.now.composites.now earlier (entry_shown entry.now)) (segments.segment_of (entry_shown entry.now))) }
-    ensures joins { (earlier : List (List Line)) → HasHeads (contains bytes_eq seen.old) earlier
-        → OnOk result (HasHeads (contains bytes_eq seen.new) (earlier ++ entry_shown entry.now ∷ [])) }
+    ensures joins { OnOk result (seen.new ≡ seen.old ++ head_field (entry_shown entry.now) ∷ []) }
 {
-    let tag = read_tag_head(seen, &entry.head)?;
+    let tag = read_tag_head(&entry.head, seen)?;
     let items = read_items(alloc, known, entry)?;
     Ok(SegmentDef {
         tag,
@@ -86,21 +81,21 @@ fn read_items(
             continue;
         }
         let (position, item) = read_whole_item(alloc, known, before, &line, lines)?;
-        add(&mut items, item)?;
+        items.push(item)?;
         before = Some(position);
     }
     judge_count(&entry.head, items.len())?;
     Ok(items)
 }
 
-/// Reads an item with its detail lines, the first of the lines behind it, and judges its end.
+/// Reads an item with its detail lines, the first of the lines after it, and judges its end.
 fn read_whole_item(
     alloc: Global,
     known: &KnownComposites<'_>,
-    before: Option<u16>,
+    before: Option<u64>,
     line: &LineText<'_>,
     behind: Body<'_>,
-) -> Result<(u16, ItemDef), DirStop>
+) -> Result<(u64, ItemDef), DirStop>
     ensures { let item = segments.item_at (line_shown line.now) (body_left behind.entry) in
         parts.GivesPlaced result (segments.item_faults known.now.composites.now before item) (segments.place_of item) (segments.item_of item) }
 {

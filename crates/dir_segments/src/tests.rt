@@ -155,479 +155,144 @@ const REDUCED_SEGMENTS: &[u8] =
 ";
 
 // The composites of the reduced directory.
+#[rattlefmt::skip]
 const COMPOSITES: &[([u8; 4], &[PartRow])] = &[
-    (
-        *b"C002",
-        &[
-            (*b"1001", false, Class::An, 3),
-            (*b"1131", false, Class::An, 3),
-            (*b"1000", false, Class::An, 35),
-        ],
-    ),
-    (
-        *b"C056",
-        &[
-            (*b"3413", false, Class::An, 17),
-            (*b"3412", false, Class::An, 35),
-        ],
-    ),
-    (
-        *b"C082",
-        &[
-            (*b"3039", true, Class::An, 17),
-            (*b"1131", false, Class::An, 3),
-            (*b"3055", false, Class::An, 3),
-        ],
-    ),
-    (
-        *b"C186",
-        &[
-            (*b"6063", true, Class::An, 3),
-            (*b"6060", true, Class::N, 15),
-            (*b"6411", false, Class::An, 3),
-        ],
-    ),
-    (
-        *b"C212",
-        &[
-            (*b"7140", false, Class::An, 35),
-            (*b"7143", false, Class::An, 3),
-        ],
-    ),
-    (
-        *b"C506",
-        &[
-            (*b"1153", true, Class::An, 3),
-            (*b"1154", false, Class::An, 35),
-        ],
-    ),
-    (
-        *b"C507",
-        &[
-            (*b"2005", true, Class::An, 3),
-            (*b"2380", false, Class::An, 35),
-            (*b"2379", false, Class::An, 3),
-        ],
-    ),
-    (
-        *b"C509",
-        &[
-            (*b"5125", true, Class::An, 3),
-            (*b"5118", false, Class::N, 15),
-        ],
-    ),
-    (
-        *b"C516",
-        &[
-            (*b"5025", true, Class::An, 3),
-            (*b"5004", false, Class::N, 18),
-        ],
-    ),
+    (*b"C002", &[(*b"1001", false, Class::An, 3), (*b"1131", false, Class::An, 3), (*b"1000", false, Class::An, 35)]),
+    (*b"C056", &[(*b"3413", false, Class::An, 17), (*b"3412", false, Class::An, 35)]),
+    (*b"C082", &[(*b"3039", true, Class::An, 17), (*b"1131", false, Class::An, 3), (*b"3055", false, Class::An, 3)]),
+    (*b"C186", &[(*b"6063", true, Class::An, 3), (*b"6060", true, Class::N, 15), (*b"6411", false, Class::An, 3)]),
+    (*b"C212", &[(*b"7140", false, Class::An, 35), (*b"7143", false, Class::An, 3)]),
+    (*b"C506", &[(*b"1153", true, Class::An, 3), (*b"1154", false, Class::An, 35)]),
+    (*b"C507", &[(*b"2005", true, Class::An, 3), (*b"2380", false, Class::An, 35), (*b"2379", false, Class::An, 3)]),
+    (*b"C509", &[(*b"5125", true, Class::An, 3), (*b"5118", false, Class::N, 15)]),
+    (*b"C516", &[(*b"5025", true, Class::An, 3), (*b"5004", false, Class::N, 18)]),
 ];
 
 // The segments of the reduced directory.
+#[rattlefmt::skip]
 const SEGMENTS: &[([u8; 3], &[ItemRow])] = &[
-    (
-        *b"BGM",
-        &[
-            (*b"C002", false, None),
-            (*b"1004", false, Some((Class::An, 35))),
-            (*b"1225", false, Some((Class::An, 3))),
-        ],
-    ),
-    (
-        *b"CTA",
-        &[
-            (*b"3139", false, Some((Class::An, 3))),
-            (*b"C056", false, None),
-        ],
-    ),
+    (*b"BGM", &[(*b"C002", false, None), (*b"1004", false, Some((Class::An, 35))), (*b"1225", false, Some((Class::An, 3)))]),
+    (*b"CTA", &[(*b"3139", false, Some((Class::An, 3))), (*b"C056", false, None)]),
     (*b"DTM", &[(*b"C507", true, None)]),
-    (
-        *b"LIN",
-        &[
-            (*b"1082", false, Some((Class::N, 6))),
-            (*b"1229", false, Some((Class::An, 3))),
-            (*b"C212", false, None),
-        ],
-    ),
+    (*b"LIN", &[(*b"1082", false, Some((Class::N, 6))), (*b"1229", false, Some((Class::An, 3))), (*b"C212", false, None)]),
     (*b"MOA", &[(*b"C516", true, None)]),
-    (
-        *b"NAD",
-        &[
-            (*b"3035", true, Some((Class::An, 3))),
-            (*b"C082", false, None),
-        ],
-    ),
+    (*b"NAD", &[(*b"3035", true, Some((Class::An, 3))), (*b"C082", false, None)]),
     (*b"PRI", &[(*b"C509", false, None)]),
     (*b"QTY", &[(*b"C186", true, None)]),
     (*b"RFF", &[(*b"C506", true, None)]),
 ];
 
 // Composite files that are accepted, each with its number of composites.
+#[rattlefmt::skip]
 const GOOD_COMPOSITES: &[(&[u8], usize)] = &[
     // nothing; no separator; only separators; what stands before the first separator isn't judged
     (b"", 0),
     (b"C1 N\n010\n", 0),
     (b"----------\n\n+*#\n----------\n", 0),
     (b"C1 N\n------------\nC001 N\n010 1001 N C an3\n", 1),
-    // blank lines, line ends with CR, marks in front, a mark behind a position, a name of more fields, indentations of 4 and 5
-    (
-        b"----------\r\n\r\n  C001 N O\r\n\r\n|   010 * 1001 N C M an..9999\r\n|    020 1001\r\n",
-        1,
-    ),
+    // blank lines, line ends with CR, marks in front, a mark after a position, a name of more fields, indentations of 4 and 5
+    (b"----------\r\n\r\n  C001 N O\r\n\r\n|   010 * 1001 N C M an..9999\r\n|    020 1001\r\n", 1),
 ];
 
 // Segment files that are accepted, each with its number of segments.
+#[rattlefmt::skip]
 const GOOD_SEGMENTS: &[(&[u8], usize)] = &[
-    // text before the first item, also such that begins as a part line does; text behind an element and a composite
-    (
-        b"----------\n XXX N\n     1001 text\n010 1001 N C an3\n     text\n020 C001 N M\n     text\n",
-        1,
-    ),
+    // text before the first item, also such that begins as a part line does; text after an element and a composite
+    (b"----------\n XXX N\n     1001 text\n010 1001 N C an3\n     text\n020 C001 N M\n     text\n", 1),
     // a composite that isn't known, with part lines; a known one without, and with its parts between text
-    (
-        b"----------\nA01 N\n010 C009 N C\n     1001 N C an3\n----------\nA02 N\n010 C001 N C\n",
-        2,
-    ),
-    (
-        b"----------\nA01 N\n010 X C001 N C\n+    1001 N C an3\n     N\n*    1002 N O M n..5\n     N\n",
-        1,
-    ),
+    (b"----------\nA01 N\n010 C009 N C\n     1001 N C an3\n----------\nA02 N\n010 C001 N C\n", 2),
+    (b"----------\nA01 N\n010 X C001 N C\n+    1001 N C an3\n     N\n*    1002 N O M n..5\n     N\n", 1),
 ];
 
 // Composite files that break a rule, each with the line and the kind of its first fault.
+#[rattlefmt::skip]
 const FAULTY_COMPOSITES: &[(&[u8], u32, DirKind)] = &[
     // heads: other forms, an element's code, no name
-    (
-        b"----------\nC01 N\n010 1001 N C an3\n",
-        2,
-        DirKind::BadCode,
-    ),
-    (
-        b"----------\nC0011 N\n010 1001 N C an3\n",
-        2,
-        DirKind::BadCode,
-    ),
-    (
-        b"----------\n1001 N\n010 1001 N C an3\n",
-        2,
-        DirKind::BadCode,
-    ),
+    (b"----------\nC01 N\n010 1001 N C an3\n", 2, DirKind::BadCode),
+    (b"----------\n1001 N\n010 1001 N C an3\n", 2, DirKind::BadCode),
     (b"----------\nC001\n010 1001 N C an3\n", 2, DirKind::BadCode),
     // lines: no position, one of two digits, one of four, no element code, a composite's code, too few fields
     (b"----------\nC001 N\nA 1001 N C an3\n", 3, DirKind::BadLine),
-    (
-        b"----------\nC001 N\n10 1001 N C an3\n",
-        3,
-        DirKind::BadLine,
-    ),
-    (
-        b"----------\nC001 N\n0010 1001 N C an3\n",
-        3,
-        DirKind::BadLine,
-    ),
-    (
-        b"----------\nC001 N\n010 100 N C an3\n",
-        3,
-        DirKind::BadLine,
-    ),
-    (
-        b"----------\nC001 N\n010 C002 N C an3\n",
-        3,
-        DirKind::BadLine,
-    ),
+    (b"----------\nC001 N\n10 1001 N C an3\n", 3, DirKind::BadLine),
+    (b"----------\nC001 N\n010 100 N C an3\n", 3, DirKind::BadLine),
+    (b"----------\nC001 N\n010 C002 N C an3\n", 3, DirKind::BadLine),
     (b"----------\nC001 N\n010 1001 C an3\n", 3, DirKind::BadLine),
     (b"----------\nC001 N\n010\n", 3, DirKind::BadLine),
-    // a mark alone behind the position is no field; two marks are one
-    (
-        b"----------\nC001 N\n010 X 1001 C an3\n",
-        3,
-        DirKind::BadLine,
-    ),
-    (
-        b"----------\nC001 N\n010 ++ 1001 N C an3\n",
-        3,
-        DirKind::BadLine,
-    ),
-    (
-        b"----------\nC001 N\n010 + + 1001 N C an3\n",
-        3,
-        DirKind::BadLine,
-    ),
+    // a mark alone after the position is no field; two marks are one
+    (b"----------\nC001 N\n010 X 1001 C an3\n", 3, DirKind::BadLine),
+    (b"----------\nC001 N\n010 ++ 1001 N C an3\n", 3, DirKind::BadLine),
     // positions
-    (
-        b"----------\nC001 N\n010 1001 N C an3\n010 1002 N C an3\n",
-        4,
-        DirKind::BadPosition,
-    ),
-    (
-        b"----------\nC001 N\n020 1001 N C an3\n010 1002 N C an3\n",
-        4,
-        DirKind::BadPosition,
-    ),
-    (
-        b"----------\nC001 N\n010 1 1 1 1\n010 1002 N C an3\n",
-        3,
-        DirKind::BadLine,
-    ),
+    (b"----------\nC001 N\n010 1001 N C an3\n010 1002 N C an3\n", 4, DirKind::BadPosition),
+    (b"----------\nC001 N\n010 1 1 1 1\n010 1002 N C an3\n", 3, DirKind::BadLine),
     // statuses and representations
-    (
-        b"----------\nC001 N\n010 1001 N c an3\n",
-        3,
-        DirKind::BadStatus,
-    ),
-    (
-        b"----------\nC001 N\n010 1001 N CM an3\n",
-        3,
-        DirKind::BadStatus,
-    ),
+    (b"----------\nC001 N\n010 1001 N c an3\n", 3, DirKind::BadStatus),
     (b"----------\nC001 N\n010 1001 N C 1\n", 3, DirKind::BadRepr),
-    (
-        b"----------\nC001 N\n010 1001 N C an..03\n",
-        3,
-        DirKind::BadRepr,
-    ),
+    (b"----------\nC001 N\n010 1001 N C an..03\n", 3, DirKind::BadRepr),
     // an entry without a part: only text, nothing, at the end of the file
-    (
-        b"----------\nC001 N\n     010 1001 N C an3\n",
-        2,
-        DirKind::BadLine,
-    ),
-    (
-        b"----------\nC001 N\n----------\nC002 N\n010 1001 N C an3\n",
-        2,
-        DirKind::BadLine,
-    ),
+    (b"----------\nC001 N\n     010 1001 N C an3\n", 2, DirKind::BadLine),
+    (b"----------\nC001 N\n----------\nC002 N\n010 1001 N C an3\n", 2, DirKind::BadLine),
     (b"----------\nC001 N", 2, DirKind::BadLine),
     // a code twice
-    (
-        b"----------\nC001 N\n010 1001 N C an3\n----------\nC001 M\n010 1001 N C an3\n",
-        5,
-        DirKind::Twice,
-    ),
+    (b"----------\nC001 N\n010 1001 N C an3\n----------\nC001 M\n010 1001 N C an3\n", 5, DirKind::Twice),
     // pairs of faults, in both orders: on one line, of two lines, of a head and a line, of an entry's end and the next head
-    (
-        b"----------\nC001 N\n020 1001 N C an3\n020 1001 N X an0\n",
-        4,
-        DirKind::BadPosition,
-    ),
-    (
-        b"----------\nC001 N\n020 1001 N C an3\n020 1001 N C\n",
-        4,
-        DirKind::BadLine,
-    ),
-    (
-        b"----------\nC001 N\n020 1001 N C an3\n030 1001 N X an0\n",
-        4,
-        DirKind::BadStatus,
-    ),
-    (
-        b"----------\nC001 N\n010 1001 N A an3\n010 1001 N C an0\n",
-        3,
-        DirKind::BadStatus,
-    ),
-    (
-        b"----------\nC001 N\n010 1001 N C an0\n010 1001 N A an3\n",
-        3,
-        DirKind::BadRepr,
-    ),
-    (
-        b"----------\nC001 N\n010 1001 N C an3\n----------\nC001\n010 1001 N A an3\n",
-        5,
-        DirKind::BadCode,
-    ),
-    (
-        b"----------\nC001 N\n010 1001 N A an3\n----------\nC001 N\n010 1001 N C an3\n",
-        3,
-        DirKind::BadStatus,
-    ),
-    (
-        b"----------\nC001 N\n010 1001 N C an3\n----------\nC001 N\n010 1001 N A an3\n",
-        5,
-        DirKind::Twice,
-    ),
-    (
-        b"----------\nC001 N\n----------\nC1 N\n010 1001 N C an3\n",
-        2,
-        DirKind::BadLine,
-    ),
-    (
-        b"----------\nC1 N\n----------\nC001 N\n",
-        2,
-        DirKind::BadCode,
-    ),
+    (b"----------\nC001 N\n020 1001 N C an3\n020 1001 N X an0\n", 4, DirKind::BadPosition),
+    (b"----------\nC001 N\n020 1001 N C an3\n020 1001 N C\n", 4, DirKind::BadLine),
+    (b"----------\nC001 N\n020 1001 N C an3\n030 1001 N X an0\n", 4, DirKind::BadStatus),
+    (b"----------\nC001 N\n010 1001 N A an3\n010 1001 N C an0\n", 3, DirKind::BadStatus),
+    (b"----------\nC001 N\n010 1001 N C an0\n010 1001 N A an3\n", 3, DirKind::BadRepr),
+    (b"----------\nC001 N\n010 1001 N C an3\n----------\nC001\n010 1001 N A an3\n", 5, DirKind::BadCode),
+    (b"----------\nC001 N\n010 1001 N A an3\n----------\nC001 N\n010 1001 N C an3\n", 3, DirKind::BadStatus),
+    (b"----------\nC001 N\n010 1001 N C an3\n----------\nC001 N\n010 1001 N A an3\n", 5, DirKind::Twice),
+    (b"----------\nC001 N\n----------\nC1 N\n010 1001 N C an3\n", 2, DirKind::BadLine),
+    (b"----------\nC1 N\n----------\nC001 N\n", 2, DirKind::BadCode),
 ];
 
 // Segment files that break a rule, each with the line and the kind of its first fault. The composite C001 is
 // known to have the parts 1001 C an3 and 1002 M n..5, and a second of that code to have 1003 C an..3.
+#[rattlefmt::skip]
 const FAULTY_SEGMENTS: &[(&[u8], u32, DirKind)] = &[
     // heads: small letters, four octets, a digit first, no name, three marks, which are read as spaces
-    (
-        b"----------\nbgm N\n010 1001 N C an3\n",
-        2,
-        DirKind::BadCode,
-    ),
-    (
-        b"----------\nBGMS N\n010 1001 N C an3\n",
-        2,
-        DirKind::BadCode,
-    ),
-    (
-        b"----------\n1GM N\n010 1001 N C an3\n",
-        2,
-        DirKind::BadCode,
-    ),
+    (b"----------\nbgm N\n010 1001 N C an3\n", 2, DirKind::BadCode),
+    (b"----------\n1GM N\n010 1001 N C an3\n", 2, DirKind::BadCode),
     (b"----------\nBGM\n010 1001 N C an3\n", 2, DirKind::BadCode),
-    (
-        b"----------\nXXX N\n010 1001 N C an3\n",
-        2,
-        DirKind::BadCode,
-    ),
+    (b"----------\nXXX N\n010 1001 N C an3\n", 2, DirKind::BadCode),
     // lines: no position, another code, too few fields of an element or a composite, a mark alone
     (b"----------\nBGM N\n1001 N C an3\n", 3, DirKind::BadLine),
     (b"----------\nBGM N\n010 S001 N C\n", 3, DirKind::BadLine),
     (b"----------\nBGM N\n010 1001 C an3\n", 3, DirKind::BadLine),
     (b"----------\nBGM N\n010 C001 C\n", 3, DirKind::BadLine),
-    (b"----------\nBGM N\n010 * C001 C\n", 3, DirKind::BadLine),
     // positions, statuses and representations
-    (
-        b"----------\nBGM N\n010 C001 N C\n010 C002 N C\n",
-        4,
-        DirKind::BadPosition,
-    ),
-    (
-        b"----------\nBGM N\n020 1001 N C an3\n     text\n010 C002 N C\n",
-        5,
-        DirKind::BadPosition,
-    ),
-    (
-        b"----------\nBGM N\n010 1001 N X an3\n",
-        3,
-        DirKind::BadStatus,
-    ),
+    (b"----------\nBGM N\n010 C001 N C\n010 C002 N C\n", 4, DirKind::BadPosition),
+    (b"----------\nBGM N\n020 1001 N C an3\n     text\n010 C002 N C\n", 5, DirKind::BadPosition),
     (b"----------\nBGM N\n010 C001 N D\n", 3, DirKind::BadStatus),
-    (
-        b"----------\nBGM N\n010 C001 N C an3\n",
-        3,
-        DirKind::BadStatus,
-    ),
+    (b"----------\nBGM N\n010 C001 N C an3\n", 3, DirKind::BadStatus),
     (b"----------\nBGM N\n010 1001 N C\n", 3, DirKind::BadLine),
-    (
-        b"----------\nBGM N\n010 1001 N C a..\n",
-        3,
-        DirKind::BadRepr,
-    ),
+    (b"----------\nBGM N\n010 1001 N C a..\n", 3, DirKind::BadRepr),
     // part lines: below an element, too few fields, a wrong status, a wrong representation
-    (
-        b"----------\nBGM N\n010 1001 N C an3\n     1001 N C an3\n",
-        4,
-        DirKind::BadLine,
-    ),
-    (
-        b"----------\nBGM N\n010 C009 N C\n     1001 N C\n",
-        4,
-        DirKind::BadLine,
-    ),
-    (
-        b"----------\nBGM N\n010 C009 N C\n     1001 N X an3\n",
-        4,
-        DirKind::BadLine,
-    ),
-    (
-        b"----------\nBGM N\n010 C009 N C\n     1001 text about it\n",
-        4,
-        DirKind::BadLine,
-    ),
+    (b"----------\nBGM N\n010 1001 N C an3\n     1001 N C an3\n", 4, DirKind::BadLine),
+    (b"----------\nBGM N\n010 C009 N C\n     1001 N C\n", 4, DirKind::BadLine),
+    (b"----------\nBGM N\n010 C009 N C\n     1001 N X an3\n", 4, DirKind::BadLine),
+    (b"----------\nBGM N\n010 C009 N C\n     1001 text about it\n", 4, DirKind::BadLine),
     // part lines that aren't the parts: one too few, one too many, in another order, another status, class, kind of length, length, code
-    (
-        b"----------\nBGM N\n010 C001 N C\n     1001 N C an3\n",
-        3,
-        DirKind::PartsDiffer,
-    ),
-    (
-        b"----------\nBGM N\n010 C001 N C\n     1001 N C an3\n     1002 N M n..5\n     1001 N C an3\n",
-        3,
-        DirKind::PartsDiffer,
-    ),
-    (
-        b"----------\nBGM N\n010 C001 N C\n     1002 N M n..5\n     1001 N C an3\n",
-        3,
-        DirKind::PartsDiffer,
-    ),
-    (
-        b"----------\nBGM N\n010 C001 N C\n     1001 N M an3\n     1002 N M n..5\n",
-        3,
-        DirKind::PartsDiffer,
-    ),
-    (
-        b"----------\nBGM N\n010 C001 N C\n     1001 N C a3\n     1002 N M n..5\n",
-        3,
-        DirKind::PartsDiffer,
-    ),
-    (
-        b"----------\nBGM N\n010 C001 N C\n     1001 N C an3\n     1002 N M n5\n",
-        3,
-        DirKind::PartsDiffer,
-    ),
-    (
-        b"----------\nBGM N\n010 C001 N C\n     1001 N C an3\n     1002 N M n..6\n",
-        3,
-        DirKind::PartsDiffer,
-    ),
-    (
-        b"----------\nBGM N\n010 C001 N C\n     1001 N C an3\n     1003 N M n..5\n",
-        3,
-        DirKind::PartsDiffer,
-    ),
+    (b"----------\nBGM N\n010 C001 N C\n     1001 N C an3\n     1002 N M n..5\n     1001 N C an3\n", 3, DirKind::PartsDiffer),
+    (b"----------\nBGM N\n010 C001 N C\n     1002 N M n..5\n     1001 N C an3\n", 3, DirKind::PartsDiffer),
+    (b"----------\nBGM N\n010 C001 N C\n     1001 N M an3\n     1002 N M n..5\n", 3, DirKind::PartsDiffer),
+    (b"----------\nBGM N\n010 C001 N C\n     1001 N C a3\n     1002 N M n..5\n", 3, DirKind::PartsDiffer),
+    (b"----------\nBGM N\n010 C001 N C\n     1001 N C an3\n     1002 N M n5\n", 3, DirKind::PartsDiffer),
+    (b"----------\nBGM N\n010 C001 N C\n     1001 N C an3\n     1002 N M n..6\n", 3, DirKind::PartsDiffer),
+    (b"----------\nBGM N\n010 C001 N C\n     1001 N C an3\n     1003 N M n..5\n", 3, DirKind::PartsDiffer),
     // the first known composite of a code counts
-    (
-        b"----------\nBGM N\n010 C001 N C\n     1003 N C an..3\n",
-        3,
-        DirKind::PartsDiffer,
-    ),
+    (b"----------\nBGM N\n010 C001 N C\n     1003 N C an..3\n", 3, DirKind::PartsDiffer),
     // no item, and a tag twice
-    (
-        b"----------\nBGM N\n     010 1001 N C an3\n",
-        2,
-        DirKind::BadLine,
-    ),
-    (
-        b"----------\nBGM N\n010 1001 N C an3\n----------\nBGM M\n010 1001 N C an3\n",
-        5,
-        DirKind::Twice,
-    ),
+    (b"----------\nBGM N\n     010 1001 N C an3\n", 2, DirKind::BadLine),
+    (b"----------\nBGM N\n010 1001 N C an3\n----------\nBGM M\n010 1001 N C an3\n", 5, DirKind::Twice),
     // pairs of faults, in both orders: an item's line and its end, a part line and the end, the end and the next item's line, two ends
-    (
-        b"----------\nBGM N\n010 C001 N D\n     1001 N C an3\n",
-        3,
-        DirKind::BadStatus,
-    ),
-    (
-        b"----------\nBGM N\n010 C001 N C\n     1001 N D an3\n     1002 N M n..5\n",
-        4,
-        DirKind::BadLine,
-    ),
-    (
-        b"----------\nBGM N\n010 C001 N C\n     1001 N C an3\n010 1001 N D an0\n",
-        3,
-        DirKind::PartsDiffer,
-    ),
-    (
-        b"----------\nBGM N\n010 1001 N D an0\n020 C001 N C\n     1001 N C an3\n",
-        3,
-        DirKind::BadStatus,
-    ),
-    (
-        b"----------\nBGM N\n010 C001 N C\n     1001 N C an3\n----------\nBGM N\n",
-        3,
-        DirKind::PartsDiffer,
-    ),
-    (
-        b"----------\nBGM N\n----------\nCTA N\n010 C001 N C\n     1001 N C an3\n",
-        2,
-        DirKind::BadLine,
-    ),
+    (b"----------\nBGM N\n010 C001 N D\n     1001 N C an3\n", 3, DirKind::BadStatus),
+    (b"----------\nBGM N\n010 C001 N C\n     1001 N D an3\n     1002 N M n..5\n", 4, DirKind::BadLine),
+    (b"----------\nBGM N\n010 C001 N C\n     1001 N C an3\n010 1001 N D an0\n", 3, DirKind::PartsDiffer),
+    (b"----------\nBGM N\n010 1001 N D an0\n020 C001 N C\n     1001 N C an3\n", 3, DirKind::BadStatus),
+    (b"----------\nBGM N\n010 C001 N C\n     1001 N C an3\n----------\nBGM N\n", 3, DirKind::PartsDiffer),
+    (b"----------\nBGM N\n----------\nCTA N\n010 C001 N C\n     1001 N C an3\n", 2, DirKind::BadLine),
 ];
 
 // The composites that are known to the segment files here.

@@ -8,6 +8,7 @@ pub mod HeadLemmas
 pub mod LineLemmas
 pub mod PlainLemmas
 pub mod ProfileLemmas
+pub mod SeenLemmas
 pub mod SplitLemmas
 pub mod TurnLemmas
 mod Worked

@@ -2,7 +2,7 @@
 ghost use Rattle.std.specs.Prelude.{◌≡◌};
 ghost use Rattle.edi_octets.specs.DirKind.{word_of};
 
-use std::alloc::AllocError;
+use std::alloc::{AllocError, AllocFailed};
 use thiserror::Error;
 
 /// The rule of the directory text profile that a file breaks.
@@ -56,7 +56,8 @@ impl DirKind {
     }
 }
 
-/// The first fault of a directory file: the line, from 1 (0 where the file has none), and the rule that it breaks.
+/// The first fault of a directory file: the line, from 1, and the rule that it breaks. Of a file without a type
+/// line it is the number of lines, which may be 0.
 #[derive(Clone, Copy, Debug, PartialEq, Eq)]
 pub struct DirFault {
     pub line: u32,
@@ -79,6 +80,17 @@ impl From<AllocError> for DirStop {
     ghost from_gives = { λ _ e. e ≡ Memory };
 
     fn from(_: AllocError) -> DirStop {
+        DirStop::Memory
+    }
+}
+
+impl<T: Drop> From<AllocFailed<T>> for DirStop {
+    ghost use Rattle.std.specs.Prelude.{◌≡◌};
+    ghost use Rattle.edi_octets.specs.declared.fault.DirStop.TheVariants.{Memory};
+
+    ghost from_gives = { λ _ e. e ≡ Memory };
+
+    fn from(_: AllocFailed<T>) -> DirStop {
         DirStop::Memory
     }
 }

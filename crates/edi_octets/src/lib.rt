@@ -9,6 +9,7 @@ mod lines;
 mod name;
 mod octets;
 mod profile;
+mod seen;
 
 pub use cells::Cells;
 pub use decimal::{put_decimal, read_decimal};
@@ -18,8 +19,10 @@ pub use lines::{LineText, Lines};
 pub use name::is_name;
 pub use octets::{Flat, Octets};
 pub use profile::{
-    after_position, is_composite_code, is_element_code, is_lone_mark, read_repr, read_status,
+    after_position, is_composite_code, is_element_code, is_greater, is_lone_mark,
+    read_composite_code, read_element_code, read_repr, read_status,
 };
+pub use seen::Seen;
 
 #[cfg(test)]
 mod tests;

@@ -4,6 +4,7 @@ ghost use Rattle.edi_octets.specs.Lines.{lines_from, without_return};
 ghost use Rattle.edi_octets.specs.Profile.{is_marked, marks_of};
 
 use crate::cells::{Cells, spaces_in_front};
+use crate::fault::{DirFault, DirKind, DirStop};
 use crate::profile::{is_mark, is_rule};
 use memchr::memchr;
 
@@ -89,6 +90,8 @@ fn before_return(line: &[u8]) -> &[u8]
 }
 
 impl<'a> LineText<'a> {
+    ghost use Rattle.edi_octets.specs.declared.fault.DirStop.TheVariants.{Fault};
+    ghost use Rattle.edi_octets.specs.DirStop.{at_line};
     ghost use Rattle.std.specs.Prelude.{◌≡◌, true};
     ghost use Rattle.edi_octets.specs.Head.{is_code_and_name};
     ghost use Rattle.edi_octets.specs.Profile.{begins_with_word, fields_of, first_field, indentation_of, is_written, is_separator};
@@ -136,6 +139,16 @@ impl<'a> LineText<'a> {
     {
         let mut fields = self.fields();
         matches!((fields.next(), fields.next()), (Some(_), Some(_)))
+    }
+
+    /// The stop for a rule that the line breaks.
+    pub fn breaks(&self, kind: DirKind) -> DirStop
+        ensures { result ≡ Fault (at_line kind (line_shown self.now)) }
+    {
+        DirStop::Fault(DirFault {
+            line: self.number,
+            kind,
+        })
     }
 
     /// Whether the line is a separator: one field of ten or more `-`.

@@ -1,12 +1,12 @@
 //! The words of the directory text profile.
-ghost use Rattle.std.specs.Prelude.{◌≡◌, ◌==◌, drop, slice_index, if◌then◌else◌};
+ghost use Rattle.std.specs.Prelude.{◌≡◌, ◌==◌, Some, None, drop, slice_index, if◌then◌else◌};
 ghost use Rattle.edi_tables.specs.Forms as forms;
 ghost use Rattle.edi_octets.specs.Profile as profile;
 ghost use Rattle.edi_octets.specs.Left.{cells_left};
 
 use crate::cells::Cells;
 use crate::decimal::{are_digits, read_decimal};
-use edi_tables::{Class, Repr};
+use edi_tables::{Class, Code, Repr};
 
 /// The fewest `-` of a separator.
 const LEAST_DASHES: usize = 10;
@@ -50,6 +50,28 @@ pub fn is_composite_code(field: &[u8]) -> bool
     ensures { result ≡ forms.is_composite_code field.now }
 {
     field.len() == 4 && field[0] == b'C' && are_digits(&field[1..])
+}
+
+/// The code of a data element that a field is.
+pub fn read_element_code(field: &[u8]) -> Option<Code>
+    ensures { result ≡ (if forms.is_element_code field.now then Some (record { octets = field.now }) else None) }
+{
+    if is_element_code(field) {
+        Code::read(field)
+    } else {
+        None
+    }
+}
+
+/// The code of a composite that a field is.
+pub fn read_composite_code(field: &[u8]) -> Option<Code>
+    ensures { result ≡ (if forms.is_composite_code field.now then Some (record { octets = field.now }) else None) }
+{
+    if is_composite_code(field) {
+        Code::read(field)
+    } else {
+        None
+    }
 }
 
 /// The representation that a field is: `a`, `n` or `an`, perhaps `..`, and a length from 1 to 9999
@@ -115,7 +137,17 @@ pub fn read_status(field: &[u8]) -> Option<bool>
     }
 }
 
-/// The fields behind a position: a mark alone is skipped directly after it.
+/// Whether a position is greater than the one before, if there is one.
+pub fn is_greater(before: Option<u64>, position: u64) -> bool
+    ensures { result ≡ profile.is_greater before position }
+{
+    match before {
+        None => true,
+        Some(before) => before < position,
+    }
+}
+
+/// The fields after a position: a mark alone is skipped directly after it.
 pub fn after_position(fields: Cells<'_>) -> Cells<'_>
     ensures { cells_left result ≡ profile.after_position (cells_left fields.entry) }
 {

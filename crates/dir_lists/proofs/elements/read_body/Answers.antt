@@ -46,4 +46,4 @@ returns c =
     let head = line_shown c.args.entry.now.head in
     let whole = ap body_left (sym c.into_iter-line-iterator.ensures.into_iter_gives) ∙ rest-end line_shown body_left c.into_iter-line-iterator.result c.loop-line.yielded c.loop-line.line-iterator c.loop-line.yielded_by c.in-None.ensures.steps.0 in
     let ended = entry-end head (map line_shown c.loop-line.yielded) c.loop-line.found c.loop-line.invariant.found c.loop-line.invariant.any in
-    rw (c.ok_or.ensures.value, c.stop_at.ensures, whole, c.loop-line.invariant.none) ended
+    rw (c.ok_or.ensures.value, c.breaks.ensures, whole, c.loop-line.invariant.none) ended

@@ -1,4 +1,4 @@
-use Rattle.std.proofs.Common.{◌≡◌, ℕ, true, length, Vec, Global, sym, ap, ◌∙◌}
+use Rattle.std.proofs.Common.{◌≡◌, ℕ, true, length, Vec, Global, sym, ap, ◌∙◌, [], ◌∷◌, ◌++◌, rules}
 use Rattle.std.proofs.lemmas.Result.{err_from_is_err_and}
 use Rattle.edi_tables.specs.declared.element.PartDef.{PartDef}
 use Rattle.edi_octets.specs.Left.{line_shown, body_left}
@@ -31,4 +31,5 @@ loop-line-preserved c =
     let faults = part_faults c.loop-line.before line in
     let none = placed_none read faults (position_of line) (part_in (fields_behind line)) c.in_ok-position.ensures in
     let value = placed_value read faults (position_of line) (part_in (fields_behind line)) c.in_ok-position.ensures in
-    rw c.in_ok-add.ensures (read_more part_faults position_of (λ l. part_in (fields_behind l)) (part_lines body) (part_lines (body_left c.loop-line.line-iterator)) line (part_lines later) c.loop-line.before c.loop-line.parts.items c.in_ok-position.position c.in_ok-position.part c.loop-line.invariant here none value.0 value.1)
+    let pushed : c.push.new.self.items ≡ c.loop-line.parts.items ++ c.in_ok-position.part ∷ [] = search rules in
+    rw pushed (read_more part_faults position_of (λ l. part_in (fields_behind l)) (part_lines body) (part_lines (body_left c.loop-line.line-iterator)) line (part_lines later) c.loop-line.before c.loop-line.parts.items c.in_ok-position.position c.in_ok-position.part c.loop-line.invariant here none value.0 value.1)

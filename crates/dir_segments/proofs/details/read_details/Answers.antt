@@ -1,4 +1,4 @@
-use Rattle.std.proofs.Common.{◌≡◌, true, false, Some, Vec, Global, sym, ap, ◌∙◌}
+use Rattle.std.proofs.Common.{◌≡◌, true, false, Some, Vec, Global, sym, ap, ◌∙◌, [], ◌∷◌, ◌++◌, rules}
 use Rattle.std.proofs.lemmas.Result.{err_from_is_err_and}
 use Rattle.edi_tables.specs.declared.element.PartDef.{PartDef}
 use Rattle.edi_octets.specs.Left.{line_shown, body_left}
@@ -40,4 +40,5 @@ loop-line-preserved c =
     let found = part_in (fields_of line.octets) in
     let none = no_faults some c.in_ok-part.part faults found c.in_ok-part.ensures in
     let value = value_given some c.in_ok-part.part faults found c.in_ok-part.ensures in
-    rw c.in_ok-add.ensures (details_part c.args.below_composite (details_of (body_left c.args.behind)) (details_of (body_left c.loop-line.line-iterator)) line (details_of later) c.loop-line.parts.items c.in_ok-part.part c.loop-line.invariant here is none value)
+    let pushed : c.push.new.self.items ≡ c.loop-line.parts.items ++ c.in_ok-part.part ∷ [] = search rules in
+    rw pushed (details_part c.args.below_composite (details_of (body_left c.args.behind)) (details_of (body_left c.loop-line.line-iterator)) line (details_of later) c.loop-line.parts.items c.in_ok-part.part c.loop-line.invariant here is none value)

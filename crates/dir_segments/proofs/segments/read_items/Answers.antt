@@ -1,4 +1,4 @@
-use Rattle.std.proofs.Common.{◌≡◌, ℕ, true, length, Vec, Global, sym, ap, ◌∙◌}
+use Rattle.std.proofs.Common.{◌≡◌, ℕ, true, length, Vec, Global, sym, ap, ◌∙◌, [], ◌∷◌, ◌++◌, rules}
 use Rattle.std.proofs.lemmas.Result.{err_from_is_err_and}
 use Rattle.edi_tables.specs.declared.segment.ItemDef.{ItemDef}
 use Rattle.edi_octets.specs.Left.{line_shown, body_left}
@@ -35,4 +35,5 @@ loop-line-preserved c =
     let faults = judge c.loop-line.before item in
     let none = placed_none read faults (place_of item) (item_of item) c.in_ok-position.ensures in
     let value = placed_value read faults (place_of item) (item_of item) c.in_ok-position.ensures in
-    rw c.in_ok-add.ensures (read_more judge place_of item_of (items_of body) (items_of (body_left c.loop-line.lines)) item (items_of later) c.loop-line.before c.loop-line.items.items c.in_ok-position.position c.in_ok-position.item c.loop-line.invariant here none value.0 value.1)
+    let pushed : c.push.new.self.items ≡ c.loop-line.items.items ++ c.in_ok-position.item ∷ [] = search rules in
+    rw pushed (read_more judge place_of item_of (items_of body) (items_of (body_left c.loop-line.lines)) item (items_of later) c.loop-line.before c.loop-line.items.items c.in_ok-position.position c.in_ok-position.item c.loop-line.invariant here none value.0 value.1)

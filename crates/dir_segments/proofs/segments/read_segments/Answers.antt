@@ -1,6 +1,4 @@
-use Rattle.std.proofs.Common.{◌≡◌, List, map, Vec, Global, Ok, Err, subst, refl}
-use Rattle.std.specs.HashSet.{contains}
-use Rattle.std.specs.Str.{bytes_eq}
+use Rattle.std.proofs.Common.{◌≡◌, [], ◌∷◌, ◌++◌, rules, List, map, Vec, Global, Ok, Err, subst, refl}
 use Rattle.std.proofs.lemmas.Result.{err_from_is_err_and}
 use Rattle.edi_tables.specs.declared.element.CompositeDef.{CompositeDef}
 use Rattle.edi_tables.specs.declared.segment.SegmentDef.{SegmentDef}
@@ -26,7 +24,7 @@ returns-in_err-segment-clause-answers c =
     let stop = c.in_err-segment.field-0.0 in
     let Stops : List CompositeDef → Type 0 = λ known. Answers same fault_in (Err stop) (unless_faulty (segment_faults known read.front entry) (segment_of entry)) in
     let given : Stops c.args.known.now = subst Stops c.in_ok-composites.ensures (c.in_err-segment.ensures.judged read.front read.heads) in
-    rw (err.1, err.2) (entries_stop (segment_faults c.args.known.now) segment_of same (λ (found : Vec SegmentDef Global). found.items) stop all (entries_left c.loop-entry.entry-iterator) entry (entries_left c.next.new.self) (contains bytes_eq c.loop-entry.seen) c.loop-entry.found.items (segment_of entry) (map segment_of all) read c.in-Some.ensures.steps given)
+    rw (err.1, err.2) (entries_stop (segment_faults c.args.known.now) segment_of same (λ (found : Vec SegmentDef Global). found.items) stop all (entries_left c.loop-entry.entry-iterator) entry (entries_left c.next.new.self) c.loop-entry.seen c.loop-entry.found.items (segment_of entry) (map segment_of all) read c.in-Some.ensures.steps given)
 
 pub loop-entry-preserved : goal.loop-entry-preserved
 loop-entry-preserved c =
@@ -39,12 +37,13 @@ loop-entry-preserved c =
     let judged : Read c.args.known.now = subst Read c.in_ok-composites.ensures (c.in_ok-segment.ensures.judged read.front read.heads) in
     let none = no_faults same segment (segment_faults c.args.known.now read.front entry) (segment_of entry) judged in
     let value = value_given same segment (segment_faults c.args.known.now read.front entry) (segment_of entry) judged in
-    rw c.in_ok-add.ensures (entries_more (segment_faults c.args.known.now) segment_of all (entries_left c.loop-entry.entry-iterator) entry (entries_left c.next.new.self) (contains bytes_eq c.loop-entry.seen) (contains bytes_eq c.read_entry.new.seen) c.loop-entry.found.items segment read c.in-Some.ensures.steps none value (c.in_ok-segment.ensures.joins read.front read.heads))
+    let pushed : c.push.new.self.items ≡ c.loop-entry.found.items ++ c.in_ok-segment.segment ∷ [] = search rules in
+    rw pushed (entries_more (segment_faults c.args.known.now) segment_of all (entries_left c.loop-entry.entry-iterator) entry (entries_left c.next.new.self) c.loop-entry.seen c.read_entry.new.seen c.loop-entry.found.items segment read c.in-Some.ensures.steps none value c.in_ok-segment.ensures.joins)
 
 pub returns : goal.returns
 unfolding segments_in
 returns c =
     let all = entries_of (lines_of c.args.file.now) in
-    let whole = entries_all (segment_faults c.args.known.now) segment_of all (entries_left c.loop-entry.entry-iterator) (contains bytes_eq c.loop-entry.seen) c.loop-entry.found.items c.loop-entry.invariant c.in-None.ensures.steps.0 in
+    let whole = entries_all (segment_faults c.args.known.now) segment_of all (entries_left c.loop-entry.entry-iterator) c.loop-entry.seen c.loop-entry.found.items c.loop-entry.invariant c.in-None.ensures.steps.0 in
     let answers : segments_in c.args.known.now c.args.file.now ≡ Ok c.loop-entry.found.items = rw (whole.0, whole.1) refl in
     record { answers = answers; forms = segments_in-formed c.args.known.now c.args.file.now c.loop-entry.found.items answers }

@@ -1,5 +1,3 @@
-use Rattle.std.specs.HashSet.{contains}
-use Rattle.std.specs.Str.{bytes_eq}
 use Rattle.edi_octets.specs.Left.{entries_left}
 use Rattle.edi_octets.specs.Lines.{lines_of}
 use Rattle.edi_octets.specs.Profile.{entries_of}
@@ -10,4 +8,4 @@ use Rattle.dir_segments.proofs.segments.read_segments.Given as goal
 -- the entries so far
 abbrev pub invariant-loop-entry : goal.invariant-loop-entry
 invariant-loop-entry l =
-    AreRead (segment_faults l.fn.known) segment_of (entries_of (lines_of l.fn.file)) (entries_left l.entry-iterator) (contains bytes_eq l.seen) l.found.items
+    AreRead (segment_faults l.fn.known) segment_of (entries_of (lines_of l.fn.file)) (entries_left l.entry-iterator) l.seen l.found.items

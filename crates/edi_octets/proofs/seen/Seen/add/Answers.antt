@@ -1,7 +1,7 @@
 use Rattle.std.proofs.Common.{not, sym, ap, ◌∙◌}
 use Rattle.std.specs.Str.{bytes_eq}
-use Rattle.dir_lists.proofs.SeenLemmas.{list_any-map}
-use Rattle.dir_lists.proofs.seen.Seen.add.Goals as goal
+use Rattle.edi_octets.proofs.SeenLemmas.{list_any-map}
+use Rattle.edi_octets.proofs.seen.Seen.add.Goals as goal
 
 pub returns-clause-new : goal.returns-clause-new
 returns-clause-new c =

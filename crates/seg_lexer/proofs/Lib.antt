@@ -1,6 +1,9 @@
+pub mod AppendLemmas
 mod ContextLemmas
 mod CountLemmas
 mod CutLemmas
+pub mod EditLemmas
+pub mod EndsLemmas
 pub mod FieldsLemmas
 pub mod ForwardLemmas
 pub mod OrderLemmas
@@ -15,3 +18,4 @@ mod TagLemmas
 mod WorkedContext
 mod WorkedFields
 mod WorkedSegments
+pub mod WholeLemmas

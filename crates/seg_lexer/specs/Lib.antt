@@ -10,3 +10,4 @@ pub mod Stretch
 pub mod Value
 pub mod Tag
 pub mod Context
+pub mod Whole

@@ -7,11 +7,12 @@ use Rattle.std.specs.Cmp.Lexicographic.{slice_cmp, texts_ties}
 use Rattle.std.specs.Ordering.{nat_cmp, is_lt, is_eq, ordering_reverse}
 use Rattle.std.specs.Str.{bytes_eq}
 use Rattle.std.proofs.lemmas.Cmp.{nat_list_cmp_total, nat_list_eq_equiv, tied_itself}
-use Rattle.std.proofs.lemmas.List.Sorted.{Contains-permutation, IsPermutation-sym, sorted_far, ranks_by}
+use Rattle.std.proofs.lemmas.List.Sorted.{Contains-permutation, IsPermutation-refl, IsPermutation-sym, IsPermutation-trans, IsPermutation-cons, IsPermutation-middle, sorted_far, ranks_by}
 use Rattle.std.proofs.lemmas.List.{get_or_default}
 use Rattle.std.proofs.lemmas.List.Kept.{AllPairs-cons}
 use Rattle.std.proofs.lemmas.Map.Keys.{IsDistinct-IsPermutation}
-use Rattle.dir_compile.specs.Ascending.{is_before, IsAscendingBy}
+use Rattle.edi_tables.specs.Ascending.{is_before, IsAscendingBy}
+use Rattle.edi_tables.proofs.AscendingLemmas.{before-trans, differ-from-before, before-from-differ, ascending-permutation}
 use Rattle.dir_compile.specs.InOrder.{put_in_order, ascending_by}
 
 -- x is a member
@@ -28,61 +29,6 @@ IsAscending {A} name (x ∷ xs) = ((y : A) → Has xs y → is_before (name x) (
 pub record HasSame {A : Type 0} (xs ys : List A) : Type 0 where
   pub there : (x : A) → Has xs x → Has ys x
   pub back : (x : A) → Has ys x → Has xs x
-
--- a name doesn't stand before itself, nor before one that stands before it, and standing before goes on
-pub before-self : (a : List ℕ) → is_before a a ≡ false
-before-self a = ap is_lt (tied_itself nat_list_cmp_total a)
-
-less-from-before : (o : Ordering) → is_lt o ≡ true → o ≡ Less
-less-from-before Less e = refl
-less-from-before Equal e = absurd (true≢false (sym e))
-less-from-before Greater e = absurd (true≢false (sym e))
-
-pub before-trans : (a b c : List ℕ) → is_before a b ≡ true → is_before b c ≡ true → is_before a c ≡ true
-before-trans a b c p q = ap is_lt (nat_list_cmp_total.trans a b c (less-from-before _ p) (less-from-before _ q))
-
-pub before-not-back : (a b : List ℕ) → is_before a b ≡ true → is_before b a ≡ true → ⊥
-before-not-back a b p q = true≢false (sym (before-trans a b a p q) ∙ before-self a)
-
--- two ascending lists with the same members are equal
-pub ascending-unique : {A : Type 0} (name : A → List ℕ) (xs ys : List A) → IsAscending name xs → IsAscending name ys → HasSame xs ys → xs ≡ ys
-ascending-unique name [] [] p q s = refl
-ascending-unique name [] (y ∷ ys) p q s = absurd (s.back y (inl refl))
-ascending-unique name (x ∷ xs) [] p q s = absurd (s.there x (inl refl))
-ascending-unique name (x ∷ xs) (y ∷ ys) p q s =
-    let heads : x ≡ y = by (s.there x (inl refl)) (s.back y (inl refl)) in
-    λ i. heads i ∷ ascending-unique name xs ys p.1 q.1 (rest heads) i
-  where
-    by : ((x ≡ y) ⊎ Has ys x) → ((y ≡ x) ⊎ Has xs y) → x ≡ y
-    by (inl e) k = e
-    by (inr h) (inl e) = sym e
-    by (inr h) (inr k) = absurd (before-not-back (name x) (name y) (p.0 y k) (q.0 x h))
-
-    rest : x ≡ y → HasSame xs ys
-    rest e = record {
-      there = λ z h. there z h (s.there z (inr h));
-      back = λ z h. back z h (s.back z (inr h));
-    }
-      where
-        there : (z : _) → Has xs z → ((z ≡ y) ⊎ Has ys z) → Has ys z
-        there z h (inl f) = absurd (true≢false (sym (p.0 z h) ∙ ap (λ w. is_before (name x) (name w)) (f ∙ sym e) ∙ before-self (name x)))
-        there z h (inr k) = k
-
-        back : (z : _) → Has ys z → ((z ≡ x) ⊎ Has xs z) → Has xs z
-        back z h (inl f) = absurd (true≢false (sym (q.0 z h) ∙ ap (λ w. is_before (name y) (name w)) (f ∙ e) ∙ before-self (name y)))
-        back z h (inr k) = k
-
--- names that differ, one before the other
-pub differ-from-before : (a b : List ℕ) → is_before a b ≡ true → bytes_eq a b ≡ false
-differ-from-before a b p = texts_ties a b ∙ ap is_eq (less-from-before _ p)
-
-pub before-from-differ : (a b : List ℕ) → is_before b a ≡ false → bytes_eq a b ≡ false → is_before a b ≡ true
-before-from-differ a b p q = by (slice_cmp nat_cmp b a) (nat_list_cmp_total.antisymm a b) p (sym (texts_ties a b) ∙ q)
-  where
-    by : (o : Ordering) → slice_cmp nat_cmp a b ≡ ordering_reverse o → is_lt o ≡ false → is_eq (slice_cmp nat_cmp a b) ≡ false → is_before a b ≡ true
-    by Less e p q = absurd (true≢false p)
-    by Equal e p q = absurd (true≢false (ap is_eq (sym e) ∙ q))
-    by Greater e p q = ap is_lt e
 
 -- each member's name differs from those behind it
 abbrev pub IsApart : {A : Type 0} → (A → List ℕ) → List A → Type 0
@@ -166,20 +112,12 @@ all-from-members P xs h k d lt =
     let x = get_or xs k d in
     h x (has-at xs x k lt (get_or_default xs k x d lt))
 
--- the two forms of ascending order
+-- ascending order, said of pairs
 pub pairs-from-ascending : {A : Type 0} (name : A → List ℕ) (xs : List A) → IsAscending name xs → IsAscendingBy name xs
 pairs-from-ascending name [] p = λ i j d less within. absurd (omega arith)
 pairs-from-ascending {A} name (x ∷ xs) p =
     AllPairs-cons (λ (a b : A). is_before (name a) (name b) ≡ true) x xs
     (all-from-members (λ y. is_before (name x) (name y) ≡ true) xs p.0) (pairs-from-ascending name xs p.1)
-
-pub ascending-from-pairs : {A : Type 0} (name : A → List ℕ) (xs : List A) → IsAscendingBy name xs → IsAscending name xs
-ascending-from-pairs name [] p = tt
-ascending-from-pairs {A} name (x ∷ xs) p = (
-  λ y h. let at = Contains-from-Has xs y h in
-      subst (λ (w : A). is_before (name x) (name w) ≡ true) at.2 (p 0 (suc at.0) y (omega arith) (omega (arith, at.1))),
-  ascending-from-pairs name xs (λ i j d less within. p (suc i) (suc j) d (omega arith) (omega arith)),
-)
 
 pub same-from-permutation : {A : Type 0} (xs ys : List A) → IsPermutation xs ys → HasSame xs ys
 same-from-permutation xs ys p = record {
@@ -227,12 +165,26 @@ pub apart-permutation : {A : Type 0} (name : A → List ℕ) (xs ys : List A) �
 apart-permutation name xs ys p q =
     apart-from-distinct name ys (IsDistinct-IsPermutation (by_name name) (by_name-flip name) xs ys p (distinct-from-apart name xs q))
 
+-- an item that is put in order is one more
+put-at : {A : Type 0} (name : A → List ℕ) (x y : A) (ys : List A) (b : Bool) → IsPermutation (x ∷ ys) (put_in_order name x ys) → IsPermutation (x ∷ y ∷ ys) (if b then y ∷ put_in_order name x ys else x ∷ y ∷ ys)
+put-at name x y ys true p =
+    IsPermutation-trans (x ∷ y ∷ ys) (y ∷ x ∷ ys) (y ∷ put_in_order name x ys) (IsPermutation-middle (x ∷ []) y ys) (IsPermutation-cons y (x ∷ ys) (put_in_order name x ys) p)
+put-at name x y ys false p = IsPermutation-refl (x ∷ y ∷ ys)
+
+put-permutation : {A : Type 0} (name : A → List ℕ) (x : A) (ys : List A) → IsPermutation (x ∷ ys) (put_in_order name x ys)
+put-permutation name x [] = IsPermutation-refl (x ∷ [])
+put-permutation name x (y ∷ ys) = put-at name x y ys (is_before (name y) (name x)) (put-permutation name x ys)
+
+pub ascending_by-permutation : {A : Type 0} (name : A → List ℕ) (xs : List A) → IsPermutation xs (ascending_by name xs)
+ascending_by-permutation name [] = IsPermutation-refl []
+ascending_by-permutation name (x ∷ xs) =
+    IsPermutation-trans (x ∷ xs) (x ∷ ascending_by name xs) (put_in_order name x (ascending_by name xs))
+    (IsPermutation-cons x xs (ascending_by name xs) (ascending_by-permutation name xs)) (put-permutation name x (ascending_by name xs))
+
 -- a sorted permutation of a list whose names differ is its ordered list
 pub ascending_by-sorted : {A : Type 0} (name : A → List ℕ) (xs ys : List A) → IsApart name xs → IsPermutation xs ys → IsSortedBy (λ x y. is_before (name x) (name y)) ys → ys ≡ ascending_by name xs
 ascending_by-sorted name xs ys apart moved sorted =
-    let same = same-from-permutation xs ys moved in
-    let put = same-ascending_by name xs in
-    ascending-unique name ys (ascending_by name xs)
-    (ascending-from-far name ys (sorted_far _ (ranks_by nat_list_cmp_total name) ys sorted) (apart-permutation name xs ys moved apart))
-    (ascending_by-ascending name xs apart)
-    (record { there = λ z h. put.there z (same.back z h); back = λ z h. same.there z (put.back z h) })
+    ascending-permutation name ys (ascending_by name xs)
+    (pairs-from-ascending name ys (ascending-from-far name ys (sorted_far _ (ranks_by nat_list_cmp_total name) ys sorted) (apart-permutation name xs ys moved apart)))
+    (pairs-from-ascending name (ascending_by name xs) (ascending_by-ascending name xs apart))
+    (IsPermutation-trans ys xs (ascending_by name xs) (IsPermutation-sym xs ys moved) (ascending_by-permutation name xs))

@@ -10,7 +10,7 @@ use Rattle.edi_tables.specs.declared.segment.ItemDef.TheVariants.{Alone, Composi
 use Rattle.edi_tables.specs.declared.tag.Tag.{Tag}
 use Rattle.dir_compile.specs.declared.parts.Parts.{Parts}
 use Rattle.dir_compile.specs.declared.stop.CompileKind.TheVariants.{UnknownElement, UnknownComposite, UnknownSegment, Reserved, BadTable}
-use Rattle.dir_compile.specs.Ascending.{is_before}
+use Rattle.edi_tables.specs.Ascending.{is_before}
 use Rattle.dir_compile.specs.InOrder.{ascending_by, ordered_list, ordered_parts}
 use Rattle.dir_compile.specs.Ordered.{IsInOrder}
 use Rattle.dir_compile.specs.Compile.{twice_in, named_in, list_fault, list_faults, part_against, part_faults, composite_fault, composite_faults, item_faults, segment_fault, segment_faults, tag_faults, message_fault, message_faults, is_service_tag, is_filled_with, compile_faults, value_name, element_name, list_name, composite_name, segment_name, message_name}

@@ -1,12 +1,12 @@
 -- What is answered of parts as a whole.
-use Rattle.std.proofs.Common.{◌≡◌, ℕ, suc, List, [], ◌∷◌, ◌++◌, length, ◌<◌, All, Some, Result, Ok, Err, IfOk, IfErr, sym, ap, ◌∙◌, refl, subst, if◌then◌else◌, Bool, true, false}
+use Rattle.std.proofs.Common.{◌≡◌, ℕ, suc, List, [], ◌∷◌, ◌++◌, length, ◌<◌, All, Option, Some, None, slice_get, Result, Ok, Err, IfOk, IfErr, sym, ap, ◌∙◌, refl, subst, if◌then◌else◌, Bool, true, false}
 use Rattle.std.proofs.lemmas.Option.{same_Some}
 use Rattle.edi_tables.specs.Rows.{table_faults}
 use Rattle.dir_compile.specs.declared.parts.Parts.{Parts}
 use Rattle.dir_compile.specs.declared.stop.CompileKind.{CompileKind}
 use Rattle.dir_compile.specs.declared.stop.CompileStop.{CompileStop}
 use Rattle.dir_compile.specs.declared.stop.CompileStop.TheVariants.{Fault, Memory}
-use Rattle.dir_compile.specs.Ascending.{is_before}
+use Rattle.edi_tables.specs.Ascending.{is_before}
 use Rattle.dir_compile.specs.InOrder.{put_in_order, ascending_by, ordered_parts}
 use Rattle.dir_compile.specs.Ordered.{IsOrdered}
 use Rattle.dir_compile.specs.Forms.{HasForms}
@@ -101,3 +101,17 @@ not-filled (x ∷ xs) e = cc
 pub tables-free : (parts : Parts) → message_faults parts ≡ [] → All (λ m. table_faults m.rows ≡ []) parts.messages
 tables-free parts none k d lt =
     not-filled _ (when-nil _ _ (nil-right _ _ (none-place (message_fault parts) parts.messages k d lt none)))
+
+-- whether there is a first fault
+pub no-first : {A : Type 0} (xs : List A) → None ≡ slice_get xs 0 → is_filled_with xs ≡ false
+no-first [] e = refl
+no-first (x ∷ xs) e = cc
+
+pub a-first : {A : Type 0} (xs : List A) (x : A) → Some x ≡ slice_get xs 0 → is_filled_with xs ≡ true
+a-first [] x e = cc
+a-first (y ∷ ys) x e = refl
+
+-- what is built where nothing is at fault
+pub built : {F A : Type 0} (faults : List F) (value found : A) → faults ≡ [] → unless_faulty faults value ≡ Ok found → found ≡ value
+built [] value found none e = cc
+built (fault ∷ faults) value found none e = cc

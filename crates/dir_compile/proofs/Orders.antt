@@ -1,32 +1,16 @@
 -- What a list of parts in order is, and that there is one.
-use Rattle.std.proofs.Common.{◌≡◌, ℕ, inl, inr, Bool, true, false, List, [], ◌∷◌, map, sym, ap, ◌∙◌, refl, subst, if◌then◌else◌, IsPermutation}
-use Rattle.std.proofs.lemmas.List.Sorted.{IsPermutation-refl, IsPermutation-sym, IsPermutation-trans, IsPermutation-cons, IsPermutation-middle}
+use Rattle.std.proofs.Common.{◌≡◌, ℕ, inl, inr, List, [], ◌∷◌, map, sym, ◌∙◌, refl, subst}
+use Rattle.std.proofs.lemmas.List.Sorted.{IsPermutation-sym, IsPermutation-trans}
+use Rattle.edi_tables.proofs.AscendingLemmas.{ascending-permutation}
 use Rattle.edi_tables.specs.declared.element.CodeList.{CodeList}
 use Rattle.dir_compile.specs.declared.parts.Parts.{Parts}
-use Rattle.dir_compile.specs.Ascending.{is_before}
-use Rattle.dir_compile.specs.InOrder.{put_in_order, ascending_by, ordered_list, ordered_parts}
+use Rattle.dir_compile.specs.InOrder.{ascending_by, ordered_list, ordered_parts}
 use Rattle.dir_compile.specs.Compile.{twice_in, value_name, element_name, list_name, composite_name, segment_name, message_name}
 use Rattle.dir_compile.specs.Ordered.{IsAscendingOf, IsCodesOrdered, AreCodesOrdered, AreListsOrdered, IsOrdered}
-use Rattle.dir_compile.proofs.AscendingLemmas.{Has, same-ascending_by, ascending_by-ascending, ascending-unique, pairs-from-ascending, ascending-from-pairs, same-from-permutation}
+use Rattle.dir_compile.proofs.AscendingLemmas.{Has, same-ascending_by, ascending_by-ascending, ascending_by-permutation, pairs-from-ascending}
 use Rattle.dir_compile.proofs.Apart.{apart-from-none}
 use Rattle.dir_compile.proofs.Members.{none-at}
 use Rattle.dir_compile.proofs.Groups.{IsTwiceFree}
-
--- an item that is put in order is one more
-put-at : {A : Type 0} (name : A → List ℕ) (x y : A) (ys : List A) (b : Bool) → IsPermutation (x ∷ ys) (put_in_order name x ys) → IsPermutation (x ∷ y ∷ ys) (if b then y ∷ put_in_order name x ys else x ∷ y ∷ ys)
-put-at name x y ys true p =
-    IsPermutation-trans (x ∷ y ∷ ys) (y ∷ x ∷ ys) (y ∷ put_in_order name x ys) (IsPermutation-middle (x ∷ []) y ys) (IsPermutation-cons y (x ∷ ys) (put_in_order name x ys) p)
-put-at name x y ys false p = IsPermutation-refl (x ∷ y ∷ ys)
-
-put-permutation : {A : Type 0} (name : A → List ℕ) (x : A) (ys : List A) → IsPermutation (x ∷ ys) (put_in_order name x ys)
-put-permutation name x [] = IsPermutation-refl (x ∷ [])
-put-permutation name x (y ∷ ys) = put-at name x y ys (is_before (name y) (name x)) (put-permutation name x ys)
-
-ascending_by-permutation : {A : Type 0} (name : A → List ℕ) (xs : List A) → IsPermutation xs (ascending_by name xs)
-ascending_by-permutation name [] = IsPermutation-refl []
-ascending_by-permutation name (x ∷ xs) =
-    IsPermutation-trans (x ∷ xs) (x ∷ ascending_by name xs) (put_in_order name x (ascending_by name xs))
-    (IsPermutation-cons x xs (ascending_by name xs) (ascending_by-permutation name xs)) (put-permutation name x (ascending_by name xs))
 
 -- a list in which no name comes twice, put in order
 pub ascending_by-of : {A : Type 0} (name : A → List ℕ) (xs : List A) → twice_in name xs ≡ [] → IsAscendingOf name xs (ascending_by name xs)
@@ -64,8 +48,7 @@ ordered_parts-ordered parts free = record {
 -- one list has the given members in ascending order
 pub ascending-once : {A : Type 0} (name : A → List ℕ) (given xs ys : List A) → IsAscendingOf name given xs → IsAscendingOf name given ys → xs ≡ ys
 ascending-once name given xs ys p q =
-    ascending-unique name xs ys (ascending-from-pairs name xs p.ascending) (ascending-from-pairs name ys q.ascending)
-    (same-from-permutation xs ys (IsPermutation-trans xs given ys (IsPermutation-sym given xs p.same) q.same))
+    ascending-permutation name xs ys p.ascending q.ascending (IsPermutation-trans xs given ys (IsPermutation-sym given xs p.same) q.same)
 
 list-once : (given x y : CodeList) → IsCodesOrdered given x → IsCodesOrdered given y → x ≡ y
 list-once given x y p q = λ i. record {

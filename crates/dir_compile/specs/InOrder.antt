@@ -2,7 +2,7 @@
 use Rattle.std.specs.Prelude.{ℕ, List, [], ◌∷◌, map, if◌then◌else◌}
 use Rattle.edi_tables.specs.declared.element.CodeList.{CodeList}
 use Rattle.dir_compile.specs.declared.parts.Parts.{Parts}
-use Rattle.dir_compile.specs.Ascending.{is_before}
+use Rattle.edi_tables.specs.Ascending.{is_before}
 use Rattle.dir_compile.specs.Compile.{element_name, list_name, composite_name, segment_name, message_name, value_name}
 
 -- an item put after those whose names come before its own

@@ -1,4 +1,3 @@
-pub mod Ascending
 pub mod Compile
 pub mod CompileKind
 pub mod Directory

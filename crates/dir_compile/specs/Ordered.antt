@@ -2,7 +2,7 @@
 use Rattle.std.specs.Prelude.{◌≡◌, ℕ, List, [], ◌∷◌, All, IsPermutation}
 use Rattle.edi_tables.specs.declared.element.CodeList.{CodeList}
 use Rattle.dir_compile.specs.declared.parts.Parts.{Parts}
-use Rattle.dir_compile.specs.Ascending.{IsAscendingBy}
+use Rattle.edi_tables.specs.Ascending.{IsAscendingBy}
 use Rattle.dir_compile.specs.Compile.{element_name, list_name, composite_name, segment_name, message_name, value_name}
 
 -- the same members, each as often, in strictly ascending octet order of their names

@@ -232,5 +232,8 @@ fn build_table(alloc: Global, rows: &[TableRow]) -> Result<Table, CompileStop>
     ensures ok { IfOk result (λ table. table ≡ nodes_of rows.now) }
     ensures err { IfErr result IsMemory }
 {
-    Table::build(alloc, rows).map_err(|_| CompileStop::Memory)
+    match Table::build(alloc, rows) {
+        Ok(table) => Ok(table),
+        Err(_) => Err(CompileStop::Memory),
+    }
 }

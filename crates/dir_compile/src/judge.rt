@@ -24,9 +24,7 @@ ghost use Rattle.dir_compile.specs.Compile.{
 use crate::names::Names;
 use crate::stop::fault;
 use crate::{CompileKind, CompileStop, Parts};
-use edi_tables::{
-    Code, ElementDef, ItemDef, MessageDef, PartDef, SegmentDef, Table, TableRow, TableStop,
-};
+use edi_tables::{Code, ElementDef, ItemDef, MessageDef, PartDef, SegmentDef, Table, TableRow};
 use service_tables::service_segment;
 use std::alloc::Global;
 
@@ -225,9 +223,8 @@ fn judge_message(
 fn judge_table(alloc: Global, name: &[u8], rows: &[TableRow]) -> Result<(), CompileStop>
     ensures { Judges result (when (is_filled_with (table_faults rows.now)) (fault_with CompileKind.BadTable name.now)) }
 {
-    match Table::build(alloc, rows) {
-        Ok(_) => Ok(()),
-        Err(TableStop::Fault { .. }) => Err(fault(alloc, CompileKind::BadTable, name)),
-        Err(TableStop::Memory) => Err(CompileStop::Memory),
+    match Table::first_fault(rows) {
+        None => Ok(()),
+        Some(_) => Err(fault(alloc, CompileKind::BadTable, name)),
     }
 }

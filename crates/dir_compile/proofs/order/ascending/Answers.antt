@@ -2,7 +2,7 @@ use Rattle.std.proofs.Common.{◌≡◌, ◌∙◌, rules, subst, IsPermutation}
 use Rattle.std.proofs.lemmas.Cmp.{nat_list_cmp_total}
 use Rattle.std.proofs.lemmas.List.Sorted.{ranks_by, answers_always}
 use Rattle.std.specs.Ordering.{is_lt}
-use Rattle.dir_compile.specs.Ascending.{is_before}
+use Rattle.edi_tables.specs.Ascending.{is_before}
 use Rattle.dir_compile.proofs.AscendingLemmas.{ascending_by-sorted}
 use Rattle.dir_compile.proofs.Apart.{apart-from-none}
 use Rattle.dir_compile.proofs.order.ascending.Goals as goal

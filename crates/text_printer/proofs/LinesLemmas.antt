@@ -4,6 +4,7 @@ use Rattle.std.proofs.lemmas.Bool.{ltb-true}
 use Rattle.std.proofs.lemmas.List.{append_assoc, append-nil, drop_all}
 use Rattle.std.proofs.lemmas.Option.{cond_some, slice_get_within, get_or_from_slice_get}
 use Rattle.std.specs.List.{slice_get}
+use Rattle.seg_lexer.specs.Stretch.{Stretch}
 use Rattle.seg_lexer.specs.declared.service.Service.{Service}
 use Rattle.seg_lexer.specs.Segments.{segments_of, tail_of}
 use Rattle.seg_lexer.specs.Service.{service_of}
@@ -17,15 +18,15 @@ drop_at xs k x is =
     rw (add-one, drop-cons xs k x) (ap (λ y. y ∷ drop (suc k) xs) (get_or_from_slice_get xs k x x is))
 
 -- after the lines of the first k segments come those of the next one
-pub lines_next : (detail : Detail) (service : Service) (text : List ℕ) (segments : List (ℕ × ℕ)) (k : ℕ) (p : ℕ × ℕ) (before after all : List ℕ) → slice_get segments k ≡ Some p → before ++ segments_from detail service text (k + 1) (drop k segments) ≡ all → after ≡ before ++ segment_lines detail service text (k + 1) p → after ++ segments_from detail service text (k + 1 + 1) (drop (k + 1) segments) ≡ all
+pub lines_next : (detail : Detail) (service : Service) (text : List ℕ) (segments : List Stretch) (k : ℕ) (p : Stretch) (before after all : List ℕ) → slice_get segments k ≡ Some p → before ++ segments_from detail service text (k + 1) (drop k segments) ≡ all → after ≡ before ++ segment_lines detail service text (k + 1) p → after ++ segments_from detail service text (k + 1 + 1) (drop (k + 1) segments) ≡ all
 lines_next detail service text segments k p before after all is so_far next =
-    rw next (append_assoc before (segment_lines detail service text (k + 1) p) (segments_from detail service text (k + 1 + 1) (drop (k + 1) segments)) ∙ sym (ap (λ (xs : List (ℕ × ℕ)). before ++ segments_from detail service text (k + 1) xs) (drop_at segments k p is)) ∙ so_far)
+    rw next (append_assoc before (segment_lines detail service text (k + 1) p) (segments_from detail service text (k + 1 + 1) (drop (k + 1) segments)) ∙ sym (ap (λ (xs : List Stretch). before ++ segments_from detail service text (k + 1) xs) (drop_at segments k p is)) ∙ so_far)
 
 -- after the last segment no lines come
-pub lines_last : (detail : Detail) (service : Service) (text : List ℕ) (segments : List (ℕ × ℕ)) (k : ℕ) (lines all : List ℕ) → length segments ≡ k → lines ++ segments_from detail service text (k + 1) (drop k segments) ≡ all → lines ≡ all
+pub lines_last : (detail : Detail) (service : Service) (text : List ℕ) (segments : List Stretch) (k : ℕ) (lines all : List ℕ) → length segments ≡ k → lines ++ segments_from detail service text (k + 1) (drop k segments) ≡ all → lines ≡ all
 lines_last detail service text segments k lines all is so_far =
     let none : drop k segments ≡ [] = drop_all k segments (omega arith) in
-    sym (append-nil lines) ∙ sym (ap (λ (xs : List (ℕ × ℕ)). lines ++ segments_from detail service text (k + 1) xs) none) ∙ so_far
+    sym (append-nil lines) ∙ sym (ap (λ (xs : List Stretch). lines ++ segments_from detail service text (k + 1) xs) none) ∙ so_far
 
 -- a tail begins inside the text
 pub tail_within : (service : Service) (text : List ℕ) (start : ℕ) → tail_of service text ≡ Some start → start < length text

@@ -1,12 +1,13 @@
 -- The printed forms of a text's segments and values.
-use Rattle.std.specs.Prelude.{ℕ, ◌+◌, ◌-◌, ◌/◌, ◌%◌, Bool, false, not, ◌&&◌, ◌==◌, nat_le, List, [], ◌∷◌, ◌++◌, length, slice_range, Option, Some, None, codes, decimal, if◌then◌else◌}
+use Rattle.std.specs.Prelude.{ℕ, ◌+◌, ◌-◌, ◌/◌, ◌%◌, Bool, false, not, ◌&&◌, ◌==◌, nat_le, List, [], ◌∷◌, ◌++◌, length, Option, Some, None, codes, decimal, if◌then◌else◌}
 use Rattle.std.specs.List.{flat_map}
 use Rattle.std.specs.Fmt.{digit_glyph}
 use Rattle.edi_octets.specs.Lines.{is_filled}
 use Rattle.seg_lexer.specs.declared.service.Service.{Service}
 use Rattle.seg_lexer.specs.Service.{service_of}
 use Rattle.seg_lexer.specs.Segments.{segments_of, tail_of}
-use Rattle.seg_lexer.specs.Fields.{Entry, entries_of}
+use Rattle.seg_lexer.specs.Fields.{Component, components_of, separators_of}
+use Rattle.seg_lexer.specs.Stretch.{Stretch, octets_in}
 use Rattle.seg_lexer.specs.Tag.{tag_of}
 use Rattle.text_printer.specs.declared.text.Detail.{Detail}
 use Rattle.text_printer.specs.declared.text.Detail.TheVariants.{Segments, Values}
@@ -22,46 +23,46 @@ octet_shown x =
     if nat_le 32 x && nat_le x 126 && not (x == 92) then x ∷ [] else 92 ∷ digit_glyph false (x / 16) ∷ digit_glyph false (x % 16) ∷ []
 
 -- the line of a component: two spaces, its element, its number and its value
-unfoldable pub value_line : Entry → List ℕ
+unfoldable pub value_line : Component → List ℕ
 value_line e =
     codes "  " ++ decimal e.element ++ codes " " ++ decimal e.component ++ codes " " ++ flat_map octet_shown e.octets ++ 10 ∷ []
 
 -- components that are printed: those that aren't empty, the tag field left out
-abbrev pub is_printed : Entry → Bool
+abbrev pub is_printed : Component → Bool
 is_printed e = not (e.element == 0) && is_filled e.octets
 
 -- the line of a component, if it is printed
-abbrev pub part_line : Entry → List ℕ
-part_line e = if is_printed e then value_line e else []
+abbrev pub component_line : Component → List ℕ
+component_line e = if is_printed e then value_line e else []
 
 -- the lines of a segment's values
-unfoldable pub value_lines : List Entry → List ℕ
-value_lines entries = flat_map part_line entries
+unfoldable pub value_lines : List Component → List ℕ
+value_lines components = flat_map component_line components
 
 -- all that a segment says
-abbrev pub segment_entries : Service → List ℕ → ℕ × ℕ → List Entry
-segment_entries service text p = entries_of service.release service.element service.component (slice_range text p.0 p.1)
+abbrev pub segment_components : Service → List ℕ → Stretch → List Component
+segment_components service text p = components_of (separators_of service) (octets_in text p)
 
 -- the first part of the line of segment k: its number, its first octet, its terminator's place
-abbrev pub places_shown : ℕ → ℕ × ℕ → List ℕ
-places_shown k p = decimal k ++ codes " " ++ decimal p.0 ++ codes " " ++ decimal p.1 ++ codes " "
+abbrev pub places_shown : ℕ → Stretch → List ℕ
+places_shown k p = decimal k ++ codes " " ++ decimal p.from ++ codes " " ++ decimal p.to ++ codes " "
 
 -- the last part: its tag
 abbrev pub tag_end : Option (List ℕ) → List ℕ
 tag_end tag = tag_shown tag ++ 10 ∷ []
 
 -- the line of segment k
-abbrev pub segment_line : ℕ → ℕ × ℕ → Option (List ℕ) → List ℕ
+abbrev pub segment_line : ℕ → Stretch → Option (List ℕ) → List ℕ
 segment_line k p tag = places_shown k p ++ tag_end tag
 
 -- what is printed of segment k: its line, and with `values` its values
-unfoldable pub segment_lines : Detail → Service → List ℕ → ℕ → ℕ × ℕ → List ℕ
-segment_lines Segments service text k p = segment_line k p (tag_of (segment_entries service text p))
+unfoldable pub segment_lines : Detail → Service → List ℕ → ℕ → Stretch → List ℕ
+segment_lines Segments service text k p = segment_line k p (tag_of (segment_components service text p))
 segment_lines Values service text k p =
-    segment_line k p (tag_of (segment_entries service text p)) ++ value_lines (segment_entries service text p)
+    segment_line k p (tag_of (segment_components service text p)) ++ value_lines (segment_components service text p)
 
 -- what is printed of segments, numbered from k
-abbrev pub segments_from : Detail → Service → List ℕ → ℕ → List (ℕ × ℕ) → List ℕ
+abbrev pub segments_from : Detail → Service → List ℕ → ℕ → List Stretch → List ℕ
 segments_from detail service text k [] = []
 segments_from detail service text k (p ∷ ps) = segment_lines detail service text k p ++ segments_from detail service text (k + 1) ps
 

@@ -4,7 +4,7 @@ use Rattle.std.specs.List.{list_all}
 use Rattle.std.specs.Option.{option_map}
 use Rattle.edi_tables.specs.Tag.{is_tag_of}
 use Rattle.edi_tables.specs.declared.tag.Tag.{Tag}
-use Rattle.seg_lexer.specs.Fields.{Entry}
+use Rattle.seg_lexer.specs.Fields.{Component}
 use Rattle.seg_lexer.specs.Tag.{tag_field, tag_of}
 use Rattle.text_printer.specs.Printing.{tag_end, value_lines}
 use Rattle.text_printer.specs.declared.tag_field.TagField.{TagField}
@@ -30,11 +30,11 @@ pending (Read tag) = tag_end (octets_in tag)
 pending Put = []
 
 -- the tag, where these components come after what is known
-unfoldable pub tag_left : TagField → List Entry → List ℕ
-tag_left Unread entries = tag_end (tag_of entries)
-tag_left (Read tag) entries = tag_end (if list_all (λ octets. length octets == 0) (tag_field entries) then octets_in tag else None)
-tag_left Put entries = []
+unfoldable pub tag_left : TagField → List Component → List ℕ
+tag_left Unread components = tag_end (tag_of components)
+tag_left (Read tag) components = tag_end (if list_all (λ octets. length octets == 0) (tag_field components) then octets_in tag else None)
+tag_left Put components = []
 
 -- what is left to be put: the tag, and the lines of these components
-abbrev pub left_of : TagField → List Entry → List ℕ
-left_of state entries = tag_left state entries ++ value_lines entries
+abbrev pub left_of : TagField → List Component → List ℕ
+left_of state components = tag_left state components ++ value_lines components

@@ -1,7 +1,7 @@
 //! The printed forms of a text.
 ghost use Rattle.std.specs.Prelude.{◌≡◌, ◌+◌, ◌++◌, ◌<◌, ◌≤◌, length, IfOk, OnOk};
 ghost use Rattle.seg_lexer.specs.Segments.{segments_of, tail_of};
-ghost use Rattle.seg_lexer.specs.Service.{service_of};
+ghost use Rattle.seg_lexer.specs.Service.{IsUsable, service_of};
 ghost use Rattle.text_printer.specs.Printing.{printed_text, segments_from, segment_lines, count_line, tail_line};
 
 use crate::segment_line::{put_places, put_tag};
@@ -111,11 +111,11 @@ fn put_segment(
     start: usize,
     end: usize,
 ) -> Result<(), AllocError>
-    requires service { service.now ≡ service_of text.now.octets.now }
+    requires usable { IsUsable service.now text.now.octets.now }
     requires ordered { start ≤ end }
     requires within { end ≤ length text.now.octets.now }
     requires short { length text.now.octets.now ≤ 4194304 }
-    ensures { OnOk result (lines.new ≡ lines.old ++ segment_lines detail service.now text.now.octets.now number (start, end)) }
+    ensures { OnOk result (lines.new ≡ lines.old ++ segment_lines detail service.now text.now.octets.now number (record { from = start; to = end })) }
 {
     put_places(lines, number, start, end)?;
     match detail {

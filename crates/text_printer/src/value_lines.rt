@@ -2,10 +2,10 @@
 ghost use Rattle.std.specs.Prelude.{◌≡◌, ◌++◌, ◌<◌, OnOk, false};
 ghost use Rattle.std.specs.List.{flat_map};
 ghost use Rattle.std.specs.Fmt.{digit_glyph};
-ghost use Rattle.seg_lexer.specs.Fields.{IsInOrder, entry};
-ghost use Rattle.seg_lexer.specs.Parts.{entries_left, field_in};
+ghost use Rattle.seg_lexer.specs.Fields.{IsInOrder, unplaced};
+ghost use Rattle.seg_lexer.specs.Left.{components_left, placed_in};
 ghost use Rattle.seg_lexer.specs.Value.{octets_of};
-ghost use Rattle.text_printer.specs.Printing.{value_line, part_line, octet_shown};
+ghost use Rattle.text_printer.specs.Printing.{value_line, component_line, octet_shown};
 ghost use Rattle.text_printer.specs.TagField.{left_of, pending};
 ghost use Rattle.text_printer.specs.declared.tag_field.TagField.TheVariants.{Unread};
 
@@ -13,25 +13,25 @@ use crate::segment_line::put_tag;
 use crate::tag_field::TagField;
 use edi_octets::{Octets, put_decimal};
 use edi_tables::Chunk;
-use seg_lexer::{Fields, Part, Value};
+use seg_lexer::{Component, Fields, Value};
 use std::alloc::AllocError;
 
 /// The last part of a segment's line, which is its tag, and the lines of its values. Each component is lexed once.
 pub fn put_tag_and_values<O: Octets>(
     lines: &mut Chunk,
-    parts: Fields<'_, O>,
+    components: Fields<'_, O>,
 ) -> Result<(), AllocError>
-    requires { IsInOrder 0 (entries_left parts) }
-    ensures { OnOk result (lines.new ≡ lines.old ++ left_of Unread (entries_left parts.entry)) }
+    requires { IsInOrder 0 (components_left components) }
+    ensures { OnOk result (lines.new ≡ lines.old ++ left_of Unread (components_left components.entry)) }
 {
     let mut tag_field = TagField::Unread;
-    for part in parts {
-        if part.element == 0 {
-            tag_field = tag_field.after(&part.value);
+    for component in components {
+        if component.element == 0 {
+            tag_field = tag_field.after(&component.value);
         } else {
             put_read_tag(lines, tag_field)?;
             tag_field = TagField::Put;
-            put_part(lines, &part)?;
+            put_component(lines, &component)?;
         }
     }
     put_read_tag(lines, tag_field)
@@ -49,26 +49,29 @@ fn put_read_tag(lines: &mut Chunk, tag_field: TagField) -> Result<(), AllocError
 }
 
 // The line of a component after the tag field, if it is printed.
-fn put_part<O: Octets>(lines: &mut Chunk, part: &Part<'_, O>) -> Result<(), AllocError>
-    requires { 0 < part.now.element }
-    ensures { OnOk result (lines.new ≡ lines.old ++ part_line (entry (field_in part.now))) }
+fn put_component<O: Octets>(
+    lines: &mut Chunk,
+    component: &Component<'_, O>,
+) -> Result<(), AllocError>
+    requires { 0 < component.now.element }
+    ensures { OnOk result (lines.new ≡ lines.old ++ component_line (unplaced (placed_in component.now))) }
 {
-    if part.value.is_empty() {
+    if component.value.is_empty() {
         return Ok(());
     }
-    put_value(lines, part)
+    put_value(lines, component)
 }
 
 #[tactic(auto, unfolding(crate::specs::Printing::value_line))]
-fn put_value<O: Octets>(lines: &mut Chunk, part: &Part<'_, O>) -> Result<(), AllocError>
-    ensures { OnOk result (lines.new ≡ lines.old ++ value_line (entry (field_in part.now))) }
+fn put_value<O: Octets>(lines: &mut Chunk, component: &Component<'_, O>) -> Result<(), AllocError>
+    ensures { OnOk result (lines.new ≡ lines.old ++ value_line (unplaced (placed_in component.now))) }
 {
     lines.add(b"  ")?;
-    put_decimal(lines, u64::from(part.element))?;
+    put_decimal(lines, u64::from(component.element))?;
     lines.add(b" ")?;
-    put_decimal(lines, u64::from(part.component))?;
+    put_decimal(lines, u64::from(component.component))?;
     lines.add(b" ")?;
-    put_octets(lines, &part.value)?;
+    put_octets(lines, &component.value)?;
     lines.add(b"\n")
 }
 

@@ -5,7 +5,7 @@ use Rattle.text_printer.proofs.text.list_segments.Goals as goal
 
 pub loop-start-init : goal.loop-start-init
 unfolding boundaries_of
-loop-start-init g c = record { service = c.read_service-service.ensures; boundary = refl; few = omega arith; lines = rw c.empty-lines.ensures refl }
+loop-start-init g c = record { service = c.read_service-service.ensures.service; usable = c.read_service-service.ensures.usable; boundary = refl; few = omega arith; lines = rw c.empty-lines.ensures refl }
 
 pub loop-start-preserved : goal.loop-start-preserved
 loop-start-preserved g c =
@@ -15,6 +15,7 @@ loop-start-preserved g c =
     let few = c.loop-start.invariant.few in
     record {
       service = c.loop-start.invariant.service;
+      usable = c.loop-start.invariant.usable;
       boundary = lexed.1;
       few = omega arith;
       lines = lines_next _ _ _ _ _ _ _ _ _ lexed.0 c.loop-start.invariant.lines c.in_ok-put_segment-in-Ended.ensures;

@@ -6,13 +6,13 @@ use Rattle.std.proofs.lemmas.Bool.{cond_both, false_from_ne_true, cases_Bool, co
 use Rattle.memchr.specs.Find.{IsFirst, Nowhere}
 use Rattle.seg_lexer.specs.Fields.{places_that}
 
--- place `from` is the range's start, or stands behind a place of it that passes
+-- place `from` is the range's start, or the place after one of it that passes
 pub record IsStart (p : ℕ → Bool) (a n from : ℕ) : Type 0 where
   pub low : a ≤ from
   pub high : from ≤ a + n
-  pub behind : (from ≡ a) ⊎ ((e : ℕ) × (p e ≡ true) × (a ≤ e) × (e + 1 ≡ from))
+  pub after : (from ≡ a) ⊎ ((e : ℕ) × (p e ≡ true) × (a ≤ e) × (e + 1 ≡ from))
 
--- where a stretch may begin: the range's start, and the place behind each place that passes
+-- where a stretch may begin: the range's start, and the place after each one that passes
 abbrev pub starts_of : (ℕ → Bool) → ℕ → ℕ → List ℕ
 starts_of p a n = a ∷ map (λ e. e + 1) (filter p (range_with_len a n))
 
@@ -46,7 +46,7 @@ from_map (x ∷ xs) (suc k) from h = from_map xs k from h
 
 -- what a start is
 pub start-at : (p : ℕ → Bool) (a n k from : ℕ) → slice_get (starts_of p a n) k ≡ Some from → IsStart p a n from
-start-at p a n zero from h = let same : a ≡ from = cc in record { low = omega arith; high = omega arith; behind = inl (sym same) }
+start-at p a n zero from h = let same : a ≡ from = cc in record { low = omega arith; high = omega arith; after = inl (sym same) }
 start-at p a n (suc k) from h =
     let found = from_map (filter p (range_with_len a n)) k from h in
     let e = found.0 in
@@ -54,9 +54,9 @@ start-at p a n (suc k) from h =
     let at = filtered-at p a n k e found.1 in
     let low = at.1 in
     let high = at.2 in
-    record { low = omega arith; high = omega arith; behind = inr (e, at.0, at.1, next) }
+    record { low = omega arith; high = omega arith; after = inr (e, at.0, at.1, next) }
 
--- a search that ends behind the range's start goes on from the next place
+-- a search that ends after the range's start goes on from the next place
 later-first : (p : ℕ → Bool) (a n : ℕ) (r : Option ℕ) → p a ≡ false → IsFirst (λ i. p i ≡ true) a (a + suc n) r → IsFirst (λ i. p i ≡ true) (a + 1) (a + 1 + n) r
 later-first p a n None fails h = λ k low high. h k (omega arith) (omega arith)
 later-first p a n (Some j) fails h =
@@ -128,7 +128,7 @@ pub record IsMoved (f g : ℕ → ℕ) (p q : ℕ → Bool) (a j n : ℕ) : Type
   pub value : (i : ℕ) → j ≤ i → i < j + n → f i ≡ g (a + i)
   pub test : (i : ℕ) → j ≤ i → i < j + n → p i ≡ q (a + i)
 
--- the same values stand at the places that pass, once these are moved
+-- the same values are at the places that pass, once these are moved
 pub map-filter-moved : (f g : ℕ → ℕ) (p q : ℕ → Bool) (a j n : ℕ) → IsMoved f g p q a j n → map f (filter p (range_with_len j n)) ≡ map g (filter q (range_with_len (a + j) n))
 map-filter-moved f g p q a j zero moved = refl
 map-filter-moved f g p q a j (suc n) moved =

@@ -44,7 +44,7 @@ module _ (release : Option ℕ) (xs : List ℕ) (a : ℕ) where
       ap (λ (n : ℕ). eqb (n % 2) 1) (run_before-more i low high)
       ∙ odd-cond (is_release release (get_or xs i 0)) (run_before release xs a i)
 
--- what stands before an unreleased place doesn't matter behind it
+-- what comes before an unreleased place doesn't matter after it
 pub is_released-from : (release : Option ℕ) (xs : List ℕ) (a b n : ℕ) → a ≤ b → b + n ≤ length xs → is_released release xs a b ≡ false → is_released release xs a (b + n) ≡ is_released release xs b (b + n)
 is_released-from release xs a b zero low high free = rw add-zero (free ∙ sym (is_released-start release xs b))
 is_released-from release xs a b (suc n) low high free =

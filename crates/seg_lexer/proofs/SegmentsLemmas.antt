@@ -96,11 +96,11 @@ module _ (s : Service) (text : List ℕ) (usable : IsUsable s text) where
         high = omega arith;
         free = ⊎_elim
             (λ same. ap (is_released s.release text s.body) same ∙ is_released-start s.release text s.body)
-            (λ behind.
-            let e = behind.0 in
-            let next : e + 1 ≡ from = behind.3 in
-            sym (ap (is_released s.release text s.body) next) ∙ after-end e behind.1 behind.2 (omega arith))
-            start.behind;
+            (λ found.
+            let e = found.0 in
+            let next : e + 1 ≡ from = found.3 in
+            sym (ap (is_released s.release text s.body) next) ∙ after-end e found.1 found.2 (omega arith))
+            start.after;
       }
 
   -- from a boundary on, an octet that isn't released by octets from there on isn't released by any of the body
@@ -133,15 +133,16 @@ module _ (s : Service) (text : List ℕ) (usable : IsUsable s text) where
       let high = first.0.high in
       let within = lead-within text from end low (omega arith) in
       let pair : slice_get (zip (boundaries_of s text) (ends_of s text)) k ≡ Some (from, end) = slice_get-zip (boundaries_of s text) (ends_of s text) k from end h ends in
-      let place : k + 1 ≡ suc k = omega arith in (
-        slice_get-map (segment_in text) (zip (boundaries_of s text) (ends_of s text)) k
-            ∙ ap (option_map (segment_in text)) pair,
-        ap (slice_get (boundaries_of s text)) place
-            ∙ (slice_get-map (λ (e : ℕ). e + 1) (ends_of s text) k ∙ ap (option_map (λ (e : ℕ). e + 1)) ends),
-        within.low,
-        within.high,
-        high,
-      )
+      let place : k + 1 ≡ suc k = omega arith in
+      record {
+        segment = slice_get-map (segment_in text) (zip (boundaries_of s text) (ends_of s text)) k
+            ∙ ap (option_map (segment_in text)) pair;
+        next = ap (slice_get (boundaries_of s text)) place
+            ∙ (slice_get-map (λ (e : ℕ). e + 1) (ends_of s text) k ∙ ap (option_map (λ (e : ℕ). e + 1)) ends);
+        low = within.low;
+        ordered = within.high;
+        within = high;
+      }
 
   -- after the last end comes the tail, or nothing
   pub past-at : (k from : ℕ) → slice_get (boundaries_of s text) k ≡ Some from → IsFirst (IsFree s.release (One s.terminator) text from) from (length text) None

@@ -56,7 +56,7 @@ module _ (s : Service) (text : List ℕ) where
   boundary-cases b body boundary =
       let start : IsStart (is_end s text) s.body (length text - s.body) b = start-at (is_end s text) s.body (length text - s.body) boundary.0 b boundary.1 in
       let high = start.high in
-      ⊎_elim (λ same. inl same) (λ behind. let next : behind.0 + 1 ≡ b = behind.3 in inr (behind.0, record { ends = behind.1; low = behind.2; within = omega arith; next = next })) start.behind
+      ⊎_elim (λ same. inl same) (λ found. let next : found.0 + 1 ≡ b = found.3 in inr (found.0, record { ends = found.1; low = found.2; within = omega arith; next = next })) start.after
 
   pub boundary-start : (b : ℕ) → b ≡ s.body → IsBoundary s text b
   boundary-start b same = subst (IsBoundary s text) (sym same) (0, boundary-zero s text)

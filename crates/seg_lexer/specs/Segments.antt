@@ -49,10 +49,16 @@ tail_of s text =
 abbrev pub IsBoundary : Service → List ℕ → ℕ → Type 0
 IsBoundary s text from = (k : ℕ) × (slice_get (boundaries_of s text) k ≡ Some from)
 
--- what is found at boundary k, which is the place `from`: segment k and then boundary k + 1; or, after the last segment, the tail or nothing
+-- segment k is start..end, it begins at or after place `from`, and boundary k + 1 is the place after its end
+pub record IsSegment (s : Service) (text : List ℕ) (k from start end : ℕ) : Type 0 where
+  pub segment : slice_get (segments_of s text) k ≡ Some (record { from = start; to = end })
+  pub next : slice_get (boundaries_of s text) (k + 1) ≡ Some (end + 1)
+  pub low : from ≤ start
+  pub ordered : start ≤ end
+  pub within : end < length text
+
+-- what is found at boundary k, which is the place `from`: segment k; or, after the last segment, the tail or nothing
 abbrev pub IsLexed : Service → List ℕ → ℕ → ℕ → Lexed → Type 0
-IsLexed s text k from (Ended start end) =
-    (slice_get (segments_of s text) k ≡ Some (record { from = start; to = end })) × (slice_get (boundaries_of s text) (k + 1) ≡ Some (end + 1))
-    × (from ≤ start) × (start ≤ end) × (end < length text)
+IsLexed s text k from (Ended start end) = IsSegment s text k from start end
 IsLexed s text k from (Tail start) = (length (segments_of s text) ≡ k) × (tail_of s text ≡ Some start)
 IsLexed s text k from Nothing = (length (segments_of s text) ≡ k) × (tail_of s text ≡ None)

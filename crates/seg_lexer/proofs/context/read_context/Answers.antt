@@ -7,14 +7,14 @@ pub next_segment-requires-clause-boundary : goal.next_segment-requires-clause-bo
 next_segment-requires-clause-boundary g c = first-boundary _ _
 
 pub opening_context-requires-clause-ordered : goal.opening_context-requires-clause-ordered
-opening_context-requires-clause-ordered g c = (c.in-Ended.ensures.lexed 0 (boundary-zero _ _)).3
+opening_context-requires-clause-ordered g c = (c.in-Ended.ensures.lexed 0 (boundary-zero _ _)).ordered
 
 pub opening_context-requires-clause-within : goal.opening_context-requires-clause-within
-opening_context-requires-clause-within g c = let below = (c.in-Ended.ensures.lexed 0 (boundary-zero _ _)).4 in omega arith
+opening_context-requires-clause-within g c = let below = (c.in-Ended.ensures.lexed 0 (boundary-zero _ _)).within in omega arith
 
 pub returns-in-Ended-clause-context : goal.returns-in-Ended-clause-context
 returns-in-Ended-clause-context g c =
-    c.opening_context.ensures ∙ sym (context-ended _ _ c.read_service-service.ensures.service _ _ (c.in-Ended.ensures.lexed 0 (boundary-zero _ _)).0)
+    c.opening_context.ensures ∙ sym (context-ended _ _ c.read_service-service.ensures.service _ _ (c.in-Ended.ensures.lexed 0 (boundary-zero _ _)).segment)
 
 pub returns-in-Tail : goal.returns-in-Tail
 returns-in-Tail g c = record {

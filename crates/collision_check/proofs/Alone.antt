@@ -8,10 +8,10 @@ use Rattle.std.proofs.lemmas.Slice.Eq.{bytes_eq-Decides}
 use Rattle.edi_tables.specs.declared.tag.Tag.{Tag}
 use Rattle.edi_tables.specs.declared.table.Node.{Node}
 use Rattle.edi_tables.specs.Walk.{tag_at, is_group_at}
-use Rattle.edi_tables.specs.Collisions.{are_same_tag, have_same_tag, followers_of, collisions_behind, collisions_of}
-use Rattle.collision_check.specs.Shared.{pair_with, pair_at, pairs_of}
+use Rattle.edi_tables.specs.Collisions.{are_same_tag, have_same_tag, followers_of, pair_with, pair_at, shared_pairs, collisions_behind, collisions_of}
 use Rattle.collision_check.specs.Listed.{collisions_at}
-use Rattle.collision_check.proofs.Pairs.{has_octets, same_tag_is}
+use Rattle.collision_check.specs.Marks.{has_octets}
+use Rattle.collision_check.proofs.Pairs.{same_tag_is}
 use Rattle.collision_check.proofs.Made.{of_pair, behind_by_pairs}
 
 -- a place that passes, and none before it does
@@ -79,15 +79,15 @@ differs : {A : Type 0} (x : A) → (x ∷ []) ≡ [] → ⊥
 differs x same = cc
 
 module _ (nodes : List Node) (none : collisions_of nodes ≡ []) (f : ℕ) (within : f < length nodes) (entry : is_group_at nodes f ≡ false) where
-  no_pairs : pairs_of nodes (followers_of nodes f) ≡ []
+  no_pairs : shared_pairs nodes (followers_of nodes f) ≡ []
   unfolding collisions_of
   no_pairs =
-      map_none (of_pair nodes f) (pairs_of nodes (followers_of nodes f))
+      map_none (of_pair nodes f) (shared_pairs nodes (followers_of nodes f))
       (sym (behind_by_pairs nodes f) ∙ sym (ap (λ b. if b then [] else collisions_behind nodes f) entry)
       ∙ flat_none (collisions_at nodes) (length nodes) 0 f none (omega arith) (omega arith))
 
   no_pair : (j : ℕ) → j < length (followers_of nodes f) → pair_at nodes (followers_of nodes f) j ≡ []
-  unfolding pairs_of
+  unfolding shared_pairs
   no_pair j below = flat_none (pair_at nodes (followers_of nodes f)) (length (followers_of nodes f)) 0 j no_pairs (omega arith) (omega arith)
 
   -- no two followers have the same tag

@@ -10,8 +10,7 @@ use Rattle.edi_tables.specs.declared.table.Node.{Node}
 use Rattle.edi_tables.specs.Rows.{IsTable}
 use Rattle.edi_tables.specs.Walk.{tag_at, is_group_at, candidates_of}
 use Rattle.edi_tables.specs.Placement.{IsPlacement}
-use Rattle.edi_tables.specs.Collisions.{front_of, is_follower, followers_of, have_same_tag, collisions_behind, collisions_of}
-use Rattle.collision_check.specs.Shared.{pair_with, pair_at, pairs_of}
+use Rattle.edi_tables.specs.Collisions.{front_of, is_follower, followers_of, have_same_tag, pair_with, pair_at, shared_pairs, collisions_behind, collisions_of}
 use Rattle.collision_check.specs.Listed.{collisions_at, IsAmbiguous}
 use Rattle.collision_check.proofs.Made.{of_pair, behind_by_pairs}
 use Rattle.edi_tables.proofs.Distinct.{apart_take, followers_apart}
@@ -77,8 +76,8 @@ module _ (nodes : List Node) (table : IsTable nodes) where
         ))
 
     -- all pairs are such
-    pairs_are : All IsPair (pairs_of nodes (followers_of nodes f))
-    unfolding pairs_of
+    pairs_are : All IsPair (shared_pairs nodes (followers_of nodes f))
+    unfolding shared_pairs
     pairs_are =
         let count : ℕ = length (followers_of nodes f) in
         flat_all IsPair (pair_at nodes (followers_of nodes f)) count 0 count (omega arith) (λ j low high. pair_here j high)
@@ -111,7 +110,7 @@ module _ (nodes : List Node) (table : IsTable nodes) where
     -- the collisions behind f
     behind_ambiguous : All (IsAmbiguous nodes) (collisions_behind nodes f)
     behind_ambiguous =
-        let pairs : List (ℕ × ℕ) = pairs_of nodes (followers_of nodes f) in
+        let pairs : List (ℕ × ℕ) = shared_pairs nodes (followers_of nodes f) in
         All-same (IsAmbiguous nodes) (collisions_behind nodes f) (map (of_pair nodes f) pairs) (behind_by_pairs nodes f)
         (All-map (IsAmbiguous nodes) (of_pair nodes f) pairs (All-weaker IsPair (λ pair. IsAmbiguous nodes (of_pair nodes f pair)) pair_ambiguous pairs pairs_are))
 

@@ -1,4 +1,3 @@
-pub mod Following
 pub mod Pairs
 pub mod Made
 pub mod Alone
@@ -7,3 +6,5 @@ pub mod TwoDates
 pub mod Fronts
 pub mod Placed
 pub mod Ambiguous
+pub mod Marking
+pub mod Meeting

@@ -11,15 +11,17 @@ use Rattle.std.proofs.lemmas.Slice.Eq.{bytes_eq-Decides}
 use Rattle.edi_tables.specs.declared.tag.Tag.{Tag}
 use Rattle.edi_tables.specs.declared.table.Node.{Node}
 use Rattle.edi_tables.specs.Walk.{tag_at}
-use Rattle.edi_tables.specs.Collisions.{are_same_tag}
-use Rattle.collision_check.specs.declared.shared.Met.{Met}
-use Rattle.collision_check.specs.declared.shared.Met.TheVariants.{Once, Twice}
-use Rattle.collision_check.specs.Shared.{pair_with, pair_at, met_next, met_once, Meets}
+use Rattle.edi_tables.specs.Collisions.{are_same_tag, pair_with, pair_at}
+use Rattle.collision_check.specs.declared.marks.Met.{Met}
+use Rattle.collision_check.specs.declared.marks.Met.TheVariants.{Once, Twice}
+use Rattle.collision_check.specs.Marks.{has_octets, met_next, met_once}
 
--- a tag with these octets
-abbrev pub has_octets : List ℕ → Option Tag → Bool
-has_octets octets None = false
-has_octets octets (Some tag) = bytes_eq octets tag.octets
+-- a follower with this tag is met: what is known of its tag changes, and of no other
+abbrev pub Meets : Option Tag → ℕ → (List ℕ → Option Met) → (List ℕ → Option Met) → Option ℕ → Type 0
+Meets None follower old new first = (first ≡ None) × ((octets : List ℕ) → new octets ≡ old octets)
+Meets (Some tag) follower old new first =
+    (first ≡ met_once (old tag.octets))
+    × ((octets : List ℕ) → new octets ≡ cond (bytes_eq tag.octets octets) (Some (met_next (old tag.octets) follower)) (old octets))
 
 -- what is known of a tag where these are the followers with it
 abbrev pub met_of : List ℕ → Option Met
@@ -58,7 +60,7 @@ next_of_met [] follower = refl
 next_of_met (first ∷ []) follower = refl
 next_of_met (first ∷ next ∷ more) follower = refl
 
-bytes_swap : (a b : List ℕ) → bytes_eq a b ≡ bytes_eq b a
+pub bytes_swap : (a b : List ℕ) → bytes_eq a b ≡ bytes_eq b a
 bytes_swap a b = elim (cases_Bool (bytes_eq b a)) [
   | inl same ↦ (bytes_eq-Decides a b).1 (sym ((bytes_eq-Decides b a).0 same)) ∙ sym same
   | inr differ ↦ false_from_ne_true (bytes_eq a b) (λ same. absurd (false≢true (sym differ ∙ (bytes_eq-Decides b a).1 (sym ((bytes_eq-Decides a b).0 same))))) ∙ sym differ
@@ -127,7 +129,7 @@ range_suc a (suc n) =
     let same : (a + 1) + n ≡ a + suc n = omega arith in
     ap (λ rest. a ∷ rest) (range_suc (a + 1) n ∙ ap (λ k. range_with_len (a + 1) n ++ k ∷ []) same)
 
-range_push : (a n : ℕ) → range_with_len a (n + 1) ≡ range_with_len a n ++ (a + n) ∷ []
+pub range_push : (a n : ℕ) → range_with_len a (n + 1) ≡ range_with_len a n ++ (a + n) ∷ []
 range_push a n = let more : n + 1 ≡ suc n = omega arith in ap (range_with_len a) more ∙ range_suc a n
 
 -- what is made of places one by one

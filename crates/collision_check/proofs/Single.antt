@@ -9,7 +9,7 @@ use Rattle.edi_tables.specs.Rows.{IsTable}
 use Rattle.edi_tables.specs.Walk.{tag_at, is_group_at}
 use Rattle.edi_tables.specs.Placement.{IsPlacement}
 use Rattle.edi_tables.specs.Collisions.{followers_of, collisions_of}
-use Rattle.collision_check.proofs.Pairs.{has_octets}
+use Rattle.collision_check.specs.Marks.{has_octets}
 use Rattle.collision_check.proofs.Alone.{tags_differ}
 use Rattle.edi_tables.proofs.Placements.{blank, first_entry, in_followers, tag_known, entry_is}
 

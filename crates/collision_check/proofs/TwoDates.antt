@@ -4,7 +4,7 @@ use Rattle.std.specs.Prelude.{codes}
 use Rattle.edi_tables.specs.declared.tag.Tag.{Tag}
 use Rattle.edi_tables.specs.declared.table.Node.{Node}
 use Rattle.edi_tables.specs.Walk.{later_siblings, groups_round, candidates_of, later_nodes, missing_between}
-use Rattle.edi_tables.specs.Collisions.{Collision, followers_of, front_of, collisions_of}
+use Rattle.edi_tables.specs.Collisions.{shared_pairs, Collision, followers_of, front_of, collisions_of}
 
 abbrev tag : List ℕ → Tag
 tag name = record { octets = name }
@@ -29,5 +29,5 @@ collision tags first second = record { tags = tags; first = first; second = seco
 collisions_of_two_dates : collisions_of two_dates
     ≡ collision (tag (codes "UNH") ∷ tag (codes "BGM") ∷ tag (codes "DTM") ∷ []) (0 ∷ 1 ∷ 2 ∷ []) (0 ∷ 1 ∷ 4 ∷ [])
     ∷ collision (tag (codes "UNH") ∷ tag (codes "BGM") ∷ tag (codes "DTM") ∷ tag (codes "DTM") ∷ []) (0 ∷ 1 ∷ 2 ∷ 2 ∷ []) (0 ∷ 1 ∷ 2 ∷ 4 ∷ []) ∷ []
-unfolding two_dates collisions_of followers_of front_of candidates_of later_siblings groups_round missing_between later_nodes
+unfolding two_dates collisions_of shared_pairs followers_of front_of candidates_of later_siblings groups_round missing_between later_nodes
 collisions_of_two_dates = refl

@@ -3,9 +3,9 @@
 
 mod follow;
 mod front;
-mod levels;
 mod list;
-mod shared;
+mod marks;
+mod numbers;
 
 pub use list::{Collision, list_collisions};
 

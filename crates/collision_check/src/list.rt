@@ -1,15 +1,17 @@
 //! The collisions of a segment table.
-ghost use Rattle.std.specs.Prelude.{◌≡◌, ℕ, List, ◌<◌, ◌≤◌, ◌∷◌, [], ◌++◌, All, map, length, IfOk};
-ghost use Rattle.std.specs.List.{filter_map};
-ghost use Rattle.edi_tables.specs.Rows.{IsTable};
+ghost use Rattle.std.specs.Prelude.{◌≡◌, ℕ, List, ◌<◌, ◌+◌, ◌∷◌, [], None, ◌++◌, All, map, length, IfOk};
+ghost use Rattle.std.specs.List.{filter_map, range_with_len};
 ghost use Rattle.edi_tables.specs.Walk.{tag_at};
 ghost use Rattle.edi_tables.specs.Collisions.{collisions_of};
 ghost use Rattle.edi_tables.specs.Placement.{IsPlacement};
 ghost use Rattle.edi_tables.specs.declared.tag.Tag.{Tag};
 ghost use Rattle.collision_check.specs.Listed.{IsAmbiguous, collision_seen, collisions_at, with_followers};
+ghost use Rattle.collision_check.specs.Marks.{IsFresh, numbers_of};
 
-use crate::{follow, front, levels, shared};
-use edi_tables::{List, Node, Table, Tag};
+use crate::marks::Mark;
+use crate::numbers::numbers;
+use crate::{follow, front};
+use edi_tables::{List, Table, Tag};
 use std::alloc::{AllocError, Global};
 
 /// A list of tags, and two lists of entries that a message with these tags may stand at.
@@ -33,49 +35,63 @@ pub fn list_collisions(alloc: Global, table: &Table) -> Result<Vec<Collision>, A
         → IsPlacement table.now tags q
         → p ≡ q) }
 {
-    let nodes = table.nodes();
+    let count = table.len();
+    let numbers = numbers(alloc, table.nodes())?;
+    let mut marks = unmarked(alloc, count)?;
+    let marks = marks.as_mut_slice();
     let mut collisions = Vec::new(alloc);
-    for entry in 0..table.len() {
-        push_collisions(alloc, nodes, entry, &mut collisions)?;
+    for entry in 0..count {
+        push_collisions(alloc, table, &numbers, marks, entry as u16, &mut collisions)?;
     }
     Ok(collisions)
+}
+
+/// So many marks that tell nothing.
+fn unmarked(alloc: Global, count: usize) -> Result<Vec<Option<Mark>>, AllocError>
+    ensures { IfOk result (λ marks. marks.items ≡ map (λ _. None) (range_with_len 0 count)) }
+{
+    (0..count).map(|_| None).collect(alloc)
 }
 
 /// Appends the collisions behind an entry; a group stands for none.
 fn push_collisions(
     alloc: Global,
-    nodes: &[Node],
-    entry: usize,
+    table: &Table,
+    numbers: &[Option<u16>],
+    marks: &mut [Option<Mark>],
+    entry: u16,
     collisions: &mut Vec<Collision>,
 ) -> Result<(), AllocError>
-    requires table { IsTable nodes.now }
-    requires few { length nodes.now ≤ 2000 }
-    requires within { entry < length nodes.now }
-    ensures { IfOk result (λ _. map collision_seen collisions.new.items ≡ map collision_seen collisions.old.items ++ collisions_at nodes.now entry) }
+    requires within { entry < length table.now }
+    requires numbers { numbers.now ≡ numbers_of table.now }
+    requires marks { length marks.old ≡ length table.now }
+    requires fresh { IsFresh entry marks.old }
+    ensures listed { IfOk result (λ _. map collision_seen collisions.new.items ≡ map collision_seen collisions.old.items ++ collisions_at table.now entry) }
+    ensures fresh { IfOk result (λ _. IsFresh (entry + 1) marks.new) }
 {
-    if levels::is_group_at(nodes, entry) {
+    if table.is_group(usize::from(entry)) {
         return Ok(());
     }
-    let groups = levels::groups_round(alloc, nodes, entry)?;
-    let followers = follow::followers(alloc, nodes, entry, &groups)?;
-    let pairs = shared::pairs(alloc, nodes, &followers)?;
-    let front = front::front(alloc, nodes, entry, &groups)?;
-    push_pairs(alloc, nodes, &front, &pairs, collisions)?;
-    Ok(())
+    let pairs = follow::pairs(alloc, table, numbers, marks, entry)?;
+    if pairs.is_empty() {
+        return Ok(());
+    }
+    let front = front::front(alloc, table, entry)?;
+    push_pairs(alloc, table, &front, &pairs, collisions)
 }
 
 /// Appends the collision of each of these pairs of followers.
 fn push_pairs(
     alloc: Global,
-    nodes: &[Node],
+    table: &Table,
     front: &[u16],
     pairs: &[(u16, u16)],
     collisions: &mut Vec<Collision>,
 ) -> Result<(), AllocError>
-    ensures { IfOk result (λ _. map collision_seen collisions.new.items ≡ map collision_seen collisions.old.items ++ map (λ pair. with_followers nodes.now front.now pair.0 pair.1) pairs.now) }
+    ensures { IfOk result (λ _. map collision_seen collisions.new.items ≡ map collision_seen collisions.old.items ++ map (λ pair. with_followers table.now front.now pair.0 pair.1) pairs.now) }
 {
     for pair in pairs {
-        collisions.push(colliding(alloc, nodes, front, pair.0, pair.1)?)?;
+        collisions.push(colliding(alloc, table, front, pair.0, pair.1)?)?;
     }
     Ok(())
 }
@@ -83,30 +99,40 @@ fn push_pairs(
 /// The collision of two followers with one tag: the front, and then the one or the other.
 fn colliding(
     alloc: Global,
-    nodes: &[Node],
+    table: &Table,
     front: &[u16],
     first: u16,
     second: u16,
 ) -> Result<Collision, AllocError>
-    ensures { IfOk result (λ c. collision_seen c ≡ with_followers nodes.now front.now first second) }
+    ensures { IfOk result (λ c. collision_seen c ≡ with_followers table.now front.now first second) }
 {
     let first = with_last(alloc, front, first)?;
     let second = with_last(alloc, front, second)?;
     Ok(Collision {
-        front: List::of(tags(alloc, nodes, &first)?),
+        front: List::of(tags(alloc, table, &first)?),
         first: List::of(first),
         second: List::of(second),
     })
 }
 
 /// The tags of these entries.
-fn tags(alloc: Global, nodes: &[Node], entries: &[u16]) -> Result<Vec<Tag>, AllocError>
-    ensures { IfOk result (λ tags. tags.items ≡ filter_map (tag_at nodes.now) entries.now) }
+fn tags(alloc: Global, table: &Table, entries: &[u16]) -> Result<Vec<Tag>, AllocError>
+    ensures { IfOk result (λ tags. tags.items ≡ filter_map (tag_at table.now) entries.now) }
 {
     entries
         .iter()
-        .filter_map(|entry| levels::tag_at(nodes, *entry))
+        .filter_map(|entry| tag_at(table, *entry))
         .collect(alloc)
+}
+
+/// The tag of the node with this number, if there is one; a group has none.
+fn tag_at(table: &Table, i: u16) -> Option<Tag>
+    ensures { result ≡ tag_at table.now i }
+{
+    match table.nodes().get(usize::from(i)) {
+        Some(node) => node.tag,
+        None => None,
+    }
 }
 
 /// These entries, and one more behind them.

@@ -70,7 +70,7 @@ module _ (nodes : List Node) (table : IsTable nodes) where
   entry_low j = cond_both (is_group_at nodes j) (j + 1) j (λ x. j ≤ x) (λ _. omega arith) (λ _. omega arith)
 
   -- a sibling does not stand inside a node
-  not_inside : (i j : ℕ) → i < j → parent_at nodes i ≡ parent_at nodes j → end_at nodes i ≤ j
+  pub not_inside : (i j : ℕ) → i < j → parent_at nodes i ≡ parent_at nodes j → end_at nodes i ≤ j
   not_inside i j past same = ⊎_elim
       (λ inside. let held = laws.held_inside i j past inside in absurd (omega (arith, held.1, laws.parent_before i held.0 (same ∙ held.2))))
       (λ behind. behind) (cases_lt j (end_at nodes i))

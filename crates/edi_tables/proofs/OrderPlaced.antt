@@ -4,7 +4,7 @@ use Rattle.std.specs.Prelude.{codes, slice_index, slice_get, Contains}
 use Rattle.edi_tables.specs.declared.tag.Tag.{Tag}
 use Rattle.edi_tables.specs.Walk.{tag_at, later_siblings, groups_round, candidates_of, later_nodes, missing_between, missing_past}
 use Rattle.edi_tables.specs.Placement.{entry_count, group_count, last_placed, is_over, rank_of, IsPlacement, IsDerivation}
-use Rattle.edi_tables.specs.Collisions.{followers_of, front_of, collisions_of}
+use Rattle.edi_tables.specs.Collisions.{followers_of, front_of, shared_pairs, collisions_of}
 use Rattle.edi_tables.proofs.TestOrder.{test_order}
 
 -- two lines, the first with a quantity, a price and its date, the second with a price; a segment behind BGM fits nowhere
@@ -61,7 +61,7 @@ unfolding test_order front_of groups_round
 front_of_price_date = refl
 
 no_collision : collisions_of test_order ≡ []
-unfolding test_order collisions_of followers_of front_of candidates_of later_siblings groups_round missing_between later_nodes
+unfolding test_order collisions_of shared_pairs followers_of front_of candidates_of later_siblings groups_round missing_between later_nodes
 no_collision = refl
 
 abbrev tag : List ℕ → Tag

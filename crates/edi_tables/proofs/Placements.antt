@@ -13,7 +13,7 @@ use Rattle.edi_tables.specs.Walk.{read_node, tag_at, parent_at, is_group_at, is_
 use Rattle.edi_tables.specs.Placement.{group_count, entry_count, last_placed, IsPlacement}
 use Rattle.edi_tables.specs.Collisions.{is_follower, followers_of}
 use Rattle.edi_tables.proofs.NodeReads.{tag_at_is, is_group_at_is}
-use Rattle.edi_tables.proofs.Groups.{groups_fail}
+use Rattle.edi_tables.proofs.GroupLaws.{groups_fail}
 use Rattle.edi_tables.proofs.TableLaws.{HasTableLaws, table_laws}
 use Rattle.edi_tables.proofs.Stepping.{is_round, Steps, round_none, candidates_step_so}
 use Rattle.edi_tables.proofs.Counting.{group_counted, entry_counted, follower_of_rank}

@@ -2,7 +2,7 @@
 use Rattle.std.proofs.Common.{◌≡◌, ℕ, zero, suc, ◌+◌, ◌-◌, ◌<◌, ◌≤◌, true, false, List, [], ◌∷◌, Option, Some, None, map, length, get_or, refl, sym, ap, subst, ◌∙◌, ◌⊎◌, inl, inr, ⊎_elim, arith}
 use Rattle.std.specs.Prelude.{nat_eq, nat_lt, ◌&&◌, Contains, if◌then◌else◌}
 use Rattle.std.specs.List.{list_any, range_with_len}
-use Rattle.std.proofs.lemmas.Bool.{cond_both, cases_Bool, cases_eq, eq-eqb, eqb-true, or_cases, or_left, or_right, and_parts, false≢true}
+use Rattle.std.proofs.lemmas.Bool.{lt-ltb, le-ltb, cases_lt, cond_both, cases_Bool, cases_eq, eq-eqb, eqb-true, or_cases, or_left, or_right, and_parts, false≢true}
 use Rattle.std.proofs.lemmas.List.{get_or-map, length-map}
 use Rattle.std.proofs.lemmas.List.Elements.{Contains-append_left, Contains-append_right}
 use Rattle.std.proofs.lemmas.List.FromFn.{length-range_with_len, get_or-range_with_len}
@@ -12,7 +12,7 @@ use Rattle.edi_tables.specs.Walk.{parent_at, end_at, is_group_at, is_trigger_of,
 use Rattle.edi_tables.proofs.Depths.{some_or_none}
 use Rattle.edi_tables.proofs.TableLaws.{HasTableLaws, table_laws}
 use Rattle.edi_tables.proofs.Walking.{siblings_same}
-use Rattle.edi_tables.proofs.Stepping.{is_round, same_parent, round_some, same_groups, parent_of_round}
+use Rattle.edi_tables.proofs.Stepping.{is_round, same_parent, round_none, round_some, same_groups, parent_of_round}
 use Rattle.edi_tables.proofs.Places.{kept}
 
 -- a node is one of a range
@@ -57,6 +57,49 @@ module _ (nodes : List Node) (table : IsTable nodes) where
   -- a node between a group and its end stands in it
   pub inside_round : (h k : ℕ) → h < k → k < end_at nodes h → is_round nodes k h ≡ true
   inside_round h k past below = inside_by k h k (omega arith) past below
+
+  -- a group round a node comes before it and ends no earlier
+  ends_by : (n i k : ℕ) (found : Option ℕ) → parent_at nodes i ≡ found → i ≤ n → is_round nodes i k ≡ true → (k < i) × (end_at nodes i ≤ end_at nodes k)
+  ends_by n i k None is fuel round = absurd (false≢true (sym (round_none nodes table i k is) ∙ round))
+  ends_by zero i k (Some g) is fuel round = absurd (omega (arith, laws.parent_before i g is))
+  ends_by (suc n) i k (Some g) is fuel round = ⊎_elim
+      (λ same. let here : k ≡ g = eqb-true k g same in
+      (omega (arith, laws.parent_before i g is), omega (arith, laws.end_in_parent i g is, ap (end_at nodes) here)))
+      (λ further. let outer = ends_by n g k (parent_at nodes g) refl (omega (arith, laws.parent_before i g is)) further in
+      (omega (arith, laws.parent_before i g is, outer.0), omega (arith, laws.end_in_parent i g is, outer.1)))
+      (or_cases (nat_eq k g) (is_round nodes g k) (sym (round_some nodes table i g k is) ∙ round))
+
+  pub round_ends : (i k : ℕ) → is_round nodes i k ≡ true → (k < i) × (end_at nodes i ≤ end_at nodes k)
+  round_ends i k round = ends_by i i k (parent_at nodes i) refl (omega arith) round
+
+  -- what a group is round is in the table
+  round_within : (i k : ℕ) (found : Option ℕ) → parent_at nodes i ≡ found → is_round nodes i k ≡ true → i < length nodes
+  round_within i k None is round = absurd (false≢true (sym (round_none nodes table i k is) ∙ round))
+  round_within i k (Some g) is round = laws.held_within i g is
+
+  -- a group round a group round a node is round the node
+  pub inner_round : (i k g : ℕ) → is_round nodes i k ≡ true → is_round nodes k g ≡ true → is_round nodes i g ≡ true
+  inner_round i k g outer inner =
+      let one = round_ends i k outer in
+      let two = round_ends k g inner in
+      let low : g < i = omega arith in
+      inside_round g i low (omega (arith, laws.end_behind i (round_within i k (parent_at nodes i) refl outer)))
+
+  -- so a group is round a node exactly where it comes before it and ends after it
+  pub round_not : (i k : ℕ) → i < length nodes → (k < i → i < end_at nodes k → ⊥) → is_round nodes i k ≡ false
+  round_not i k within none = elim (cases_Bool (is_round nodes i k)) [
+    | inl round ↦ absurd (none (round_ends i k round).0 (omega (arith, (round_ends i k round).1, laws.end_behind i within)))
+    | inr not ↦ not
+  ]
+
+  pub round_before : (i k end : ℕ) → i < length nodes → k < i → end ≡ end_at nodes k → nat_lt i end ≡ is_round nodes i k
+  round_before i k end within before is = ⊎_elim
+      (λ inside. lt-ltb i end inside ∙ sym (inside_round k i before (omega (arith, is))))
+      (λ past. le-ltb i end past ∙ sym (round_not i k within (λ _ inside. omega (arith, is))))
+      (cases_lt i end)
+
+  pub round_past : (i k : ℕ) → i < length nodes → i ≤ k → nat_lt k i ≡ is_round nodes i k
+  round_past i k within past = le-ltb k i past ∙ sym (round_not i k within (λ before _. omega arith))
 
   -- the node behind a group is a trigger
   pub trigger_is : (g : ℕ) → is_group_at nodes g ≡ true → is_trigger_at nodes (g + 1) ≡ true

@@ -9,7 +9,7 @@ use Rattle.edi_tables.proofs.Depths.{parent_of_some, parent_of_at_none}
 use Rattle.edi_tables.proofs.Lawful.{parent_group, outside_rows}
 use Rattle.edi_tables.proofs.Made.{parent_at-nodes_of}
 use Rattle.edi_tables.proofs.TableLaws.{HasTableLaws, table_laws_of_rows}
-use Rattle.edi_tables.proofs.Groups.{groups_round_none, groups_round_some}
+use Rattle.edi_tables.proofs.GroupLaws.{groups_round_none, groups_round_some}
 
 module _ (rows : List TableRow) (lawful : table_faults rows ≡ []) where
   abbrev made : List Node

@@ -10,7 +10,7 @@ use Rattle.edi_tables.specs.Rows.{rows_of, IsTable}
 use Rattle.edi_tables.specs.Walk.{parent_at, end_at, are_siblings, later_siblings, level_end, groups_round, later_nodes}
 use Rattle.edi_tables.proofs.Depths.{some_or_none}
 use Rattle.edi_tables.proofs.Lawful.{depth_bound}
-use Rattle.edi_tables.proofs.Groups as groups
+use Rattle.edi_tables.proofs.GroupLaws as groups
 use Rattle.edi_tables.proofs.Restored.{depth_at-rows}
 use Rattle.edi_tables.proofs.Stretches.{passing, passing_yes, passing_skip, passing_none, passing_same, passing_split}
 use Rattle.edi_tables.proofs.TableLaws.{HasTableLaws, table_laws, level_end_none, level_end_some}

@@ -7,7 +7,7 @@ use Rattle.std.proofs.lemmas.List.Elements.{All-nil, All-cons, All-head, All-tai
 use Rattle.edi_tables.specs.declared.table.Node.{Node}
 use Rattle.edi_tables.specs.Rows.{IsTable}
 use Rattle.edi_tables.specs.Walk.{is_group_at, is_trigger_at, entry_for, are_siblings, later_siblings, groups_round, outward, candidates_of}
-use Rattle.edi_tables.proofs.Groups.{groups_all}
+use Rattle.edi_tables.proofs.GroupLaws.{groups_all}
 use Rattle.edi_tables.proofs.TableLaws.{HasTableLaws, table_laws}
 
 range_below : (bound n a : ℕ) → a + n ≤ bound → All (λ k. k < bound) (range_with_len a n)
@@ -25,7 +25,7 @@ module _ (nodes : List Node) (table : IsTable nodes) where
   abbrev IsGroup : ℕ → Type 0
   IsGroup g = is_group_at nodes g ≡ true
 
-  siblings_within : (i : ℕ) → i < length nodes → All InTable (later_siblings nodes i)
+  pub siblings_within : (i : ℕ) → i < length nodes → All InTable (later_siblings nodes i)
   unfolding later_siblings
   siblings_within i within =
       All-filter (are_siblings nodes i) InTable (range_with_len (i + 1) (length nodes - (i + 1))) (range_below (length nodes) (length nodes - (i + 1)) (i + 1) (omega arith))

@@ -1,5 +1,5 @@
 -- Collisions: where a segment table can place one list of tags in two ways.
-use Rattle.std.specs.Prelude.{◌+◌, ◌-◌, ℕ, Bool, true, false, not, ◌==◌, ◌&&◌, ◌||◌, nat_eq, nat_le, List, [], ◌∷◌, ◌++◌, length, take, filter, slice_index, Option, Some, None, if◌then◌else◌}
+use Rattle.std.specs.Prelude.{◌+◌, ◌-◌, ℕ, Bool, true, false, not, ◌==◌, ◌&&◌, ◌||◌, nat_eq, nat_le, List, [], ◌∷◌, ◌++◌, length, map, take, filter, slice_index, Option, Some, None, if◌then◌else◌}
 use Rattle.std.specs.List.{filter_map, flat_map, list_all, list_any, range_with_len}
 use Rattle.std.specs.Str.{bytes_eq}
 use Rattle.edi_tables.specs.declared.tag.Tag.{Tag}
@@ -7,11 +7,14 @@ use Rattle.edi_tables.specs.declared.table.Node.{Node}
 use Rattle.edi_tables.specs.Walk.{tag_at, max_at, is_must_at, is_group_at, is_repeat, groups_round, candidates_of, missing_between}
 use Rattle.edi_tables.specs.Placement.{is_filled}
 
+-- going from f to c: a repeated group, or f itself, stands a second time only where its greatest count is 2 or more
+abbrev pub may_stand_again : List Node → ℕ → ℕ → Bool
+may_stand_again nodes f c =
+    if is_repeat nodes f c then nat_le 2 (max_at nodes (c - 1)) else (if c == f then nat_le 2 (max_at nodes f) else true)
+
 -- a follower of f: a candidate with nothing missing; f itself and a group round f only where a second one is allowed
 abbrev pub is_follower : List Node → ℕ → ℕ → Bool
-is_follower nodes f c =
-    not (is_filled (missing_between nodes f c))
-    && (if is_repeat nodes f c then nat_le 2 (max_at nodes (c - 1)) else (if c == f then nat_le 2 (max_at nodes f) else true))
+is_follower nodes f c = not (is_filled (missing_between nodes f c)) && may_stand_again nodes f c
 
 -- the followers of an entry, in processing order
 unfoldable pub followers_of : List Node → ℕ → List ℕ
@@ -50,17 +53,25 @@ collision_of nodes f first second = record {
   second = front_of nodes f ++ second ∷ [];
 }
 
--- a follower is the second with its tag where exactly one stands before it
-abbrev pub second_with : List Node → ℕ → List ℕ → ℕ → List Collision
-second_with nodes f [] second = []
-second_with nodes f (first ∷ []) second = collision_of nodes f first second ∷ []
-second_with nodes f (first ∷ next ∷ more) second = []
+-- an entry and the one before it with its tag, where exactly one comes before
+abbrev pub pair_with : List ℕ → ℕ → List (ℕ × ℕ)
+pair_with [] second = []
+pair_with (first ∷ []) second = (first, second) ∷ []
+pair_with (first ∷ next ∷ more) second = []
 
--- the collisions behind f, one for each tag that two followers share, by the place of the second of them
+-- the pair that the follower at a place closes
+abbrev pub pair_at : List Node → List ℕ → ℕ → List (ℕ × ℕ)
+pair_at nodes followers j =
+    pair_with (filter (have_same_tag nodes (slice_index followers j)) (take j followers)) (slice_index followers j)
+
+-- the first two followers of each tag that two followers share, by the place of the second of them
+unfoldable pub shared_pairs : List Node → List ℕ → List (ℕ × ℕ)
+shared_pairs nodes followers = flat_map (pair_at nodes followers) (range_with_len 0 (length followers))
+
+-- the collisions after f, one for each tag that two followers share
 abbrev pub collisions_behind : List Node → ℕ → List Collision
 collisions_behind nodes f =
-    let followers = followers_of nodes f in
-    flat_map (λ j. second_with nodes f (filter (have_same_tag nodes (slice_index followers j)) (take j followers)) (slice_index followers j)) (range_with_len 0 (length followers))
+    map (λ pair. collision_of nodes f pair.0 pair.1) (shared_pairs nodes (followers_of nodes f))
 
 -- the collisions of a table, by entry in table order
 unfoldable pub collisions_of : List Node → List Collision

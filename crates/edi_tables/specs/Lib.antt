@@ -4,6 +4,7 @@ pub mod Extents
 pub mod First
 pub mod Forms
 pub mod Placement
+pub mod Places
 pub mod Rows
 pub mod Tag
 pub mod Walk

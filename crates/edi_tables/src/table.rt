@@ -1,7 +1,8 @@
 //! Segment tables.
-ghost use Rattle.std.specs.Prelude.{◌≡◌, ◌<◌, ◌≤◌, Some, length, slice_get};
+ghost use Rattle.std.specs.Prelude.{◌≡◌, ◌<◌, ◌≤◌, Some, All, AllPairs, nat_eq, length, slice_get};
+ghost use Rattle.std.specs.List.{find, list_any};
 
-use crate::{TableRow, Tag, build};
+use crate::{Candidates, Groups, LaterSiblings, Missing, TableRow, Tag, build, levels};
 use std::alloc::{AllocError, Global};
 use std::marker::Model;
 use thiserror::Error;
@@ -123,6 +124,186 @@ impl Table {
         ensures lawful { IsTable self.now }
     {
         &self.nodes
+    }
+
+    ghost use Rattle.edi_tables.specs.Walk.{
+      parent_at,
+      is_group_at,
+      is_must_at,
+      is_trigger_at,
+      is_repeat,
+      reached_node,
+      groups_round,
+      later_siblings,
+      later_nodes,
+      candidates_of,
+      missing_between,
+      missing_past,
+    };
+    ghost use Rattle.edi_tables.specs.Placement.{is_filled};
+
+    /// The group that holds a node; none where it is outside all groups.
+    pub fn parent(&self, i: usize) -> Option<u16>
+        requires { i < length self.now }
+        ensures { result ≡ parent_at self.now i }
+    {
+        levels::parent_at(&self.nodes, i)
+    }
+
+    /// Whether a node is a group.
+    pub fn is_group(&self, i: usize) -> bool
+        requires { i < length self.now }
+        ensures { result ≡ is_group_at self.now i }
+    {
+        levels::is_group_at(&self.nodes, i)
+    }
+
+    /// Whether a node is the trigger of the group that holds it.
+    pub fn is_trigger(&self, i: usize) -> bool
+        requires { i < length self.now }
+        ensures { result ≡ is_trigger_at self.now i }
+    {
+        match self.parent(i) {
+            Some(group) => usize::from(group) + 1 == i,
+            None => false,
+        }
+    }
+
+    /// The groups round a node, innermost first.
+    pub fn groups_round(&self, i: usize) -> Groups<'_>
+        requires { i < length self.now }
+        ensures value { result ≡ groups_round self.now i }
+        ensures within { All (λ g. g < length self.now) result }
+    {
+        Groups {
+            nodes: &self.nodes,
+            at: i,
+        }
+    }
+
+    /// The later siblings of a node, ascending.
+    pub fn later_siblings(&self, i: usize) -> LaterSiblings<'_>
+        requires { i < length self.now }
+        ensures value { result ≡ later_siblings self.now i }
+        ensures within { All (λ j. j < length self.now) result }
+    {
+        LaterSiblings {
+            nodes: &self.nodes,
+            at: i,
+            bound: levels::level_end(&self.nodes, i),
+        }
+    }
+
+    /// The candidates after an entry, in processing order: itself unless it is a trigger, then level by level outwards.
+    pub fn candidates(&self, entry: u16) -> Candidates<'_>
+        requires { entry < length self.now }
+        ensures value { result ≡ candidates_of self.now entry }
+        ensures within { All (λ c. c < length self.now) result }
+        // So once a candidate misses a node, each later one does.
+        ensures rising { AllPairs (λ c d. reached_node self.now entry c ≤ reached_node self.now entry d) result }
+    {
+        let at = usize::from(entry);
+        let first = if self.is_trigger(at) {
+            None
+        } else {
+            Some(entry)
+        };
+        Candidates {
+            nodes: &self.nodes,
+            first,
+            at,
+            bound: levels::level_end(&self.nodes, at),
+        }
+    }
+
+    /// The first mandatory node after an entry, on its own level or on one that is left later.
+    pub fn first_must_after(&self, entry: u16) -> Option<u16>
+        requires { entry < length self.now }
+        ensures { result ≡ find (is_must_at self.now) (later_nodes self.now entry) }
+    {
+        self.missing_past(entry).next()
+    }
+
+    /// Whether a group is one of those round a node.
+    pub fn is_round(&self, i: u16, group: u16) -> bool
+        requires within { i < length self.now }
+        requires group { group < length self.now }
+        ensures { result ≡ list_any (nat_eq group) (groups_round self.now i) }
+    {
+        group < i && i < levels::end_at(&self.nodes, usize::from(group))
+    }
+
+    /// Whether going from an entry to a candidate repeats a group: the candidate is the trigger of a group round the entry.
+    pub fn is_repeat(&self, entry: u16, candidate: u16) -> bool
+        requires within { entry < length self.now }
+        requires candidate { candidate < length self.now }
+        ensures { result ≡ is_repeat self.now entry candidate }
+    {
+        match levels::parent_at(&self.nodes, usize::from(candidate)) {
+            Some(group) => group + 1 == candidate && self.is_round(entry, group),
+            None => false,
+        }
+    }
+
+    /// The node that going from an entry to a candidate reaches: no node from there on is passed.
+    ///
+    /// A repeated group is passed to its end, and the entry itself passes none.
+    pub fn reached(&self, entry: u16, candidate: u16) -> u16
+        requires within { entry < length self.now }
+        requires candidate { candidate < length self.now }
+        ensures { result ≡ reached_node self.now entry candidate }
+    {
+        if self.is_repeat(entry, candidate) {
+            levels::end_at(&self.nodes, usize::from(candidate - 1))
+        } else if candidate == entry {
+            0
+        } else if self.is_trigger(usize::from(candidate)) {
+            candidate - 1
+        } else {
+            candidate
+        }
+    }
+
+    /// Whether going from an entry to a candidate passes a mandatory node, by the first one after the entry.
+    pub fn misses(&self, entry: u16, first_must: Option<u16>, candidate: u16) -> bool
+        requires within { entry < length self.now }
+        requires candidate { candidate < length self.now }
+        requires must { first_must ≡ find (is_must_at self.now) (later_nodes self.now entry) }
+        ensures { result ≡ is_filled (missing_between self.now entry candidate) }
+    {
+        match first_must {
+            Some(must) => must < self.reached(entry, candidate),
+            None => false,
+        }
+    }
+
+    /// The mandatory nodes that going from an entry to a candidate passes, ascending.
+    pub fn missing(&self, entry: u16, candidate: u16) -> Missing<'_>
+        requires within { entry < length self.now }
+        requires candidate { candidate < length self.now }
+        ensures { result ≡ missing_between self.now entry candidate }
+    {
+        let at = usize::from(entry);
+        Missing {
+            nodes: &self.nodes,
+            at,
+            bound: levels::level_end(&self.nodes, at),
+            reached: usize::from(self.reached(entry, candidate)),
+        }
+    }
+
+    /// The mandatory nodes that going from an entry past the table's end passes, ascending.
+    pub fn missing_past(&self, entry: u16) -> Missing<'_>
+        requires { entry < length self.now }
+        ensures { result ≡ missing_past self.now entry }
+    {
+        let at = usize::from(entry);
+        Missing {
+            nodes: &self.nodes,
+            at,
+            bound: levels::level_end(&self.nodes, at),
+            reached: self.nodes.len(),
+        }
     }
 }
 

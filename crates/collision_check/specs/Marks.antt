@@ -1,0 +1,68 @@
+-- The numbers of a table's tags, and what is known of each tag after an entry. Bodies and their invariants need it alone.
+use Rattle.std.specs.Prelude.{◌≡◌, ◌≤◌, ℕ, Bool, false, ◌==◌, List, Option, Some, None, map, find, cond, length, slice_get, slice_set, unwrap_or, if◌then◌else◌}
+use Rattle.std.specs.List.{range_with_len}
+use Rattle.std.specs.Str.{bytes_eq}
+use Rattle.edi_tables.specs.declared.tag.Tag.{Tag}
+use Rattle.edi_tables.specs.declared.table.Node.{Node}
+use Rattle.edi_tables.specs.Walk.{tag_at}
+use Rattle.collision_check.specs.declared.marks.Met.{Met}
+use Rattle.collision_check.specs.declared.marks.Met.TheVariants.{Once, Twice}
+use Rattle.collision_check.specs.declared.marks.Mark.{Mark}
+
+-- a tag with these octets
+abbrev pub has_octets : List ℕ → Option Tag → Bool
+has_octets octets None = false
+has_octets octets (Some tag) = bytes_eq octets tag.octets
+
+-- the first of n nodes with a tag of these octets: the number of the tag
+abbrev pub number_among : List Node → ℕ → List ℕ → Option ℕ
+number_among nodes n octets = find (λ j. has_octets octets (tag_at nodes j)) (range_with_len 0 n)
+
+-- the number of a node's tag; a group has none
+abbrev pub number_of : List Node → Option Tag → Option ℕ
+number_of nodes None = None
+number_of nodes (Some tag) = number_among nodes (length nodes) tag.octets
+
+abbrev pub number_at : List Node → ℕ → Option ℕ
+number_at nodes i = number_of nodes (tag_at nodes i)
+
+-- the numbers of all nodes' tags
+unfoldable pub numbers_of : List Node → List (Option ℕ)
+numbers_of nodes = map (number_at nodes) (range_with_len 0 (length nodes))
+
+-- what is known of a tag after one follower more with it
+abbrev pub met_next : Option Met → ℕ → Met
+met_next None follower = Once follower
+met_next (Some met) follower = Twice
+
+-- the only follower with a tag that was met
+abbrev pub met_once : Option Met → Option ℕ
+met_once None = None
+met_once (Some (Once first)) = Some first
+met_once (Some Twice) = None
+
+-- what a mark tells of the followers of an entry; a mark that another entry made tells nothing
+abbrev pub met_in : ℕ → Option Mark → Option Met
+met_in entry None = None
+met_in entry (Some mark) = if mark.entry == entry then Some mark.met else None
+
+abbrev pub mark_at : List (Option Mark) → ℕ → Option Mark
+mark_at marks n = unwrap_or (slice_get marks n) None
+
+-- no mark tells of the followers of an entry from this one on
+abbrev pub IsFresh : ℕ → List (Option Mark) → Type 0
+IsFresh from marks = (entry n : ℕ) → from ≤ entry → met_in entry (mark_at marks n) ≡ None
+
+-- a follower is met whose tag has this number: the mark of the tag changes, and no other
+abbrev pub MeetsNumber : Option ℕ → ℕ → ℕ → List (Option Mark) → List (Option Mark) → Option ℕ → Type 0
+MeetsNumber None entry follower old new first = (first ≡ None) × (new ≡ old)
+MeetsNumber (Some n) entry follower old new first =
+    (first ≡ met_once (met_in entry (mark_at old n)))
+    × (new ≡ slice_set old n (Some (record { entry = entry; met = met_next (met_in entry (mark_at old n)) follower })))
+
+-- a node's tag is numbered by the first node with it, as looked up by its octets
+abbrev pub Numbers : Option Tag → ℕ → (List ℕ → Option ℕ) → (List ℕ → Option ℕ) → Option ℕ → Type 0
+Numbers None i old new number = (number ≡ None) × ((octets : List ℕ) → new octets ≡ old octets)
+Numbers (Some tag) i old new number =
+    (number ≡ Some (unwrap_or (old tag.octets) i))
+    × ((octets : List ℕ) → new octets ≡ cond (bytes_eq tag.octets octets) (Some (unwrap_or (old tag.octets) i)) (old octets))

@@ -1,5 +1,5 @@
 -- Forms that parts keep in any order, and the lengths of formed names.
-use Rattle.std.proofs.Common.{◌≡◌, ℕ, inl, inr, Bool, true, false, ◌&&◌, List, [], ◌∷◌, All, length, map, sym, ap, ◌∙◌, refl, subst, eqb, arith, true≢false}
+use Rattle.std.proofs.Common.{◌≡◌, ℕ, inl, inr, Bool, true, false, ◌&&◌, List, [], ◌∷◌, All, length, map, sym, ap, ◌∙◌, refl, eqb, true≢false}
 use Rattle.std.specs.List.{list_all}
 use Rattle.std.proofs.lemmas.Bool.Decides.{Decides-eqb}
 use Rattle.edi_tables.specs.Forms.{is_element_code, is_composite_code, is_code_value, is_element_formed, is_list_formed, is_composite_formed, is_segment_formed, is_message_formed}

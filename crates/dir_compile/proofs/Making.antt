@@ -1,9 +1,8 @@
 -- What is answered of parts as a whole.
-use Rattle.std.proofs.Common.{◌≡◌, ℕ, suc, List, [], ◌∷◌, ◌++◌, length, ◌<◌, All, Option, Some, None, slice_get, Result, Ok, Err, IfOk, IfErr, sym, ap, ◌∙◌, refl, subst, if◌then◌else◌, Bool, true, false}
+use Rattle.std.proofs.Common.{◌≡◌, ℕ, suc, List, [], ◌∷◌, ◌++◌, length, ◌<◌, All, Some, None, slice_get, Result, Ok, Err, IfOk, IfErr, sym, ap, ◌∙◌, refl, subst, if◌then◌else◌, Bool, true, false}
 use Rattle.std.proofs.lemmas.Option.{same_Some}
 use Rattle.edi_tables.specs.Rows.{table_faults}
 use Rattle.dir_compile.specs.declared.parts.Parts.{Parts}
-use Rattle.dir_compile.specs.declared.stop.CompileKind.{CompileKind}
 use Rattle.dir_compile.specs.declared.stop.CompileStop.{CompileStop}
 use Rattle.dir_compile.specs.declared.stop.CompileStop.TheVariants.{Fault, Memory}
 use Rattle.edi_tables.specs.Ascending.{is_before}

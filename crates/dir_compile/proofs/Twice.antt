@@ -1,5 +1,5 @@
 -- Names that stand twice.
-use Rattle.std.proofs.Common.{◌≡◌, ℕ, ◌+◌, ◌<◌, Bool, true, false, ◌||◌, List, [], ◌∷◌, ◌++◌, length, get_or, take, drop, map, Some, Result, IfOk, sym, ap, ◌∙◌, refl}
+use Rattle.std.proofs.Common.{◌≡◌, ℕ, ◌+◌, ◌<◌, Bool, true, false, ◌||◌, List, [], ◌∷◌, ◌++◌, length, get_or, take, drop, map, Some, sym, ap, ◌∙◌, refl}
 use Rattle.std.specs.List.{flat_map, list_any}
 use Rattle.std.specs.Str.{bytes_eq}
 use Rattle.std.proofs.lemmas.List.{take_more, append-nil, append_assoc, map_push}
@@ -7,14 +7,11 @@ use Rattle.std.proofs.lemmas.List.Concat.{flat_map-append}
 use Rattle.std.proofs.lemmas.Cmp.{nat_list_eq_equiv}
 use Rattle.edi_octets.specs.Profile.{with_earlier_from}
 use Rattle.edi_tables.specs.Rows.{when}
-use Rattle.std.proofs.lemmas.Result.{IfOk-weaker}
-use Rattle.dir_compile.specs.declared.stop.CompileKind.{CompileKind}
-use Rattle.dir_compile.specs.declared.stop.CompileStop.{CompileStop}
 use Rattle.dir_compile.specs.declared.stop.CompileKind.TheVariants.{Twice}
 use Rattle.dir_compile.specs.Compile.{twice_in, value_name}
 use Rattle.dir_compile.specs.Stop.{PartsFault, fault_with}
-use Rattle.dir_compile.specs.Judges.{first_of, Judges}
-use Rattle.dir_compile.proofs.Faults.{nil-both, split_at, judges-same}
+use Rattle.dir_compile.specs.Judges.{first_of}
+use Rattle.dir_compile.proofs.Faults.{nil-both, split_at}
 
 -- the earlier members of two lists, one behind the other
 pub with_earlier_from-append : {A : Type 0} (earlier xs ys : List A) → with_earlier_from earlier (xs ++ ys) ≡ with_earlier_from earlier xs ++ with_earlier_from (earlier ++ xs) ys

@@ -1,5 +1,5 @@
 -- From where to where messages and functional groups run in a list of tags.
-use Rattle.std.specs.Prelude.{◌-◌, ◌+◌, ℕ, Bool, true, false, List, [], ◌∷◌, length, find, slice_get, Option, Some, None, codes, if◌then◌else◌}
+use Rattle.std.specs.Prelude.{◌-◌, ◌+◌, ℕ, Bool, true, false, ◌&&◌, nat_le, List, [], ◌∷◌, length, find, position, slice_get, Option, Some, None, codes, if◌then◌else◌}
 use Rattle.std.specs.List.{range_with_len, filter_map, list_any}
 use Rattle.edi_tables.specs.declared.tag.Tag.{Tag}
 use Rattle.edi_tables.specs.Rows.{has_name}
@@ -14,7 +14,7 @@ pub record Extent : Type 0 where
 abbrev pub tag_in : List (Option Tag) → ℕ → Option Tag
 tag_in tags i = elim (slice_get tags i) [ None ↦ None | Some tag ↦ tag ]
 
--- the first place behind i whose tag has one of these names
+-- the first place after i whose tag has one of these names
 abbrev pub next_of : List (List ℕ) → List (Option Tag) → ℕ → Option ℕ
 next_of names tags i =
     find (λ j. list_any (λ name. has_name name (tag_in tags j)) names) (range_with_len (i + 1) (length tags - (i + 1)))
@@ -29,12 +29,24 @@ abbrev pub extent_at : List ℕ → List ℕ → List (List ℕ) → List (Optio
 extent_at opening closing stops tags i =
     if has_name opening (tag_in tags i) then Some (extent_to closing tags i (next_of stops tags i)) else None
 
--- a message runs from a UNH to the first of UNT, UNH, UNE, UNG, UNZ, UNB behind it; a UNT closes it
+-- a message runs from a UNH to the first of UNT, UNH, UNE, UNG, UNZ, UNB after it; a UNT closes it
 unfoldable pub message_extents : List (Option Tag) → List Extent
 message_extents tags =
     filter_map (extent_at (codes "UNH") (codes "UNT") (codes "UNT" ∷ codes "UNH" ∷ codes "UNE" ∷ codes "UNG" ∷ codes "UNZ" ∷ codes "UNB" ∷ []) tags) (range_with_len 0 (length tags))
 
--- a functional group runs from a UNG to the first of UNE, UNG, UNZ, UNB behind it; a UNE closes it
+-- a functional group runs from a UNG to the first of UNE, UNG, UNZ, UNB after it; a UNE closes it
 unfoldable pub group_extents : List (Option Tag) → List Extent
 group_extents tags =
     filter_map (extent_at (codes "UNG") (codes "UNE") (codes "UNE" ∷ codes "UNG" ∷ codes "UNZ" ∷ codes "UNB" ∷ []) tags) (range_with_len 0 (length tags))
+
+-- a segment, by its number, lies in an extent
+abbrev pub holds : ℕ → Extent → Bool
+holds k extent = nat_le extent.first k && nat_le k extent.last
+
+-- which message a segment lies in, by its place among the messages from 0
+unfoldable pub message_at : List (Option Tag) → ℕ → Option ℕ
+message_at tags k = position (holds k) (message_extents tags)
+
+-- which functional group a segment lies in; a message is in the group that its UNH lies in
+unfoldable pub group_at : List (Option Tag) → ℕ → Option ℕ
+group_at tags k = position (holds k) (group_extents tags)

@@ -83,13 +83,17 @@ pub record Carries (release : Option ℕ) (text : List ℕ) (from at : ℕ) (par
   pub carried : b ≡ is_released release text from at
 
 module _ (release : Option ℕ) (text : List ℕ) (from at : ℕ) (part : List ℕ) (b : Bool) (c : Carries release text from at part b) where
-  pub released-same : (k : ℕ) → k ≤ length part → released_after release b (take k part) ≡ is_released release text from (at + k)
+  released-same : (k : ℕ) → k ≤ length part → released_after release b (take k part) ≡ is_released release text from (at + k)
   released-same k le =
       let within = c.within in
       ap (λ (ys : List ℕ). released_after release b (take k ys)) c.reads
       ∙ (ap (released_after release b) (take-take k ((at + length part) - at) (drop at text) (omega arith))
       ∙ (ap (λ (v : Bool). released_after release v (take k (drop at text))) c.carried
       ∙ after-is release text from at k c.low (omega arith)))
+
+  -- the flag after the part says whether the octet after it is released
+  pub carried-on : (v : Bool) → v ≡ released_after release b (take (length part) part) → v ≡ is_released release text from (at + length part)
+  carried-on v is = is ∙ released-same (length part) (omega arith)
 
   free-same : (sought : Sought) (k : ℕ) → k < length part → is_free_in release sought b part k ≡ is_free release sought text from (at + k)
   free-same sought k below =

@@ -1,6 +1,6 @@
 use Rattle.std.proofs.Common.{ℕ, length, sym, ◌∙◌, arith}
 use Rattle.seg_lexer.proofs.ReleasedLemmas.{is_released-start}
-use Rattle.seg_lexer.proofs.ScanLemmas.{Carries, found-in, none-in, released-same}
+use Rattle.seg_lexer.proofs.ScanLemmas.{Carries, carried-on, found-in, none-in}
 use Rattle.seg_lexer.proofs.scan.find_free.Goals as goal
 use Rattle.seg_lexer.proofs.scan.find_free.Goals.{After-find_free_in}
 
@@ -31,5 +31,5 @@ loop-at-preserved g c =
       low = omega arith;
       high = c.lend-part.ensures.inside;
       none = none-in _ _ _ _ _ _ s c.args.sought n (omega arith) c.loop-at.invariant.none c.in_default.ensures;
-      carried = c.is_released_in-released.ensures ∙ released-same _ _ _ _ _ _ s n (omega arith);
+      carried = carried-on _ _ _ _ _ _ s _ c.is_released_in-released.ensures;
     }

@@ -53,8 +53,8 @@ elements_in-formed file found is =
     let parts = none_from_ok (flat_map judge (with_earlier entries)) (filter_map elements.element_of entries) found is in
     rw parts.1
     (list_all-from_AllPass is_element_formed (filter_map elements.element_of entries)
-      (passes-filter_map is_element_formed elements.element_of entries
-        (All-judged judge IsEntry (λ entry. passes_if_made is_element_formed (elements.element_of entry) ≡ true) element_of-formed entries (entries_of-entries file) parts.0)))
+    (passes-filter_map is_element_formed elements.element_of entries
+    (All-judged judge IsEntry (λ entry. passes_if_made is_element_formed (elements.element_of entry) ≡ true) element_of-formed entries (entries_of-entries file) parts.0)))
 
 -- ---- code lists
 
@@ -86,5 +86,5 @@ codes_in-formed file found is =
     let parts = none_from_ok (flat_map judge (with_earlier entries)) (map codes.list_of entries) found is in
     rw parts.1
     (list_all-from_AllPass is_list_formed (map codes.list_of entries)
-      (All-map (λ list. is_list_formed list ≡ true) codes.list_of entries
-        (All-judged judge IsEntry (λ entry. is_list_formed (codes.list_of entry) ≡ true) list_of-formed entries (entries_of-entries file) parts.0)))
+    (All-map (λ list. is_list_formed list ≡ true) codes.list_of entries
+    (All-judged judge IsEntry (λ entry. is_list_formed (codes.list_of entry) ≡ true) list_of-formed entries (entries_of-entries file) parts.0)))

@@ -179,13 +179,13 @@ module _ (rows : List TableRow) where
   first-held =
       rw (length-map rows held)
       (⊎_elim
-        (λ (many : nat_lt 2000 (length rows) ≡ true). rw many refl)
-        (λ (few : nat_lt 2000 (length rows) ≡ false).
-        ⊎_elim
-        (λ (none : (length rows == 0) ≡ true). rw (few, none) refl)
-        (λ (some : (length rows == 0) ≡ false). rw (few, some) (from-held 0 (length rows) shallow-none))
-        (cases_Bool (length rows == 0)))
-        (cases_Bool (nat_lt 2000 (length rows))))
+      (λ (many : nat_lt 2000 (length rows) ≡ true). rw many refl)
+      (λ (few : nat_lt 2000 (length rows) ≡ false).
+      ⊎_elim
+      (λ (none : (length rows == 0) ≡ true). rw (few, none) refl)
+      (λ (some : (length rows == 0) ≡ false). rw (few, some) (from-held 0 (length rows) shallow-none))
+      (cases_Bool (length rows == 0)))
+      (cases_Bool (nat_lt 2000 (length rows))))
 
 map-same : {A : Type 0} (f : A → A) (xs : List A) → All (λ x. f x ≡ x) xs → map f xs ≡ xs
 map-same f [] all = refl

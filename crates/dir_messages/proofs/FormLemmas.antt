@@ -45,7 +45,7 @@ rows_of-formed lines =
     let row = λ (p : List Line × Line). row_of p.0 p.1 in
     list_all-from_AllPass is_row_formed (map row (with_earlier lines))
     (All-map (λ r. is_row_formed r ≡ true) row (with_earlier lines)
-      (All-each (λ (p : List Line × Line). is_row_formed (row_of p.0 p.1) ≡ true) (λ p. row_of-formed p.0 p.1) (with_earlier lines)))
+    (All-each (λ (p : List Line × Line). is_row_formed (row_of p.0 p.1) ≡ true) (λ p. row_of-formed p.0 p.1) (with_earlier lines)))
 
 named : (test : Bool) (name : List ℕ) → (test ≡ true → is_message_name name ≡ true) → passes_if_made is_message_name (if test then Some name else None) ≡ true
 named true name is = is refl

@@ -122,8 +122,8 @@ composites_in-formed file found is =
     let parts = none_from_ok (flat_map judge (with_earlier entries)) (map composite_of entries) found is in
     rw parts.1
     (list_all-from_AllPass is_composite_formed (map composite_of entries)
-      (All-map (λ composite. is_composite_formed composite ≡ true) composite_of entries
-        (All-judged judge IsEntry (λ entry. is_composite_formed (composite_of entry) ≡ true) composite_of-formed entries (entries_of-entries file) parts.0)))
+    (All-map (λ composite. is_composite_formed composite ≡ true) composite_of entries
+    (All-judged judge IsEntry (λ entry. is_composite_formed (composite_of entry) ≡ true) composite_of-formed entries (entries_of-entries file) parts.0)))
 
 -- ---- items
 
@@ -209,5 +209,5 @@ segments_in-formed known file found is =
     let parts = none_from_ok (flat_map judge (with_earlier entries)) (map segment_of entries) found is in
     rw parts.1
     (list_all-from_AllPass is_segment_formed (map segment_of entries)
-      (All-map (λ segment. is_segment_formed segment ≡ true) segment_of entries
-        (All-judged judge IsEntry (λ entry. is_segment_formed (segment_of entry) ≡ true) (segment_of-formed known) entries (entries_of-entries file) parts.0)))
+    (All-map (λ segment. is_segment_formed segment ≡ true) segment_of entries
+    (All-judged judge IsEntry (λ entry. is_segment_formed (segment_of entry) ≡ true) (segment_of-formed known) entries (entries_of-entries file) parts.0)))

@@ -54,7 +54,7 @@ unfolding lines_from
 lines_of-plain file =
     All-numbered_from (λ x. is_line_octet x ≡ true) 1 (line_octets (slice_split (λ x. x == 10) file))
     (All-line_octets (λ x. is_line_octet x ≡ true) (slice_split (λ x. x == 10) file)
-      (All-slice_split (λ x. x == 10) (λ _. Unit {0}) (λ x. is_line_octet x ≡ true) plain_at file (All-each (λ _. Unit {0}) (λ _. tt) file)))
+    (All-slice_split (λ x. x == 10) (λ _. Unit {0}) (λ x. is_line_octet x ≡ true) plain_at file (All-each (λ _. Unit {0}) (λ _. tt) file)))
 
 -- nor have the lines of its entries
 entries_of-plain : (lines : List Line) → All IsPlain lines → All (All IsPlain) (entries_of lines)
@@ -65,8 +65,8 @@ entries_of-plain lines all =
     let cut : All (All IsPlain) parts = All-slice_split is_separator IsPlain IsPlain (λ line other plain. plain) lines all in
     All-filter is_filled (All IsPlain) (map (filter is_written) kept)
     (All-map (All IsPlain) (filter is_written) kept
-      (All-weaker (All IsPlain) (λ part. All IsPlain (filter is_written part)) (λ part plain. All-filter is_written IsPlain part plain) kept
-        (All-drop (All IsPlain) 1 parts cut)))
+    (All-weaker (All IsPlain) (λ part. All IsPlain (filter is_written part)) (λ part plain. All-filter is_written IsPlain part plain) kept
+    (All-drop (All IsPlain) 1 parts cut)))
 
 -- an entry has a line, and its lines have no LF
 pub record IsEntry (entry : List Line) : Type 0 where

@@ -52,11 +52,7 @@ impl<'a> Seen<'a> {
 
     /// Judges the head of an entry after others, whose codes are seen, with the code that its first field is,
     /// if it is one: a code and a name, else `bad-code`, and none of those seen, else `twice`. It joins them.
-    pub fn read_head<C: Copy>(
-        &mut self,
-        head: &LineText<'a>,
-        code: Option<C>,
-    ) -> Result<C, DirStop>
+    pub fn read_head<C: Copy>(&mut self, head: &LineText<'a>, code: Option<C>) -> Result<C, DirStop>
         ensures judged { (is_code : List ℕ → Bool) (coded : C) (earlier : List (List Line))
             → code ≡ (if is_code (first_field (fields_of head.now.octets.now)) then Some coded else None)
             → self.old ≡ map head_field earlier

@@ -25,13 +25,13 @@ pub record IsDrawn (lines : List Line) (drawing : Drawing) : Type 0 where
 abbrev pub BeginsWith : {A : Type 0} → A → List A → Type 0
 BeginsWith {A} x xs = (more : List A) × (xs ≡ x ∷ more)
 
--- a table line breaks no rule behind these, and this is its row; on a segment line so many groups end
+-- a table line breaks no rule after these, and this is its row; on a segment line so many groups end
 pub record DrawsRow (earlier : List Line) (line : Line) (drawn : DrawnRow) : Type 0 where
   pub sound : kinds_broken earlier line ≡ []
   pub row : drawn.row ≡ held (row_of earlier line)
   pub ends : drawn.ends ≡ ends_drawn line
 
--- a drawing with one more row behind it: a group is opened, or groups are closed
+-- a drawing with one more row after it: a group is opened, or groups are closed
 pub record Puts (old : Drawing) (number position : ℕ) (drawn : DrawnRow) (new : Drawing) : Type 0 where
   pub rows : new.rows.items ≡ old.rows.items ++ (drawn.row ∷ [])
   pub numbers : new.row_lines.items ≡ old.row_lines.items ++ (number ∷ [])
@@ -39,7 +39,7 @@ pub record Puts (old : Drawing) (number position : ℕ) (drawn : DrawnRow) (new 
   pub open_groups : new.open_groups ≡ (if is_some drawn.row.tag then old.open_groups - drawn.ends else old.open_groups + 1)
   pub last_position : new.last_position ≡ Some position
 
--- what a line behind these does: it breaks no rule and is drawn, or its first fault is answered, or memory runs out
+-- what a line after these does: it breaks no rule and is drawn, or its first fault is answered, or memory runs out
 abbrev pub Judges : List Line → Line → Result (Unit {0}) DirStop → Drawing → Type 0
 Judges earlier line (Ok done) drawing = (line_faults earlier line ≡ []) × IsDrawn (filter is_table_line (earlier ++ (line ∷ []))) drawing
 Judges earlier line (Err (Fault fault)) drawing = BeginsWith fault (line_faults earlier line)

@@ -25,7 +25,7 @@ pub record CutsAtStatus (text before : List ℕ) (must : Bool) (behind : List �
   pub cells : cells_of before ≡ filter is_filled front
   pub rest : after_spaces behind ≡ after_spaces (join_with_byte 32 more)
 
--- what stands behind the position of a table line: the line has the same pieces there
+-- what comes after the position of a table line: the line has the same pieces there
 pub record StandsBehind (octets behind : List ℕ) : Type 0 where
   pub front : List (List ℕ)
   pub position : List ℕ

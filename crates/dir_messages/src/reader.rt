@@ -34,7 +34,7 @@ pub fn read_message(alloc: Global, file: &[u8]) -> Result<MessageDef, DirStop>
     Err(stop_at(count, DirKind::NoType))
 }
 
-/// Reads the lines behind the type line, which has this name and number.
+/// Reads the lines after the type line, which has this name and number.
 fn read_drawing(
     alloc: Global,
     name: &[u8],

@@ -8,7 +8,7 @@ ghost use Rattle.dir_messages.specs.Parts.{CutsAtStatus, CutsAtLastSpace};
 use edi_octets::read_status;
 use memchr::memrchr;
 
-/// A text cut at its last field that is a status: what stands before and behind it.
+/// A text cut at its last field that is a status: what stands before and after it.
 #[derive(Clone, Copy, Debug)]
 pub(crate) struct StatusCut<'a> {
     pub before: &'a [u8],
@@ -39,7 +39,7 @@ pub(crate) fn cut_at_status(text: &[u8]) -> Option<StatusCut<'_>>
     None
 }
 
-/// What stands before and behind the last space of a text; `None` where it has no space.
+/// What stands before and after the last space of a text; `None` where it has no space.
 fn cut_at_last_space(text: &[u8]) -> Option<(&[u8], &[u8])>
     ensures { MatchOption result
         (slice_split is_space text.now ≡ text.now ∷ [])

@@ -33,7 +33,7 @@ pub(crate) struct Counts {
     pub ends: u64,
 }
 
-/// Reads a table line; `None` where it has no status, or not one to six digits and a tail behind it.
+/// Reads a table line; `None` where it has no status, or not one to six digits and a tail after it.
 pub(crate) fn read_table_line<'a>(line: &LineText<'a>) -> Option<TableLine<'a>>
     requires { message.is_table_line (line_shown line.now) ≡ true }
     ensures { MatchOption result
@@ -55,7 +55,7 @@ pub(crate) fn read_table_line<'a>(line: &LineText<'a>) -> Option<TableLine<'a>>
     })
 }
 
-/// What stands behind the position of a table line: nothing, or a space and more.
+/// What comes after the position of a table line: nothing, or a space and more.
 fn behind_position<'a>(line: &LineText<'a>) -> &'a [u8]
     requires { message.is_table_line (line_shown line.now) ≡ true }
     ensures { StandsBehind line.now.octets.now result.now }
@@ -63,7 +63,7 @@ fn behind_position<'a>(line: &LineText<'a>) -> &'a [u8]
     &line.octets[line.indentation() + POSITION_DIGITS..]
 }
 
-/// The counts behind a status; `None` where anything else stands there.
+/// The counts after a status; `None` where anything else stands there.
 fn read_counts(text: &[u8]) -> Option<Counts>
     ensures { result ≡ counts_in (after_spaces text.now) }
 {
@@ -106,7 +106,7 @@ fn ends_in(tail: &[u8]) -> u64
     tail.iter().filter(|octet| **octet == b'+').count() as u64
 }
 
-/// What stands behind the spaces in front of a text.
+/// What comes after the spaces in front of a text.
 fn skip_spaces(text: &[u8]) -> &[u8]
     ensures { result.now ≡ after_spaces text.now }
 {

@@ -2,7 +2,7 @@
 use crate::read_message;
 use edi_octets::{DirKind, DirStop};
 use edi_tables::{MessageDef, TableRow, Tag};
-use std::alloc::Global;
+use std::alloc::{AllocError, Global};
 use std::process::Abort;
 use std::test::Fail;
 
@@ -129,38 +129,82 @@ fn expect_row(rt: &impl Abort, alloc: Global, line: &str, row: TableRow) -> Resu
     Ok(())
 }
 
-#[test]
-fn a_segment_line_gives_its_row(rt: HostRuntime) -> Result<(), Fail> {
-    let cases = [
-        ("0020 BGM Beginning M 3", segment(b"BGM", true, 3, 0)),
-        ("0020 BGM C Beginning C 5 M 1", segment(b"BGM", true, 1, 0)),
-        (
-            "    0020 BGM A name C   000002",
-            segment(b"BGM", false, 2, 0),
-        ),
-        ("0020 + BGM Beginning M 1", segment(b"BGM", true, 1, 0)),
-        ("+*X 0020 | BGM Beginning M 1", segment(b"BGM", true, 1, 0)),
-        ("0020 BGM Beginning M 1-|- |", segment(b"BGM", true, 1, 0)),
-        ("0020 B9Z M M 999999", segment(b"B9Z", true, 999_999, 0)),
-        (
-            "0020 BGM Segment group 1 C 1\r",
-            segment(b"BGM", false, 1, 0),
-        ),
-    ];
-    for (line, row) in cases {
-        expect_row(&rt, rt.alloc(), line, row)?;
-    }
-    Ok(())
-}
+// Segment lines between those of UNH and UNT, and the rows that they give.
+#[rattlefmt::skip]
+const SEGMENT_LINES: &[(&str, [u8; 3], bool, u32)] = &[
+    ("0020 BGM Beginning M 3", *b"BGM", true, 3),
+    ("0020 BGM C Beginning C 5 M 1", *b"BGM", true, 1),
+    ("    0020 BGM A name C   000002", *b"BGM", false, 2),
+    ("0020 + BGM Beginning M 1", *b"BGM", true, 1),
+    ("+*X 0020 | BGM Beginning M 1", *b"BGM", true, 1),
+    ("0020 BGM Beginning M 1-|- |", *b"BGM", true, 1),
+    ("0020 B9Z M M 999999", *b"B9Z", true, 999_999),
+    ("0020 BGM Segment group 1 C 1\r", *b"BGM", false, 1),
+];
+
+// Drawings of one group of NAD, which may stand seven times.
+const GROUP_LINES: &[&str] = &[
+    "0020 -- Segment group 1 ---- C 7 --+\n0030 NAD Name M 1 --+",
+    "0020 | ------ SEGMENT GROUP 1 C 7+\n0030 NAD Name M 1+",
+    "0020 -- segment Group 1 - -- C 7 +-|\n\n0030 NAD Name M 1 |+|",
+];
+
+// Drawings that break a rule, each with the line and the kind of its first fault.
+#[rattlefmt::skip]
+const FAULTY_DRAWINGS: &[(&str, u32, DirKind)] = &[
+    // no status, no count after it, seven digits, another octet in the tail
+    ("0020 BGM Beginning 1", 4, DirKind::BadLine),
+    ("0020 BGM Beginning M", 4, DirKind::BadLine),
+    ("0020 BGM Beginning M 0000001", 4, DirKind::BadLine),
+    ("0020 BGM Beginning M 1 x", 4, DirKind::BadLine),
+    ("0020 BGM Beginning M 1 - 2", 4, DirKind::BadLine),
+    // positions, which are judged after the rest and before the form
+    ("0010 BGM Beginning M 1", 4, DirKind::BadPosition),
+    ("0020 BGM A name M 1\n0019 bgm M 1", 5, DirKind::BadPosition),
+    ("0010 bgm M x", 4, DirKind::BadLine),
+    ("9900 BGM Beginning M 1", 6, DirKind::BadPosition),
+    // neither a segment nor a group
+    ("0020 BGM M 1", 4, DirKind::BadLine),
+    ("0020 bgm Beginning M 1", 4, DirKind::BadLine),
+    ("0020 + + BGM Beginning M 1", 4, DirKind::BadLine),
+    ("0020 - Segment group 1 C 1 +", 4, DirKind::BadLine),
+    ("0020 -- Segment group 01 C 1 +", 4, DirKind::BadLine),
+    ("0020 -- Segment group 1 x C 1 +", 4, DirKind::BadLine),
+    // a second type line, at any indentation
+    ("          Message Type : ABC124", 4, DirKind::BadLine),
+    // groups out of turn; the last number is 2 ^ 64 + 1
+    ("0020 -- Segment group 1 C 1", 4, DirKind::BadGroup),
+    ("0020 -- Segment group 1 C 1 ++", 4, DirKind::BadGroup),
+    ("0020 -- Segment group 0 C 1 +", 4, DirKind::BadGroup),
+    ("0020 -- Segment group 2 C 1 +", 4, DirKind::BadGroup),
+    ("0020 -- Segment group 18446744073709551617 C 1 +", 4, DirKind::BadGroup),
+    // groups that end without being open, and one that is left open
+    ("0020 BGM Beginning M 1 +", 4, DirKind::CloseWithoutOpen),
+    ("0020 -- Segment group 1 C 1 +\n0030 NAD Name M 1 ++", 5, DirKind::CloseWithoutOpen),
+    ("0020 -- Segment group 1 C 1 +\n0030 NAD Name M 1 |", 7, DirKind::NotClosed),
+    // rows that are no segment table
+    ("    0020 BGM Beginning M 000000", 4, DirKind::BadMax),
+    ("0020 UNB Interchange M 1", 4, DirKind::EnvelopeTag),
+    ("0020 -- Segment group 1 C 1 +\n0030 NAD Name C 1 +", 4, DirKind::NoTrigger),
+];
+
+// Files that break a rule.
+#[rattlefmt::skip]
+const FAULTY_FILES: &[(&str, u32, DirKind)] = &[
+    ("", 0, DirKind::NoType),
+    ("\n\n0010 UNH Header M 1", 3, DirKind::NoType),
+    ("Message Type : 1BCDEF", 1, DirKind::NoType),
+    ("Message Type : ABCDEF x\n", 1, DirKind::NoType),
+    ("text\nMessage Type : ABCDEF\ntext\n", 2, DirKind::NoUnhUnt),
+    ("Message Type : ABCDEF\n0010 UNH Header M 1\n0020 BGM Beginning M 1\n", 3, DirKind::NoUnhUnt),
+];
 
 #[test]
-fn a_group_line_gives_its_row(rt: HostRuntime) -> Result<(), Fail> {
-    let cases = [
-        "0020 -- Segment group 1 ---- C 7 --+\n0030 NAD Name M 1 --+",
-        "0020 | ------ SEGMENT GROUP 1 C 7+\n0030 NAD Name M 1+",
-        "0020 -- segment Group 1 - -- C 7 +-|\n\n0030 NAD Name M 1 |+|",
-    ];
-    for drawing in cases {
+fn a_table_line_gives_its_row(rt: HostRuntime) -> Result<(), Fail> {
+    for (line, tag, must, max) in SEGMENT_LINES {
+        expect_row(&rt, rt.alloc(), line, segment(tag, *must, *max, 0))?;
+    }
+    for drawing in GROUP_LINES {
         let message = read_between(&rt, rt.alloc(), drawing)?;
         let rows = [
             segment(b"UNH", true, 1, 0),
@@ -181,121 +225,47 @@ fn fault_in(read: Result<MessageDef, DirStop>) -> Option<(u32, DirKind)> {
     }
 }
 
-/// Each drawing has this first fault, at this line.
-fn expect_faults(rt: &impl Abort, alloc: Global, cases: &[(&str, u32, DirKind)]) {
-    for (drawing, line, kind) in cases {
-        let fault = fault_in(read_between(rt, alloc, drawing));
+#[test]
+fn answers_the_first_fault(rt: HostRuntime) {
+    for (drawing, line, kind) in FAULTY_DRAWINGS {
+        let fault = fault_in(read_between(&rt, rt.alloc(), drawing));
         assert_eq!(rt; fault, Some((*line, *kind)), "{drawing}");
     }
-}
-
-#[test]
-fn a_table_line_out_of_form_is_refused(rt: HostRuntime) {
-    let cases = [
-        // no status, no count after it, seven digits, another octet in the tail
-        ("0020 BGM Beginning 1", 4, DirKind::BadLine),
-        ("0020 BGM Beginning M", 4, DirKind::BadLine),
-        ("0020 BGM Beginning M 0000001", 4, DirKind::BadLine),
-        ("0020 BGM Beginning M 1 x", 4, DirKind::BadLine),
-        ("0020 BGM Beginning M 1 - 2", 4, DirKind::BadLine),
-        // positions, which are judged after the rest and before the form
-        ("0010 BGM Beginning M 1", 4, DirKind::BadPosition),
-        ("0020 BGM A name M 1\n0019 bgm M 1", 5, DirKind::BadPosition),
-        ("0010 bgm M x", 4, DirKind::BadLine),
-        ("9900 BGM Beginning M 1", 6, DirKind::BadPosition),
-        // neither a segment nor a group
-        ("0020 BGM M 1", 4, DirKind::BadLine),
-        ("0020 bgm Beginning M 1", 4, DirKind::BadLine),
-        ("0020 + + BGM Beginning M 1", 4, DirKind::BadLine),
-        ("0020 - Segment group 1 C 1 +", 4, DirKind::BadLine),
-        ("0020 -- Segment group 01 C 1 +", 4, DirKind::BadLine),
-        ("0020 -- Segment group 1 x C 1 +", 4, DirKind::BadLine),
-        // a second type line, at any indentation
-        ("          Message Type : ABC124", 4, DirKind::BadLine),
-    ];
-    expect_faults(&rt, rt.alloc(), &cases);
-}
-
-#[test]
-fn groups_out_of_turn_or_open_are_refused(rt: HostRuntime) {
-    let cases = [
-        ("0020 -- Segment group 1 C 1", 4, DirKind::BadGroup),
-        ("0020 -- Segment group 1 C 1 ++", 4, DirKind::BadGroup),
-        ("0020 -- Segment group 0 C 1 +", 4, DirKind::BadGroup),
-        ("0020 -- Segment group 2 C 1 +", 4, DirKind::BadGroup),
-        // 2 ^ 64 + 1
-        (
-            "0020 -- Segment group 18446744073709551617 C 1 +",
-            4,
-            DirKind::BadGroup,
-        ),
-        ("0020 BGM Beginning M 1 +", 4, DirKind::CloseWithoutOpen),
-        (
-            "0020 -- Segment group 1 C 1 +\n0030 NAD Name M 1 ++",
-            5,
-            DirKind::CloseWithoutOpen,
-        ),
-        (
-            "0020 -- Segment group 1 C 1 +\n0030 NAD Name M 1 |",
-            7,
-            DirKind::NotClosed,
-        ),
-    ];
-    expect_faults(&rt, rt.alloc(), &cases);
-}
-
-#[test]
-fn rows_that_are_no_table_are_refused(rt: HostRuntime) {
-    let cases = [
-        ("    0020 BGM Beginning M 000000", 4, DirKind::BadMax),
-        ("0020 UNB Interchange M 1", 4, DirKind::EnvelopeTag),
-        (
-            "0020 -- Segment group 1 C 1 +\n0030 NAD Name C 1 +",
-            4,
-            DirKind::NoTrigger,
-        ),
-    ];
-    expect_faults(&rt, rt.alloc(), &cases);
-}
-
-#[test]
-fn a_file_has_its_first_fault_at_its_line(rt: HostRuntime) {
-    let cases = [
-        ("", 0, DirKind::NoType),
-        ("\n\n0010 UNH Header M 1", 3, DirKind::NoType),
-        ("Message Type : 1BCDEF", 1, DirKind::NoType),
-        ("Message Type : ABCDEF x\n", 1, DirKind::NoType),
-        ("text\nMessage Type : ABCDEF\ntext\n", 2, DirKind::NoUnhUnt),
-        (
-            "Message Type : ABCDEF\n0010 UNH Header M 1\n0020 BGM Beginning M 1\n",
-            3,
-            DirKind::NoUnhUnt,
-        ),
-    ];
-    for (file, line, kind) in cases {
-        assert_eq!(rt;
-            fault_in(read(&rt, rt.alloc(), file)),
-            Some((line, kind)),
-            "{file}"
-        );
+    for (file, line, kind) in FAULTY_FILES {
+        let fault = fault_in(read(&rt, rt.alloc(), file));
+        assert_eq!(rt; fault, Some((*line, *kind)), "{file}");
     }
 }
 
+/// A drawing of so many groups, each in the one before.
+fn nested(alloc: Global, count: u32) -> Result<String, AllocError> {
+    let mut drawing = String::new(alloc);
+    for number in 1..=count {
+        let place = 1000 + 2 * u64::from(number);
+        let group = format!(in alloc; "{place} -- Segment group {number} C 1 +\n")?;
+        let trigger = format!(in alloc; "{} NAD Name M 1 \n", place + 1)?;
+        drawing.push_str(group.as_str())?;
+        drawing.push_str(trigger.as_str())?;
+    }
+    drawing.push_str("8000 LOC Place M 1 ")?;
+    for _ in 0..count {
+        drawing.push_str("+")?;
+    }
+    Ok(drawing)
+}
+
 #[test]
-fn the_test_order_drawn_with_other_ends_is_refused(rt: HostRuntime) -> Result<(), Fail> {
-    let cases = [
-        ("C 1 ---++", "C 1 --+++", 15, DirKind::CloseWithoutOpen),
-        ("C 1 ---++", "C 1 ----+", 18, DirKind::NotClosed),
-        ("C 1 ----+", "C 1 ----|", 18, DirKind::NotClosed),
-        ("C 1 ----+", "C 1 ---++", 9, DirKind::CloseWithoutOpen),
-    ];
-    for (ends, others, line, kind) in cases {
-        let (before, behind) = TEST_ORDER.split_once(ends).ok_or("the ends are there")?;
-        let file = format!(in rt.alloc(); "{before}{others}{behind}")?;
+fn groups_stand_sixteen_deep_at_most(rt: HostRuntime) -> Result<(), Fail> {
+    for (count, fault) in [
+        (16, None),
+        (17, Some((37, DirKind::TooDeep))),
+        (300, Some((37, DirKind::TooDeep))),
+    ] {
+        let drawing = nested(rt.alloc(), count)?;
         assert_eq!(rt;
-            fault_in(read(&rt, rt.alloc(), file.as_str())),
-            Some((line, kind)),
-            "{others}"
+            fault_in(read_between(&rt, rt.alloc(), drawing.as_str())),
+            fault,
+            "{count} groups"
         );
     }
     Ok(())

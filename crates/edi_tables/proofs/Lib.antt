@@ -1,5 +1,7 @@
+pub mod Ahead
 pub mod AscendingLemmas
 pub mod Counting
+pub mod Counts
 pub mod Depths
 pub mod Distinct
 pub mod Faults
@@ -8,12 +10,14 @@ pub mod GroupLaws
 pub mod Lawful
 pub mod Made
 pub mod MissingLaws
+pub mod Next
 pub mod NodeReads
 pub mod OrderPlaced
 pub mod Outward
 pub mod PlaceLaws
 pub mod Placements
 pub mod Places
+pub mod Pushing
 pub mod Reaching
 pub mod Restored
 pub mod Rising

@@ -27,7 +27,7 @@ pub filter_some : (xs : List ℕ) → filter_map (λ (p : Option ℕ). p) (map S
 filter_some [] = refl
 filter_some (x ∷ xs) = ap (λ rest. x ∷ rest) (filter_some xs)
 
-last_index : (front : List ℕ) (x : ℕ) → slice_index (front ++ x ∷ []) (length (front ++ x ∷ []) - 1) ≡ x
+pub last_index : (front : List ℕ) (x : ℕ) → slice_index (front ++ x ∷ []) (length (front ++ x ∷ []) - 1) ≡ x
 last_index front x =
     let long : length (front ++ x ∷ []) ≡ length front + 1 = length-append front (x ∷ []) in
     get_or_push front x 0 (length (front ++ x ∷ []) - 1) (omega arith)

@@ -3,6 +3,7 @@ pub mod Collisions
 pub mod Extents
 pub mod First
 pub mod Forms
+pub mod Pairs
 pub mod Placement
 pub mod Places
 pub mod Rows

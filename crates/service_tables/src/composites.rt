@@ -1,7 +1,9 @@
 //! The composites of the service segments.
-ghost use Rattle.std.specs.Prelude.{◌≡◌};
+ghost use Rattle.std.specs.Prelude.{◌≡◌, true, IfSome};
+ghost use Rattle.std.specs.List.{list_all};
 ghost use Rattle.std.specs.Option.{option_copied};
 ghost use Rattle.service_tables.specs.ServiceTables.{service_parts_of};
+ghost use Rattle.service_tables.specs.Sound.{is_sound_part};
 
 use crate::macros::{C, M, part};
 use edi_tables::{Class, Code, PartDef, Repr};
@@ -49,7 +51,8 @@ const S011: &[PartDef] = &[part!(b"0098" N..3 M), part!(b"0104" N..3 C)];
 /// The components of a composite of the service segments in order, if there is one of that code.
 #[tactic(auto, unfolding(crate::specs::ServiceTables::service_parts_of))]
 pub fn service_composite(code: Code) -> Option<&'static [PartDef]>
-    ensures { option_copied result ≡ service_parts_of code.octets }
+    ensures parts { option_copied result ≡ service_parts_of code.octets }
+    ensures sound { IfSome result (λ parts. list_all is_sound_part parts.now ≡ true) }
 {
     match &code.octets {
         b"S001" => Some(S001),

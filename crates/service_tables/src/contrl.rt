@@ -1,7 +1,9 @@
 //! The segment table of CONTRL.
-ghost use Rattle.std.specs.Prelude.{◌≡◌, []};
+ghost use Rattle.std.specs.Prelude.{◌≡◌, true, []};
+ghost use Rattle.std.specs.List.{list_all};
 ghost use Rattle.edi_tables.specs.Rows.{table_faults};
 ghost use Rattle.service_tables.specs.ServiceTables.{contrl_table_rows};
+ghost use Rattle.service_tables.specs.Sound.{is_sound_row};
 
 use crate::macros::{C, M};
 use edi_tables::{TableRow, Tag};
@@ -48,6 +50,7 @@ const CONTRL: &[TableRow] = &[
 pub fn contrl_rows() -> &'static [TableRow]
     ensures rows { result.now ≡ contrl_table_rows }
     ensures lawful { table_faults result.now ≡ [] }
+    ensures sound { list_all is_sound_row result.now ≡ true }
 {
     CONTRL
 }

@@ -1,7 +1,9 @@
 //! The service segments.
-ghost use Rattle.std.specs.Prelude.{◌≡◌};
+ghost use Rattle.std.specs.Prelude.{◌≡◌, true, IfSome};
+ghost use Rattle.std.specs.List.{list_all};
 ghost use Rattle.std.specs.Option.{option_copied};
 ghost use Rattle.service_tables.specs.ServiceTables.{service_items_of};
+ghost use Rattle.service_tables.specs.Sound.{is_sound_item};
 
 use crate::macros::{C, M, alone, composite, part};
 use edi_tables::{Class, Code, ItemDef, PartDef, Repr, Tag};
@@ -79,10 +81,11 @@ const UCS: &[ItemDef] = &[alone!(b"0096" N..6 M), alone!(b"0085" An..3 C)];
 
 const UCD: &[ItemDef] = &[alone!(b"0085" An..3 M), composite!(b"S011" M)];
 
-/// The data elements of a service segment in order, if there is one of that tag.
-#[tactic(auto, unfolding(crate::specs::ServiceTables::service_items_of))]
+/// The data elements of a service segment in order, if there is one of that tag. Each composite of them is a service composite.
+#[tactic(auto, unfolding(crate::specs::ServiceTables::service_items_of, crate::specs::ServiceTables::service_parts_of))]
 pub fn service_segment(tag: Tag) -> Option<&'static [ItemDef]>
-    ensures { option_copied result ≡ service_items_of tag.octets }
+    ensures items { option_copied result ≡ service_items_of tag.octets }
+    ensures sound { IfSome result (λ items. list_all is_sound_item items.now ≡ true) }
 {
     match &tag.octets {
         b"UNB" => Some(UNB),

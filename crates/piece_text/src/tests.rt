@@ -120,22 +120,41 @@ fn a_value_over_three_pieces(rt: HostRuntime) -> Result<(), Fail> {
     Ok(())
 }
 
-#[test]
-fn typing_leaves_few_pieces(rt: HostRuntime) -> Result<(), Fail> {
-    let mut text = Text::of_bytes(rt.alloc(), b"")?;
-    for _ in 0..600 {
-        let end = text.len();
-        text = replaced(&rt, rt.alloc(), &text, (end, 0, b"A"))?;
-    }
-    let last = expect(&rt, rt.alloc(), &text, [&[b'A'; 600], &[], &[]])?;
-    assert_eq!(rt; last, 512);
+/// The text after octets were put in and taken out again, many times at one place.
+fn edited_and_back(
+    rt: &impl Abort,
+    alloc: Global,
+    mut text: Text,
+    at: usize,
+) -> Result<Text, AllocError> {
     for _ in 0..40 {
-        text = replaced(&rt, rt.alloc(), &text, (300, 0, b"BC"))?;
-        text = replaced(&rt, rt.alloc(), &text, (300, 2, b""))?;
+        text = replaced(rt, alloc, &text, (at, 0, b"BC"))?;
+        text = replaced(rt, alloc, &text, (at, 2, b""))?;
+    }
+    Ok(text)
+}
+
+#[test]
+fn edits_at_one_place_leave_few_pieces(rt: HostRuntime) -> Result<(), Fail> {
+    let mut typed = Text::of_bytes(rt.alloc(), b"")?;
+    for _ in 0..600 {
+        let end = typed.len();
+        typed = replaced(&rt, rt.alloc(), &typed, (end, 0, b"A"))?;
     }
     assert_eq!(rt;
-        expect(&rt, rt.alloc(), &text, [&[b'A'; 600], &[], &[]])?,
+        expect(&rt, rt.alloc(), &typed, [&[b'A'; 600], &[], &[]])?,
         512
+    );
+    let typed = edited_and_back(&rt, rt.alloc(), typed, 300)?;
+    assert_eq!(rt;
+        expect(&rt, rt.alloc(), &typed, [&[b'A'; 600], &[], &[]])?,
+        512
+    );
+    let long = Text::of_bytes(rt.alloc(), &[b'A'; 1400])?;
+    let long = edited_and_back(&rt, rt.alloc(), long, 700)?;
+    assert_eq!(rt;
+        expect(&rt, rt.alloc(), &long, [&[b'A'; 1400], &[], &[]])?,
+        700
     );
     Ok(())
 }

@@ -167,7 +167,7 @@ impl<T: Measured> Seq<T> {
         Iter::over(root, i)
     }
 
-    /// The version in which this item stands at place `i` and those from there on follow it. After an error the item is dropped.
+    /// The version with this item at place `i`, and after it those from there on. After an error the item is dropped.
     pub fn insert(&self, alloc: Global, i: usize, item: T) -> Result<Seq<T>, AllocError>
         requires within { i ≤ length self.now }
         requires fits { length self.now + 1 < 2 ^ 32 }

@@ -10,15 +10,15 @@ loop-start-init g c = record { service = c.read_service-service.ensures.service;
 pub loop-start-preserved : goal.loop-start-preserved
 loop-start-preserved g c =
     let lexed = c.in-Ended.ensures.lexed c.loop-start.count c.loop-start.invariant.boundary in
-    let low = lexed.2 in
-    let high = lexed.3 in
+    let low = lexed.low in
+    let high = lexed.ordered in
     let few = c.loop-start.invariant.few in
     record {
       service = c.loop-start.invariant.service;
       usable = c.loop-start.invariant.usable;
-      boundary = lexed.1;
+      boundary = lexed.next;
       few = omega arith;
-      lines = lines_next _ _ _ _ _ _ _ _ _ lexed.0 c.loop-start.invariant.lines c.in_ok-put_segment-in-Ended.ensures;
+      lines = lines_next _ _ _ _ _ _ _ _ _ lexed.segment c.loop-start.invariant.lines c.in_ok-put_segment-in-Ended.ensures;
     }
 
 pub put_tail-requires : goal.put_tail-requires

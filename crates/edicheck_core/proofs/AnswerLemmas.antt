@@ -9,14 +9,15 @@ use Rattle.edi_ports.specs.declared.shelf.ShelfFile.{ShelfFile}
 use Rattle.edi_ports.specs.Read.{TakesFront}
 use Rattle.edi_ports.specs.Sink.{IsCut}
 use Rattle.dir_compile.specs.declared.parts.Parts.{Parts}
-use Rattle.dir_load.specs.declared.stop.LoadStop.{LoadStop}
+use Rattle.dir_load.specs.declared.stop.Refusal.{Refusal}
 use Rattle.dir_load.specs.Load.{load_of}
 use Rattle.text_printer.specs.declared.text.Detail.{Detail}
 use Rattle.text_printer.specs.Printing.{printed_text}
 use Rattle.edicheck_core.specs.declared.status.Status.{Status}
 use Rattle.edicheck_core.specs.declared.status.Status.TheVariants.{Done, Memory, ReadFault}
 use Rattle.edicheck_core.specs.Outcome.{Outcome, done, memory_refused, too_large}
-use Rattle.edicheck_core.specs.Answer.{IsOneOf, after_loading, listed}
+use Rattle.edicheck_core.specs.Answer.{IsOneOf}
+use Rattle.edicheck_core.specs.Made.{after_loading, listed}
 
 -- what holds of whatever is told holds of what is told
 pub if_told : {A : Type 0} (told : Option A) (P : A → Type 0) → ((x : A) → told ≡ Some x → P x) → IfSome told P
@@ -53,14 +54,14 @@ listed_long detail (Some text) now Failed Needed due is taken =
     let same = is ∙ sym (listed-long detail text (omega arith)) in
     inl ((text, same), same)
 
--- with the directory that was loaded came what comes next, unless memory was refused
-pub after_loaded : (next : Parts → Outcome) (name : List ℕ) (files : Option (List ShelfFile)) (directory : Parts) (Failed : Type 0) (due : Outcome)
-    → ((told : List ShelfFile) → files ≡ Some told → load_of told name ≡ Ok directory) → (due ≡ next directory) ⊎ (due ≡ memory_refused)
-    → IsOneOf ((loaded : Result Parts LoadStop) × (due ≡ after_loading next loaded)) (option_map (λ told. after_loading next (load_of told name)) files) Failed (Unit {0}) due
-after_loaded next name None directory Failed due loads (inl made) = inl ((Ok directory, made), tt)
-after_loaded next name (Some told) directory Failed due loads (inl made) =
-    inl ((Ok directory, made), made ∙ sym (ap (after_loading next) (loads told refl)))
-after_loaded next name files directory Failed due loads (inr refused) = inr (inr (refused, tt))
+-- what comes next with what was loaded, or its refusal, unless memory was refused
+pub after_loaded : (next : Parts → Outcome) (name : List ℕ) (files : Option (List ShelfFile)) (loaded : Result Parts Refusal) (Failed : Type 0) (due : Outcome)
+    → ((told : List ShelfFile) → files ≡ Some told → load_of told name ≡ loaded) → (due ≡ after_loading next loaded) ⊎ (due ≡ memory_refused)
+    → IsOneOf ((loaded : Result Parts Refusal) × (due ≡ after_loading next loaded)) (option_map (λ told. after_loading next (load_of told name)) files) Failed (Unit {0}) due
+after_loaded next name None loaded Failed due loads (inl made) = inl ((loaded, made), tt)
+after_loaded next name (Some told) loaded Failed due loads (inl made) =
+    inl ((loaded, made), made ∙ sym (ap (after_loading next) (loads told refl)))
+after_loaded next name files loaded Failed due loads (inr refused) = inr (inr (refused, tt))
 
 -- what was printed is what was due, unless memory was refused
 pub printed_or_refused : {E : Type 0} (printed : Result (List ℕ) E) (octets : List ℕ) (due : Outcome) → IfOk printed (λ lines. lines ≡ octets)

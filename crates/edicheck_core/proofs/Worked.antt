@@ -4,7 +4,7 @@ use Rattle.std.specs.Prelude.{codes}
 use Rattle.std.specs.Fmt.{digits}
 use Rattle.edi_octets.specs.declared.fault.DirKind.TheVariants.{CloseWithoutOpen}
 use Rattle.dir_load.specs.declared.stop.FileFault.TheVariants.{Grammar}
-use Rattle.dir_load.specs.declared.stop.LoadStop.TheVariants.{File}
+use Rattle.dir_load.specs.declared.stop.Refusal.TheVariants.{File}
 use Rattle.edicheck_core.specs.declared.status.Status.TheVariants.{BadDirectory}
 use Rattle.edicheck_core.specs.Refusal.{refusal}
 

@@ -2,33 +2,37 @@
 use Rattle.std.specs.Prelude.{ℕ, List, [], ◌∷◌, ◌++◌, codes, decimal}
 use Rattle.edi_octets.specs.declared.fault.DirFault.{DirFault}
 use Rattle.edi_octets.specs.DirKind as file
+use Rattle.edi_ports.specs.declared.named.Unread.{Unread}
+use Rattle.edi_ports.specs.declared.named.Unread.TheVariants.{Absent, TooLarge}
 use Rattle.dir_compile.specs.CompileKind as parts
 use Rattle.dir_compile.specs.declared.stop.CompileKind.{CompileKind}
 use Rattle.dir_load.specs.declared.stop.FileFault.{FileFault}
-use Rattle.dir_load.specs.declared.stop.FileFault.TheVariants.{Absent, TooLarge, Grammar}
-use Rattle.dir_load.specs.declared.stop.LoadStop.{LoadStop}
-use Rattle.dir_load.specs.declared.stop.LoadStop.TheVariants.{File, Compile, Fault, Memory}
+use Rattle.dir_load.specs.declared.stop.FileFault.TheVariants as fault
+use Rattle.dir_load.specs.declared.stop.Refusal.{Refusal}
+use Rattle.dir_load.specs.declared.stop.Refusal.TheVariants.{File, Parts}
 use Rattle.edicheck_core.specs.declared.status.Status.TheVariants as status
-use Rattle.edicheck_core.specs.Outcome.{Outcome, memory_refused, read_failed, refused, too_large}
+use Rattle.edicheck_core.specs.Outcome.{Outcome, refused, too_large}
+
+-- there are no octets under a name
+abbrev pub unread : List ℕ → Unread → Outcome
+unread name Absent = refused status.Absent (codes "fault absent " ++ name)
+unread name TooLarge = too_large name
 
 -- the named file breaks a rule of its grammar at a line
 abbrev pub broken : List ℕ → DirFault → Outcome
-broken name fault =
-    refused status.BadDirectory (codes "fault directory " ++ name ++ codes " " ++ decimal fault.line ++ codes " " ++ file.word_of fault.kind)
+broken name found =
+    refused status.BadDirectory (codes "fault directory " ++ name ++ codes " " ++ decimal found.line ++ codes " " ++ file.word_of found.kind)
 
 -- the named file gives no definitions
 abbrev pub file_refused : List ℕ → FileFault → Outcome
-file_refused name Absent = refused status.Absent (codes "fault absent " ++ name)
-file_refused name TooLarge = too_large name
-file_refused name (Grammar fault) = broken name fault
+file_refused name (fault.Unread why) = unread name why
+file_refused name (fault.Grammar found) = broken name found
 
 -- the parts of a directory break a rule, which concerns this name
 abbrev pub parts_refused : CompileKind → List ℕ → Outcome
 parts_refused kind name = refused status.BadDirectory (codes "fault compile " ++ parts.word_of kind ++ codes " " ++ name)
 
 -- files that give no directory
-abbrev pub refusal : LoadStop → Outcome
+abbrev pub refusal : Refusal → Outcome
 refusal (File name fault) = file_refused name fault
-refusal (Compile kind name) = parts_refused kind name
-refusal Fault = read_failed
-refusal Memory = memory_refused
+refusal (Parts kind name) = parts_refused kind name

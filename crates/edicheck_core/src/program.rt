@@ -6,7 +6,8 @@ ghost use Rattle.edi_ports.specs.Sink.{IsCut};
 ghost use Rattle.edicheck_core.specs.Outcome.{Outcome, memory_refused};
 ghost use Rattle.edicheck_core.specs.Form.{form_of, needs_of};
 ghost use Rattle.edicheck_core.specs.Inputs.{inputs_of, held_of};
-ghost use Rattle.edicheck_core.specs.Answer.{Grew, HasFailed, IsAnswer, IsDue, IsFinish, Takes, made_by};
+ghost use Rattle.edicheck_core.specs.Answer.{Grew, HasFailed, IsAnswer, IsDue, IsFinish, Takes};
+ghost use Rattle.edicheck_core.specs.Made.{made_by};
 
 use crate::help::{HELP, VERSION};
 use crate::outcome::Made;

@@ -3,28 +3,27 @@ ghost use Rattle.std.specs.Prelude.{◌≡◌, ◌⊎◌, ◌++◌, [], ◌∷�
 ghost use Rattle.edi_octets.specs.DirKind.{word_of as rule_word};
 ghost use Rattle.dir_compile.specs.CompileKind.{word_of as parts_word};
 ghost use Rattle.edicheck_core.specs.Outcome.{memory_refused};
-ghost use Rattle.edicheck_core.specs.Refusal.{file_refused, parts_refused, refusal};
+ghost use Rattle.edicheck_core.specs.Refusal.{file_refused, refusal};
 
 use crate::Status;
 use crate::outcome::Made;
 use dir_compile::CompileKind;
-use dir_load::{FileFault, LoadStop};
+use dir_load::{FileFault, Refusal};
 use edi_octets::{DirFault, put_decimal};
+use edi_ports::Unread;
 use edi_tables::Chunk;
 use std::alloc::{AllocError, Global};
 
 /// What files that give no directory come to, unless memory was refused for its line.
-pub fn refuse(alloc: Global, stop: &LoadStop) -> Made
-    ensures { (result ≡ refusal stop.now) ⊎ (result ≡ memory_refused) }
+pub fn refuse(alloc: Global, why: &Refusal) -> Made
+    ensures { (result ≡ refusal why.now) ⊎ (result ≡ memory_refused) }
 {
-    match stop {
-        LoadStop::File { name, fault } => refuse_file(alloc, name.octets(), *fault),
-        LoadStop::Compile { kind, name } => {
+    match why {
+        Refusal::File { name, fault } => refuse_file(alloc, name.octets(), *fault),
+        Refusal::Parts { kind, name } => {
             let line = print_parts(alloc, *kind, name.octets());
             Made::lines(Status::BadDirectory, line)
         }
-        LoadStop::Fault => Made::read_failed(),
-        LoadStop::Memory => Made::memory_refused(),
     }
 }
 
@@ -33,10 +32,10 @@ fn refuse_file(alloc: Global, name: &[u8], fault: FileFault) -> Made
     ensures { (result ≡ file_refused name.now fault) ⊎ (result ≡ memory_refused) }
 {
     match fault {
-        FileFault::Absent => {
+        FileFault::Unread(Unread::Absent) => {
             Made::lines(Status::Absent, print_named(alloc, b"fault absent ", name))
         }
-        FileFault::TooLarge => {
+        FileFault::Unread(Unread::TooLarge) => {
             Made::lines(Status::TooLarge, print_named(alloc, b"fault large ", name))
         }
         FileFault::Grammar(fault) => {

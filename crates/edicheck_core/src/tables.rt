@@ -3,21 +3,22 @@ ghost use Rattle.std.specs.Prelude.{◌≡◌, ◌≢◌, Result};
 ghost use Rattle.std.specs.Option.{option_map as map_told};
 ghost use Rattle.edi_ports.specs.Faults.{HasRisen};
 ghost use Rattle.dir_compile.specs.declared.parts.Parts.{Parts};
-ghost use Rattle.dir_load.specs.declared.stop.LoadStop.{LoadStop as Stop};
+ghost use Rattle.dir_load.specs.declared.stop.Refusal.{Refusal};
 ghost use Rattle.dir_load.specs.Load.{load_of};
-ghost use Rattle.edicheck_core.specs.Answer.{IsOneOf, tabled};
+ghost use Rattle.edicheck_core.specs.Answer.{IsOneOf};
+ghost use Rattle.edicheck_core.specs.Made.{tabled};
 
 use crate::Status;
 use crate::outcome::Made;
 use crate::refusal::refuse;
-use dir_load::load;
+use dir_load::{LoadStop, load};
 use edi_ports::Shelf;
 use std::alloc::Global;
 use table_printer::print_tables;
 
 /// What the tables of the directory of that manifest come to.
 pub fn tell_tables<S: Shelf>(alloc: Global, manifest: &[u8], shelf: &mut S) -> Made
-    ensures due { IsOneOf ((loaded : Result Parts Stop) × (result ≡ tabled loaded))
+    ensures due { IsOneOf ((loaded : Result Parts Refusal) × (result ≡ tabled loaded))
         (map_told (λ files. tabled (load_of files manifest.now)) (S.files shelf.old))
         (HasRisen (S.faults shelf.old) (S.faults shelf.new)) (Unit {0}) result }
     ensures files { S.files shelf.new ≡ S.files shelf.old }
@@ -25,6 +26,8 @@ pub fn tell_tables<S: Shelf>(alloc: Global, manifest: &[u8], shelf: &mut S) -> M
 {
     match load(alloc, shelf, manifest) {
         Ok(directory) => Made::lines(Status::Done, print_tables(alloc, &directory)),
-        Err(stop) => refuse(alloc, &stop),
+        Err(LoadStop::Refused(why)) => refuse(alloc, &why),
+        Err(LoadStop::Fault) => Made::read_failed(),
+        Err(LoadStop::Memory) => Made::memory_refused(),
     }
 }

@@ -15,7 +15,8 @@ const MANIFEST: &[u8] = b"directory D 96A UN\nmessage t\n";
 const MESSAGE: &[u8] =
     b"Message Type : TSTMSG\n0010 UNH Message header M 1\n0020 UNT Message trailer M 1\n";
 
-const TABLE: &[u8] = b"directory D 96A UN\ntable TSTMSG 2\n0 0 UNH M 1\n1 0 UNT M 1\ncollisions 0\n";
+const TABLE: &[u8] =
+    b"directory D 96A UN\ntable TSTMSG 2\n0 0 UNH M 1\n1 0 UNT M 1\ncollisions 0\n";
 
 // The calls that fail, of the input, the shelf and the sink. Each call moves one octet.
 #[derive(Clone, Copy)]

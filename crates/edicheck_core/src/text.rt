@@ -2,7 +2,8 @@
 ghost use Rattle.std.specs.Prelude.{◌≡◌, ◌≢◌, List, ℕ, true};
 ghost use Rattle.std.specs.Option.{option_map as map_told};
 ghost use Rattle.edi_ports.specs.Faults.{HasRisen};
-ghost use Rattle.edicheck_core.specs.Answer.{IsOneOf, TakesText, listed};
+ghost use Rattle.edicheck_core.specs.Answer.{IsOneOf, TakesText};
+ghost use Rattle.edicheck_core.specs.Made.{listed};
 
 use crate::Status;
 use crate::outcome::Made;

@@ -20,6 +20,6 @@ returns-in-None c =
     let tag = c.in-Some.tag in
     let known = contains-named segment_name c.args.parts.now.segments tag.octets _ c.requires.segments in
     let absent = not-at _ _ (sym c.if-contains.false ∙ c.contains.ensures ∙ known) in
-    let unserved = ap (λ o. not (is_some o)) (sym c.in-None.ensures) in
+    let unserved = ap (λ o. not (is_some o)) (sym c.in-None.ensures.items) in
     subst (λ t. IsFirstFault c.fault.result (tag_faults c.args.parts.now t)) (sym c.in-Some.is)
     (first-when c.fault.result _ UnknownSegment tag.octets (λ i. absent i && unserved i) c.fault.ensures)

@@ -1,128 +1,89 @@
 -- What a line of a manifest adds to what was gathered, and where it stops.
-use Rattle.std.proofs.Common.{◌≡◌, ◌+◌, ◌<◌, ◌++◌, ℕ, List, [], ◌∷◌, length, take, drop, get_or, Vec, Result, Ok, Err, MatchResult, OnOk, refl, sym, subst, ap, ◌∙◌, append-nil, arith, length-append, add-one, drop-cons}
-use Rattle.std.specs.declared.alloc.Global.{Global}
+use Rattle.std.proofs.Common.{◌≡◌, ◌+◌, ◌<◌, ◌++◌, ℕ, List, [], ◌∷◌, length, take, drop, get_or, Option, Some, None, IfSome, Result, Ok, Err, refl, sym, subst, ap, ◌∙◌, append-nil, add-one, drop-cons}
 use Rattle.std.specs.List.{flat_map}
-use Rattle.std.proofs.lemmas.List.Concat.{flat_map-append}
+use Rattle.std.specs.Result.{result_map_both, result_unwrap_or}
 use Rattle.std.proofs.lemmas.List.{take-append-drop}
-use Rattle.std.proofs.lemmas.List.Elements.{All-push}
-use Rattle.edi_tables.specs.declared.element.ElementDef.{ElementDef}
-use Rattle.edi_tables.specs.declared.element.CodeList.{CodeList}
+use Rattle.edi_tables.specs.First.{Answers, unless_faulty}
 use Rattle.edi_tables.specs.declared.element.CompositeDef.{CompositeDef}
 use Rattle.edi_tables.specs.declared.segment.SegmentDef.{SegmentDef}
-use Rattle.edi_tables.specs.declared.segment.MessageDef.{MessageDef}
 use Rattle.edi_octets.specs.declared.fault.DirFault.{DirFault}
-use Rattle.edi_octets.specs.Profile.{with_earlier_from}
-use Rattle.edi_octets.proofs.EarlierLemmas.{judged-push, judged-first}
+use Rattle.edi_octets.specs.Profile.{with_earlier, with_earlier_from}
+use Rattle.edi_octets.proofs.EarlierLemmas.{judged-push, judged-first, judged-none}
 use Rattle.edi_ports.specs.declared.shelf.ShelfFile.{ShelfFile}
-use Rattle.edi_ports.specs.Shelf.{file_named}
-use Rattle.dir_lists.specs.Elements.{elements_in}
-use Rattle.dir_lists.specs.Codes.{codes_in}
-use Rattle.dir_segments.specs.Composites.{composites_in}
+use Rattle.edi_ports.specs.declared.named.Unread.{Unread}
+use Rattle.edi_ports.specs.Named.{octets_named}
 use Rattle.dir_segments.specs.Segments.{segments_in}
-use Rattle.dir_messages.specs.Message.{message_in}
-use Rattle.dir_load.specs.declared.gather.Gathered.{Gathered}
 use Rattle.dir_load.specs.declared.manifest.FileKind.{FileKind}
 use Rattle.dir_load.specs.declared.manifest.FileKind.TheVariants.{Elements, Codes, Composites, Segments, Message}
 use Rattle.dir_load.specs.declared.manifest.FileLine.{FileLine}
 use Rattle.dir_load.specs.declared.stop.FileFault.{FileFault}
+use Rattle.dir_load.specs.declared.stop.FileFault.TheVariants as fault
+use Rattle.dir_load.specs.declared.stop.Refusal.{Refusal}
+use Rattle.dir_load.specs.declared.stop.Refusal.TheVariants.{File}
 use Rattle.dir_load.specs.declared.stop.LoadStop.{LoadStop}
-use Rattle.dir_load.specs.declared.stop.LoadStop.TheVariants.{File, Compile, Fault, Memory}
-use Rattle.dir_load.specs.Gathered.{Adds, IsFirstStop, IsGathered, IsNamed, TellsFault, octets_named}
-use Rattle.dir_load.specs.Load.{elements_on, lists_on, composites_on, composites_of, segments_on, messages_on, line_stops, file_stops, file_by, found_in, found_one, stops_in, unless_broken}
-use Rattle.dir_load.proofs.NameLemmas.{six-message_in, six-unless_broken}
-use Rattle.dir_load.proofs.ReadLemmas.{read_by-octets, first-told}
+use Rattle.dir_load.specs.declared.stop.LoadStop.TheVariants.{Refused, Fault, Memory}
+use Rattle.dir_load.specs.Gathered.{joined}
+use Rattle.dir_load.specs.Load.{Found, and_then, composites_of, file_after, file_by, file_on, found_by, found_on, map_err, members_of, nothing, refusals_in, refusals_of}
+use Rattle.dir_load.specs.Stop.{refusal_in}
 
--- one more line
-flat_map-push : {X A : Type 0} (f : X → List A) (xs : List X) (x : X) → flat_map f (xs ++ x ∷ []) ≡ flat_map f xs ++ f x
-flat_map-push f xs x = flat_map-append f xs (x ∷ []) ∙ ap (λ here. flat_map f xs ++ here) (append-nil (f x))
+-- a segment file has no composites, whatever composites are known
+no_composites : (read : Result (List ℕ) Unread) (grammar : List ℕ → Result (List SegmentDef) DirFault) → (result_unwrap_or (and_then (map_err fault.Unread read) (λ octets. map_err fault.Grammar (result_map_both (λ found. record nothing { segments = found }) (λ (f : DirFault). f) (grammar octets)))) nothing).composites ≡ []
+no_composites (Err unread) grammar = refl
+no_composites (Ok octets) grammar = judged (grammar octets)
+  where
+    judged : (file : Result (List SegmentDef) DirFault) → (result_unwrap_or (map_err fault.Grammar (result_map_both (λ found. record nothing { segments = found }) (λ (f : DirFault). f) file)) nothing).composites ≡ []
+    judged (Ok found) = refl
+    judged (Err broken) = refl
 
--- what a line behind these adds, or the stop at it
-abbrev pub Turns : List ShelfFile → List FileLine → FileLine → Gathered → Result Unit LoadStop → Type 0
-Turns files earlier line after result =
-    MatchResult result (λ _. (line_stops files earlier line ≡ []) × IsGathered files (earlier ++ line ∷ []) after) (λ stop. IsFirstStop stop (line_stops files earlier line))
+module _ (files : List ShelfFile) where
+  -- the composites of a file don't depend on those that are known
+  composites-known : (kind : FileKind) (known : List CompositeDef) (name : List ℕ) → (result_unwrap_or (file_by (found_by kind known) files name) nothing).composites ≡ (result_unwrap_or (file_by (found_by kind []) files name) nothing).composites
+  composites-known Elements known name = refl
+  composites-known Codes known name = refl
+  composites-known Composites known name = refl
+  composites-known Segments known name =
+      no_composites (octets_named 4194304 files name) (segments_in known) ∙ sym (no_composites (octets_named 4194304 files name) (segments_in []))
+  composites-known Message known name = refl
 
-module _ (files : List ShelfFile) (earlier : List FileLine) where
-  -- what a line's file gives stands behind what was gathered
-  IsGathered-more : (line : FileLine) (before after : Gathered) → IsGathered files earlier before → after.elements.items ≡ before.elements.items ++ elements_on files line → after.lists.items ≡ before.lists.items ++ lists_on files line → after.composites.items ≡ before.composites.items ++ composites_on files line → after.segments.items ≡ before.segments.items ++ segments_on files earlier line → after.messages.items ≡ before.messages.items ++ messages_on files line → IsGathered files (earlier ++ line ∷ []) after
-  IsGathered-more line before after held elements lists composites segments messages =
-      record {
-        elements = elements ∙ ap (λ l. l ++ elements_on files line) held.elements ∙ sym (flat_map-push (elements_on files) earlier line);
-        lists = lists ∙ ap (λ l. l ++ lists_on files line) held.lists ∙ sym (flat_map-push (lists_on files) earlier line);
-        composites = composites ∙ ap (λ l. l ++ composites_on files line) held.composites ∙ sym (flat_map-push (composites_on files) earlier line);
-        segments = segments ∙ ap (λ l. l ++ segments_on files earlier line) held.segments ∙ sym (judged-push (λ p. segments_on files p.0 p.1) earlier line);
-        messages = messages ∙ ap (λ l. l ++ messages_on files line) held.messages ∙ sym (flat_map-push (messages_on files) earlier line);
-      }
+  composites-from : (earlier lines : List FileLine) → flat_map (λ p. (result_unwrap_or (file_after files p.0 p.1) nothing).composites) (with_earlier_from earlier lines) ≡ composites_of files lines
+  composites-from earlier [] = refl
+  composites-from earlier (line ∷ lines) =
+      ap (λ here. here ++ flat_map (λ p. (result_unwrap_or (file_after files p.0 p.1) nothing).composites) (with_earlier_from (earlier ++ line ∷ []) lines)) (composites-known line.kind (composites_of files earlier) line.name)
+      ∙ ap (λ later. (result_unwrap_or (file_on files [] line) nothing).composites ++ later) (composites-from (earlier ++ line ∷ []) lines)
 
-  none-more : {A : Type 0} (xs : List A) → xs ≡ xs ++ []
-  none-more xs = sym (append-nil xs)
+  module _ (earlier : List FileLine) (line : FileLine) where
+    -- one more line
+    found_on-push : found_on files (earlier ++ line ∷ []) ≡ joined (found_on files earlier) (result_unwrap_or (file_after files earlier line) nothing)
+    found_on-push =
+        let file : List FileLine × FileLine → Found = λ p. result_unwrap_or (file_after files p.0 p.1) nothing in
+        rw (judged-push (λ p. (file p).elements) earlier line, judged-push (λ p. (file p).lists) earlier line, judged-push (λ p. (file p).composites) earlier line, judged-push (λ p. (file p).segments) earlier line, judged-push (λ p. (file p).messages) earlier line) refl
 
-  module _ (name octets : List ℕ) (told : octets_named files name ≡ Ok octets) (before : Gathered) (held : IsGathered files earlier before) where
-    file_by-octets : {A : Type 0} (grammar : List ℕ → Result A DirFault) (file : Result A FileFault) → unless_broken (grammar octets) ≡ file → file_by grammar files name ≡ file
-    file_by-octets grammar file is = read_by-octets grammar (file_named name files) octets told ∙ is
+    -- what the file of a line gave was added
+    pub added-turn : (old new : Found) → old ≡ found_on files earlier → result_map_both (joined old) (λ (f : FileFault). f) (file_on files old.composites line) ≡ Ok new → (refusals_in line.name (file_after files earlier line) ≡ []) × (new ≡ found_on files (earlier ++ line ∷ []))
+    added-turn old new held added = by (file_after files earlier line) refl (ap (λ composites. result_map_both (joined old) (λ (f : FileFault). f) (file_on files composites line)) known ∙ added)
+      where
+        known : composites_of files earlier ≡ old.composites
+        known = sym (ap (λ (f : Found). f.composites) held ∙ composites-from [] earlier)
 
-    told-stop : {A : Type 0} (grammar : List ℕ → Result A DirFault) (stop : LoadStop) → TellsFault name stop (unless_broken (grammar octets)) → IsFirstStop stop (stops_in name (file_by grammar files name))
-    told-stop grammar stop tells =
-        subst (λ file. IsFirstStop stop (stops_in name file)) (sym (file_by-octets grammar _ refl)) (first-told name stop (unless_broken (grammar octets)) tells)
+        by : (file : Result Found FileFault) → file ≡ file_after files earlier line → result_map_both (joined old) (λ (f : FileFault). f) file ≡ Ok new → (refusals_in line.name (file_after files earlier line) ≡ []) × (new ≡ found_on files (earlier ++ line ∷ []))
+        by (Ok found) is made =
+            let e : joined old found ≡ new = cc in
+            (ap (refusals_in line.name) (sym is), sym e ∙ ap (λ o. joined o found) held ∙ ap (λ r. joined (found_on files earlier) (result_unwrap_or r nothing)) is ∙ sym found_on-push)
+        by (Err broken) is made = cc
 
-    -- a file of elements
-    pub turns-elements : (now : Vec ElementDef Global) (result : Result Unit LoadStop) → Adds (λ found. found) before.elements.items now.items name result (unless_broken (elements_in octets)) → Turns files earlier (record { kind = Elements; name = name }) (record before { elements = now }) result
-    turns-elements now (Ok done) adds =
-        let is = file_by-octets elements_in (Ok adds.0) adds.1 in
-        (ap (stops_in name) is, IsGathered-more (record { kind = Elements; name = name }) before (record before { elements = now }) held (adds.2 ∙ ap (λ file. before.elements.items ++ found_in file) (sym is)) (none-more before.lists.items) (none-more before.composites.items) (none-more before.segments.items) (none-more before.messages.items))
-    turns-elements now (Err stop) adds = told-stop elements_in stop adds
+    -- the file of a line is refused
+    pub refused-turn : (old : Found) → old ≡ found_on files earlier → (refusal : Refusal) → map_err (File line.name) (file_on files old.composites line) ≡ Err refusal → refusals_in line.name (file_after files earlier line) ≡ refusal ∷ []
+    refused-turn old held refusal is = by (file_after files earlier line) (ap (λ known. map_err (File line.name) (file_on files known line)) (sym (ap (λ (f : Found). f.composites) held ∙ composites-from [] earlier)) ∙ is)
+      where
+        by : (file : Result Found FileFault) → map_err (File line.name) file ≡ Err refusal → refusals_in line.name file ≡ refusal ∷ []
+        by (Ok found) told = cc
+        by (Err broken) told = let e : File line.name broken ≡ refusal = cc in ap (λ r. r ∷ []) e
 
-    -- a file of code lists
-    pub turns-codes : (now : Vec CodeList Global) (result : Result Unit LoadStop) → Adds (λ found. found) before.lists.items now.items name result (unless_broken (codes_in octets)) → Turns files earlier (record { kind = Codes; name = name }) (record before { lists = now }) result
-    turns-codes now (Ok done) adds =
-        let is = file_by-octets codes_in (Ok adds.0) adds.1 in
-        (ap (stops_in name) is, IsGathered-more (record { kind = Codes; name = name }) before (record before { lists = now }) held (none-more before.elements.items) (adds.2 ∙ ap (λ file. before.lists.items ++ found_in file) (sym is)) (none-more before.composites.items) (none-more before.segments.items) (none-more before.messages.items))
-    turns-codes now (Err stop) adds = told-stop codes_in stop adds
-
-    -- a file of composites
-    pub turns-composites : (now : Vec CompositeDef Global) (result : Result Unit LoadStop) → Adds (λ found. found) before.composites.items now.items name result (unless_broken (composites_in octets)) → Turns files earlier (record { kind = Composites; name = name }) (record before { composites = now }) result
-    turns-composites now (Ok done) adds =
-        let is = file_by-octets composites_in (Ok adds.0) adds.1 in
-        (ap (stops_in name) is, IsGathered-more (record { kind = Composites; name = name }) before (record before { composites = now }) held (none-more before.elements.items) (none-more before.lists.items) (adds.2 ∙ ap (λ file. before.composites.items ++ found_in file) (sym is)) (none-more before.segments.items) (none-more before.messages.items))
-    turns-composites now (Err stop) adds = told-stop composites_in stop adds
-
-    -- a file of segments, read with the composites so far
-    turns-segments_with : (known : List CompositeDef) → known ≡ composites_of files earlier → (now : Vec SegmentDef Global) (result : Result Unit LoadStop) → Adds (λ found. found) before.segments.items now.items name result (unless_broken (segments_in (composites_of files earlier) octets)) → Turns files earlier (record { kind = Segments; name = name }) (record before { segments = now }) result
-    turns-segments_with known same now (Ok done) adds =
-        let is = file_by-octets (segments_in (composites_of files earlier)) (Ok adds.0) adds.1 in
-        (ap (stops_in name) is, IsGathered-more (record { kind = Segments; name = name }) before (record before { segments = now }) held (none-more before.elements.items) (none-more before.lists.items) (none-more before.composites.items) (adds.2 ∙ ap (λ file. before.segments.items ++ found_in file) (sym is)) (none-more before.messages.items))
-    turns-segments_with known same now (Err stop) adds = told-stop (segments_in (composites_of files earlier)) stop adds
-
-    pub turns-segments : (now : Vec SegmentDef Global) (result : Result Unit LoadStop) → Adds (λ found. found) before.segments.items now.items name result (unless_broken (segments_in before.composites.items octets)) → Turns files earlier (record { kind = Segments; name = name }) (record before { segments = now }) result
-    turns-segments now result adds =
-        turns-segments_with before.composites.items held.composites now result (subst (λ known. Adds (λ found. found) before.segments.items now.items name result (unless_broken (segments_in known octets))) held.composites adds)
-
-    -- a message file
-    pub turns-message : (now : Vec MessageDef Global) (result : Result Unit LoadStop) → Adds (λ found. found ∷ []) before.messages.items now.items name result (unless_broken (message_in octets)) → Turns files earlier (record { kind = Message; name = name }) (record before { messages = now }) result
-    turns-message now (Ok done) adds =
-        let is = file_by-octets message_in (Ok adds.0) adds.1 in
-        (ap (stops_in name) is, IsGathered-more (record { kind = Message; name = name }) before (record before { messages = now }) held (none-more before.elements.items) (none-more before.lists.items) (none-more before.composites.items) (none-more before.segments.items) (adds.2 ∙ ap (λ file. before.messages.items ++ found_one file) (sym is)))
-    turns-message now (Err stop) adds = told-stop message_in stop adds
-
-  -- the kind of a line is known
-  pub turns-at : (line : FileLine) (kind : FileKind) (after : Gathered) (result : Result Unit LoadStop) → line.kind ≡ kind → Turns files earlier (record { kind = kind; name = line.name }) after result → Turns files earlier line after result
-  turns-at line kind after result is turns =
-      subst (λ k. Turns files earlier (record { kind = k; name = line.name }) after result) (sym is) turns
-
--- nothing stopped so far, and this is the first stop at the next line: it is the first of all
-pub first-turn : (files : List ShelfFile) (lines : List FileLine) (i : ℕ) (line : FileLine) (stop : LoadStop) → i < length lines → line ≡ get_or lines i line → file_stops files (take i lines) ≡ [] → IsFirstStop stop (line_stops files (take i lines) line) → IsFirstStop stop (file_stops files lines)
-first-turn files lines i line (File name fault) lt is none first =
-    let judge : List FileLine × FileLine → List LoadStop = λ p. line_stops files p.0 p.1 in
-    let all : lines ≡ take i lines ++ line ∷ drop (i + 1) lines = sym (take-append-drop i lines) ∙ ap (λ later. take i lines ++ later) (rw add-one (rw is (drop-cons lines i line lt))) in
-    (first.0 ++ flat_map judge (with_earlier_from (take i lines ++ line ∷ []) (drop (i + 1) lines)), ap (λ l. file_stops files l) all ∙ judged-first judge (take i lines) line (drop (i + 1) lines) (File name fault) first.0 none first.1)
-first-turn files lines i line (Compile kind name) lt is none first = absurd first
-first-turn files lines i line Fault lt is none first = tt
-first-turn files lines i line Memory lt is none first = tt
-
--- one more message, with its name
-pub named-message : (most : ℕ) (before : Gathered) (now : Vec MessageDef Global) (name octets : List ℕ) (result : Result Unit LoadStop) → IsNamed most before → Adds (λ found. found ∷ []) before.messages.items now.items name result (unless_broken (message_in octets)) → OnOk result (IsNamed (most + 1) (record before { messages = now }))
-named-message most before now name octets (Ok done) held adds =
-    record {
-      named = rw adds.2 (All-push (λ m. length m.name ≡ 6) before.messages.items adds.0 held.named (six-unless_broken (message_in octets) adds.0 (six-message_in octets) adds.1));
-      few = rw adds.2 (omega (arith, length-append before.messages.items (adds.0 ∷ []), held.few));
-    }
-named-message most before now name octets (Err stop) held adds = tt
+-- nothing is refused so far, and the next file stops: the reading of all stops so
+pub Answers-turn : (files : List ShelfFile) (lines : List FileLine) (i : ℕ) (line : FileLine) → i < length lines → line ≡ get_or lines i line → (old : Found) → refusals_of files (take i lines) ≡ [] → old ≡ found_on files (take i lines) → {X Y A : Type 0} (view : X → Found) (shown : Y → A) (all : A) (stop : LoadStop) → Answers view refusal_in (Err stop) (map_err (File line.name) (file_on files old.composites line)) → Answers shown refusal_in (Err stop) (unless_faulty (refusals_of files lines) all)
+Answers-turn files lines i line lt is old none held view shown all (Refused refusal) given =
+    let judge : List FileLine × FileLine → List Refusal = λ p. refusals_in p.1.name (file_after files p.0 p.1) in
+    let whole : lines ≡ take i lines ++ line ∷ drop (i + 1) lines = sym (take-append-drop i lines) ∙ ap (λ later. take i lines ++ later) (rw add-one (rw is (drop-cons lines i line lt))) in
+    ap (λ l. unless_faulty (refusals_of files l) all) whole ∙ ap (λ refusals. unless_faulty refusals all) (judged-first judge (take i lines) line (drop (i + 1) lines) refusal [] none (refused-turn files (take i lines) line old held refusal given))
+Answers-turn files lines i line lt is old none held view shown all Fault given = tt
+Answers-turn files lines i line lt is old none held view shown all Memory given = tt

@@ -1,7 +1,8 @@
+pub mod AnswerLemmas
+pub mod FileLemmas
 pub mod GatherLemmas
 pub mod LoadLemmas
 pub mod ManifestLemmas
-pub mod NameLemmas
-pub mod ReadLemmas
+pub mod FormLemmas
 pub mod WordLemmas
 pub mod Worked

@@ -3,7 +3,7 @@ use Rattle.std.proofs.Common.{◌≡◌, List, [], ◌∷◌, ℕ, filter, Err, 
 use Rattle.std.specs.List.{flat_map}
 use Rattle.edi_octets.specs.declared.fault.DirFault.{DirFault}
 use Rattle.edi_octets.specs.Lines.{Line, lines_of}
-use Rattle.edi_octets.specs.DirStop.{unless_faulty}
+use Rattle.edi_tables.specs.First.{unless_faulty}
 use Rattle.edi_octets.specs.Profile.{with_earlier}
 use Rattle.dir_load.specs.declared.manifest.Labels.{Labels}
 use Rattle.dir_load.specs.Manifest.{is_counted, words_of, labels_on, file_faults, files_on, manifest_in, manifest_on, manifest_with}

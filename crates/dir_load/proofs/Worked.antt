@@ -11,9 +11,11 @@ use Rattle.dir_lists.specs.Elements.{elements_in}
 use Rattle.dir_segments.specs.Composites.{composites_in}
 use Rattle.dir_compile.specs.declared.stop.CompileKind.TheVariants.{UnknownElement}
 use Rattle.dir_compile.specs.Compile.{compile_faults}
-use Rattle.dir_compile.specs.Directory.{ordered_parts, directory_of}
-use Rattle.dir_load.specs.declared.stop.FileFault.TheVariants.{Absent, Grammar}
-use Rattle.dir_load.specs.declared.stop.LoadStop.TheVariants.{File, Compile}
+use Rattle.dir_compile.specs.Directory.{directory_of}
+use Rattle.dir_compile.specs.InOrder.{ordered_parts}
+use Rattle.edi_ports.specs.declared.named.Unread.TheVariants.{Absent}
+use Rattle.dir_load.specs.declared.stop.FileFault.TheVariants.{Unread, Grammar}
+use Rattle.dir_load.specs.declared.stop.Refusal.TheVariants.{File, Parts}
 use Rattle.dir_load.specs.Manifest.{manifest_in}
 use Rattle.dir_load.specs.Load.{load_of}
 
@@ -27,7 +29,7 @@ abbrev message : ShelfFile
 message = file (codes "t") (codes "Message Type : TSTMSG" ++ 10 ∷ codes "0010 UNH a M 1" ++ 10 ∷ codes "0020 UNT b M 1")
 
 -- no manifest
-no_manifest : load_of (message ∷ []) (codes "m") ≡ Err (File (codes "m") Absent)
+no_manifest : load_of (message ∷ []) (codes "m") ≡ Err (File (codes "m") (Unread Absent))
 unfolding load_of
 no_manifest = refl
 
@@ -36,7 +38,7 @@ out_of_order : load_of (file (codes "m") (codes "directory D 96A UN" ++ 10 ∷ c
 unfolding load_of manifest_in lines_from is_name_of
 out_of_order = refl
 
--- a file that breaks a rule, and behind it one that isn't there
+-- a file that breaks a rule, and after it one that isn't there
 faulty_before_absent : load_of (manifest ∷ file (codes "e") (codes "----------" ++ 10 ∷ codes "12 a") ∷ []) (codes "m") ≡ Err (File (codes "e") (Grammar (record { line = 2; kind = BadCode })))
 unfolding load_of manifest_in lines_from is_name_of elements_in entries_of fields_of cells_of indentation_of
 faulty_before_absent = refl
@@ -62,6 +64,6 @@ unfolding load_of manifest_in lines_from is_name_of elements_in composites_in en
 one_composite = refl
 
 -- a composite that has another
-other_element : load_of (with_composites ∷ elements ∷ file (codes "c") (codes "----------" ++ 10 ∷ codes "C002 a" ++ 10 ∷ codes "010 9999 a C an..3") ∷ []) (codes "m") ≡ Err (Compile UnknownElement (codes "9999"))
+other_element : load_of (with_composites ∷ elements ∷ file (codes "c") (codes "----------" ++ 10 ∷ codes "C002 a" ++ 10 ∷ codes "010 9999 a C an..3") ∷ []) (codes "m") ≡ Err (Parts UnknownElement (codes "9999"))
 unfolding load_of manifest_in lines_from is_name_of elements_in composites_in entries_of fields_of cells_of indentation_of repr_in directory_of compile_faults
 other_element = refl

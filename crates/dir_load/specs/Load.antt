@@ -1,6 +1,8 @@
 -- What the files of a shelf give under the name of a manifest.
-use Rattle.std.specs.Prelude.{◌≡◌, ℕ, nat_lt, List, [], ◌∷◌, length, Option, Some, None, Result, Ok, Err, if◌then◌else◌}
+use Rattle.std.specs.Prelude.{ℕ, List, [], ◌∷◌, ◌++◌, Result, Ok, Err}
 use Rattle.std.specs.List.{flat_map}
+use Rattle.std.specs.Result.{result_map_both, result_unwrap_or}
+use Rattle.edi_tables.specs.First.{unless_faulty}
 use Rattle.edi_tables.specs.declared.element.ElementDef.{ElementDef}
 use Rattle.edi_tables.specs.declared.element.CodeList.{CodeList}
 use Rattle.edi_tables.specs.declared.element.CompositeDef.{CompositeDef}
@@ -9,168 +11,116 @@ use Rattle.edi_tables.specs.declared.segment.MessageDef.{MessageDef}
 use Rattle.edi_octets.specs.declared.fault.DirFault.{DirFault}
 use Rattle.edi_octets.specs.Profile.{with_earlier}
 use Rattle.edi_ports.specs.declared.shelf.ShelfFile.{ShelfFile}
-use Rattle.edi_ports.specs.Shelf.{file_named}
+use Rattle.edi_ports.specs.Named.{octets_named}
 use Rattle.dir_lists.specs.Elements.{elements_in}
 use Rattle.dir_lists.specs.Codes.{codes_in}
 use Rattle.dir_segments.specs.Composites.{composites_in}
 use Rattle.dir_segments.specs.Segments.{segments_in}
 use Rattle.dir_messages.specs.Message.{message_in}
 use Rattle.dir_compile.specs.declared.parts.Parts.{Parts}
-use Rattle.dir_compile.specs.declared.stop.CompileKind.{CompileKind}
 use Rattle.dir_compile.specs.Directory.{directory_of}
+use Rattle.dir_compile.specs.Stop.{PartsFault}
+use Rattle.dir_load.specs.declared.manifest.FileKind.{FileKind}
 use Rattle.dir_load.specs.declared.manifest.FileKind.TheVariants.{Elements, Codes, Composites, Segments, Message}
 use Rattle.dir_load.specs.declared.manifest.FileLine.{FileLine}
+use Rattle.dir_load.specs.declared.manifest.Labels.{Labels}
 use Rattle.dir_load.specs.declared.manifest.Manifest.{Manifest}
 use Rattle.dir_load.specs.declared.stop.FileFault.{FileFault}
-use Rattle.dir_load.specs.declared.stop.FileFault.TheVariants.{Absent, TooLarge, Grammar}
-use Rattle.dir_load.specs.declared.stop.LoadStop.{LoadStop}
-use Rattle.dir_load.specs.declared.stop.LoadStop.TheVariants.{File, Compile, Fault, Memory}
+use Rattle.dir_load.specs.declared.stop.FileFault.TheVariants.{Unread, Grammar}
+use Rattle.dir_load.specs.declared.stop.Refusal.{Refusal}
+use Rattle.dir_load.specs.declared.stop.Refusal.TheVariants as refusal
 use Rattle.dir_load.specs.Manifest.{manifest_in}
 
--- octets that were read stand for definitions, or break a rule of their grammar
-abbrev pub unless_broken : {A : Type 0} → Result A DirFault → Result A FileFault
-unless_broken (Ok found) = Ok found
-unless_broken (Err fault) = Err (Grammar fault)
+-- the same result, with its error as another
+abbrev pub map_err : {A E D : Type 0} → (E → D) → Result A E → Result A D
+map_err as_other result = result_map_both (λ value. value) as_other result
 
--- what a file gives by its grammar: it is absent, too large where it has over 4,194,304 octets, breaks a rule, or has definitions
-abbrev pub read_by : {A : Type 0} → (List ℕ → Result A DirFault) → Option (List ℕ) → Result A FileFault
-read_by grammar None = Err Absent
-read_by grammar (Some octets) = if nat_lt 4194304 (length octets) then Err TooLarge else unless_broken (grammar octets)
+-- what a value gives next; an error stays
+abbrev pub and_then : {A B E : Type 0} → Result A E → (A → Result B E) → Result B E
+and_then (Ok value) next = next value
+and_then (Err error) next = Err error
 
--- the same of the file of that name
+-- what the file of that name gives by its grammar; else it is absent, has over 4,194,304 octets or breaks a rule
 abbrev pub file_by : {A : Type 0} → (List ℕ → Result A DirFault) → List ShelfFile → List ℕ → Result A FileFault
-file_by grammar files name = read_by grammar (file_named name files)
+file_by grammar files name =
+    and_then (map_err Unread (octets_named 4194304 files name)) (λ octets. map_err Grammar (grammar octets))
 
--- the definitions that were found, none where a file gives none
-abbrev pub found_in : {A : Type 0} → Result (List A) FileFault → List A
-found_in (Ok found) = found
-found_in (Err fault) = []
+-- definitions, by kind
+pub record Found : Type 0 where
+  pub elements : List ElementDef
+  pub lists : List CodeList
+  pub composites : List CompositeDef
+  pub segments : List SegmentDef
+  pub messages : List MessageDef
 
--- a message file has one message
-abbrev pub found_one : {A : Type 0} → Result A FileFault → List A
-found_one (Ok found) = found ∷ []
-found_one (Err fault) = []
+abbrev pub nothing : Found
+nothing = record { elements = []; lists = []; composites = []; segments = []; messages = [] }
 
--- why the file of that name gives no definitions
-abbrev pub stops_in : {A : Type 0} → List ℕ → Result A FileFault → List LoadStop
-stops_in name (Ok found) = []
-stops_in name (Err fault) = File name fault ∷ []
+-- what a file of this kind defines; a segment file is read with known composites
+abbrev pub found_by : FileKind → List CompositeDef → List ℕ → Result Found DirFault
+found_by Elements known octets = result_map_both (λ found. record nothing { elements = found }) (λ fault. fault) (elements_in octets)
+found_by Codes known octets = result_map_both (λ found. record nothing { lists = found }) (λ fault. fault) (codes_in octets)
+found_by Composites known octets = result_map_both (λ found. record nothing { composites = found }) (λ fault. fault) (composites_in octets)
+found_by Segments known octets = result_map_both (λ found. record nothing { segments = found }) (λ fault. fault) (segments_in known octets)
+found_by Message known octets = result_map_both (λ found. record nothing { messages = found ∷ [] }) (λ fault. fault) (message_in octets)
 
--- what these lines' files define, each kind in the order of the lines
-abbrev pub elements_on : List ShelfFile → FileLine → List ElementDef
-elements_on files line = elim line.kind [
-  | Elements ↦ found_in (file_by elements_in files line.name)
-  | Codes ↦ []
-  | Composites ↦ []
-  | Segments ↦ []
-  | Message ↦ []
-]
+-- what the file of a line gives, where these composites are known
+abbrev pub file_on : List ShelfFile → List CompositeDef → FileLine → Result Found FileFault
+file_on files known line = file_by (found_by line.kind known) files line.name
 
-abbrev pub elements_of : List ShelfFile → List FileLine → List ElementDef
-elements_of files lines = flat_map (elements_on files) lines
-
-abbrev pub lists_on : List ShelfFile → FileLine → List CodeList
-lists_on files line = elim line.kind [
-  | Elements ↦ []
-  | Codes ↦ found_in (file_by codes_in files line.name)
-  | Composites ↦ []
-  | Segments ↦ []
-  | Message ↦ []
-]
-
-abbrev pub lists_of : List ShelfFile → List FileLine → List CodeList
-lists_of files lines = flat_map (lists_on files) lines
-
-abbrev pub composites_on : List ShelfFile → FileLine → List CompositeDef
-composites_on files line = elim line.kind [
-  | Elements ↦ []
-  | Codes ↦ []
-  | Composites ↦ found_in (file_by composites_in files line.name)
-  | Segments ↦ []
-  | Message ↦ []
-]
-
+-- the composites of the files of these lines
 abbrev pub composites_of : List ShelfFile → List FileLine → List CompositeDef
-composites_of files lines = flat_map (composites_on files) lines
+composites_of files lines = flat_map (λ line. (result_unwrap_or (file_on files [] line) nothing).composites) lines
 
--- a segment file is read with the composites of all files before it
-abbrev pub segments_on : List ShelfFile → List FileLine → FileLine → List SegmentDef
-segments_on files earlier line = elim line.kind [
-  | Elements ↦ []
-  | Codes ↦ []
-  | Composites ↦ []
-  | Segments ↦ found_in (file_by (segments_in (composites_of files earlier)) files line.name)
-  | Message ↦ []
-]
+-- what the file of a line gives after these lines: the composites of all files before it are known
+abbrev pub file_after : List ShelfFile → List FileLine → FileLine → Result Found FileFault
+file_after files earlier line = file_on files (composites_of files earlier) line
 
-abbrev pub segments_of : List ShelfFile → List FileLine → List SegmentDef
-segments_of files lines = flat_map (λ p. segments_on files p.0 p.1) (with_earlier lines)
+-- the definitions of one kind in the files of these lines, in their order
+abbrev pub members_of : {A : Type 0} → (Found → List A) → List ShelfFile → List FileLine → List A
+members_of kind files lines = flat_map (λ p. kind (result_unwrap_or (file_after files p.0 p.1) nothing)) (with_earlier lines)
 
-abbrev pub messages_on : List ShelfFile → FileLine → List MessageDef
-messages_on files line = elim line.kind [
-  | Elements ↦ []
-  | Codes ↦ []
-  | Composites ↦ []
-  | Segments ↦ []
-  | Message ↦ found_one (file_by message_in files line.name)
-]
-
-abbrev pub messages_of : List ShelfFile → List FileLine → List MessageDef
-messages_of files lines = flat_map (messages_on files) lines
-
--- why the file of a line behind these gives no definitions
-abbrev pub line_stops : List ShelfFile → List FileLine → FileLine → List LoadStop
-line_stops files earlier line = elim line.kind [
-  | Elements ↦ stops_in line.name (file_by elements_in files line.name)
-  | Codes ↦ stops_in line.name (file_by codes_in files line.name)
-  | Composites ↦ stops_in line.name (file_by composites_in files line.name)
-  | Segments ↦ stops_in line.name (file_by (segments_in (composites_of files earlier)) files line.name)
-  | Message ↦ stops_in line.name (file_by message_in files line.name)
-]
-
--- all such reasons, in the order of a manifest's lines
-abbrev pub file_stops : List ShelfFile → List FileLine → List LoadStop
-file_stops files lines = flat_map (λ p. line_stops files p.0 p.1) (with_earlier lines)
-
--- the parts that a manifest's files give
-abbrev pub parts_of : List ShelfFile → Manifest → Parts
-parts_of files manifest = record {
-  version = manifest.labels.version;
-  release = manifest.labels.release;
-  agency = manifest.labels.agency;
-  elements = elements_of files manifest.files;
-  lists = lists_of files manifest.files;
-  composites = composites_of files manifest.files;
-  segments = segments_of files manifest.files;
-  messages = messages_of files manifest.files;
+-- all that the files of these lines define
+abbrev pub found_on : List ShelfFile → List FileLine → Found
+found_on files lines = record {
+  elements = members_of (λ found. found.elements) files lines;
+  lists = members_of (λ found. found.lists) files lines;
+  composites = members_of (λ found. found.composites) files lines;
+  segments = members_of (λ found. found.segments) files lines;
+  messages = members_of (λ found. found.messages) files lines;
 }
 
--- parts stand for a directory, or for their first fault
-abbrev pub unless_refused : Result Parts (CompileKind × List ℕ) → Result Parts LoadStop
-unless_refused (Ok directory) = Ok directory
-unless_refused (Err fault) = Err (Compile fault.0 fault.1)
+-- the refusal of a file that gives nothing
+abbrev pub refusals_in : List ℕ → Result Found FileFault → List Refusal
+refusals_in name (Ok found) = []
+refusals_in name (Err fault) = refusal.File name fault ∷ []
 
--- the first reason of several, or else what the parts stand for
-abbrev pub unless_stopped : List LoadStop → Result Parts LoadStop → Result Parts LoadStop
-unless_stopped [] loaded = loaded
-unless_stopped (stop ∷ stops) loaded = Err stop
+-- the refusals of all files of these lines, in their order
+abbrev pub refusals_of : List ShelfFile → List FileLine → List Refusal
+refusals_of files lines = flat_map (λ p. refusals_in p.1.name (file_after files p.0 p.1)) (with_earlier lines)
+
+-- the parts of a directory: its labels and its definitions
+abbrev pub parts_with : Labels → Found → Parts
+parts_with labels found = record {
+  version = labels.version;
+  release = labels.release;
+  agency = labels.agency;
+  elements = found.elements;
+  lists = found.lists;
+  composites = found.composites;
+  segments = found.segments;
+  messages = found.messages;
+}
+
+-- the refusal of parts, for the rule that they break and the name that it is about
+abbrev pub parts_refusal : PartsFault → Refusal
+parts_refusal fault = refusal.Parts fault.kind fault.name
 
 -- the directory of a manifest: its files are judged in order, and then their parts
-abbrev pub load_with : List ShelfFile → Manifest → Result Parts LoadStop
-load_with files manifest = unless_stopped (file_stops files manifest.files) (unless_refused (directory_of (parts_of files manifest)))
+abbrev pub load_with : List ShelfFile → Manifest → Result Parts Refusal
+load_with files manifest =
+    and_then (unless_faulty (refusals_of files manifest.files) (found_on files manifest.files)) (λ found. map_err parts_refusal (directory_of (parts_with manifest.labels found)))
 
-abbrev pub load_on : List ShelfFile → List ℕ → Result Manifest FileFault → Result Parts LoadStop
-load_on files name (Ok manifest) = load_with files manifest
-load_on files name (Err fault) = Err (File name fault)
-
--- what files stand for under the name of a manifest: the whole manifest is judged before any file that it names
-unfoldable pub load_of : List ShelfFile → List ℕ → Result Parts LoadStop
-load_of files name = load_on files name (file_by manifest_in files name)
-
--- what was answered is what the files stand for, unless the shelf failed or memory ran out
-abbrev pub Loads : Result Parts LoadStop → Result Parts LoadStop → Type 0
-Loads (Ok directory) loaded = loaded ≡ Ok directory
-Loads (Err (File name fault)) loaded = loaded ≡ Err (File name fault)
-Loads (Err (Compile kind name)) loaded = loaded ≡ Err (Compile kind name)
-Loads (Err Fault) loaded = Unit {0}
-Loads (Err Memory) loaded = Unit {0}
+-- what files give under the name of a manifest: the whole manifest is judged before any file that it names
+unfoldable pub load_of : List ShelfFile → List ℕ → Result Parts Refusal
+load_of files name = and_then (map_err (refusal.File name) (file_by manifest_in files name)) (load_with files)

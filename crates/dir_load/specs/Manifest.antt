@@ -1,21 +1,22 @@
 -- What a manifest is.
-use Rattle.std.specs.Prelude.{◌-◌, ℕ, Bool, true, not, ◌==◌, ◌&&◌, nat_le, List, [], ◌∷◌, length, filter, slice_get, Option, Some, None, option_and_then, Result, codes, if◌then◌else◌}
+use Rattle.std.specs.Prelude.{◌≡◌, ◌-◌, ℕ, Bool, true, not, ◌==◌, ◌&&◌, nat_le, List, [], ◌∷◌, length, filter, slice_get, Option, Some, None, option_and_then, Result, codes, if◌then◌else◌}
 use Rattle.std.specs.List.{slice_split, list_all, filter_map, flat_map}
 use Rattle.std.specs.Str.{bytes_eq}
-use Rattle.edi_tables.specs.Tag.{is_tag_octet_of}
+use Rattle.edi_tables.specs.First.{unless_faulty}
+use Rattle.edi_tables.specs.Forms.{is_label}
 use Rattle.edi_octets.specs.declared.fault.DirFault.{DirFault}
 use Rattle.edi_octets.specs.declared.fault.DirKind.TheVariants.{BadLine, TooMany}
 use Rattle.edi_octets.specs.Lines.{Line, lines_of}
 use Rattle.edi_octets.specs.Name.{is_name_of}
 use Rattle.edi_octets.specs.Profile.{with_earlier}
-use Rattle.edi_octets.specs.DirStop.{at_line, unless_faulty}
+use Rattle.edi_octets.specs.DirStop.{at_line}
 use Rattle.dir_load.specs.declared.manifest.FileKind.{FileKind}
 use Rattle.dir_load.specs.declared.manifest.FileLine.{FileLine}
 use Rattle.dir_load.specs.declared.manifest.Labels.{Labels}
 use Rattle.dir_load.specs.declared.manifest.Manifest.{Manifest}
 use Rattle.dir_load.specs.declared.manifest.FileKind.TheVariants.{Elements, Codes, Composites, Segments, Message}
 
--- the words of a line's octets, parted by exactly one space
+-- the words of a line's octets, separated by exactly one space
 abbrev pub words_in : List ℕ → List (List ℕ)
 words_in octets = slice_split (λ x. x == 32) octets
 
@@ -35,14 +36,16 @@ four_in words = None
 abbrev pub is_counted : Line → Bool
 is_counted line = not (list_all (λ x. x == 32) line.octets)
 
--- a label: 1 to n octets of `A` to `Z` and `0` to `9`
-abbrev pub is_label : ℕ → List ℕ → Bool
-is_label n word = nat_le 1 (length word) && nat_le (length word) n && list_all is_tag_octet_of word
-
 -- the first line: `directory` and three labels
 abbrev pub labels_with : List ℕ × List ℕ × List ℕ × List ℕ → Option Labels
 labels_with w =
     if bytes_eq w.0 (codes "directory") && is_label 3 w.1 && is_label 3 w.2 && is_label 2 w.3 then Some (record { version = w.1; release = w.2; agency = w.3 }) else None
+
+-- the labels have their forms
+pub record HasLabelForms (labels : Labels) : Type 0 where
+  pub version : is_label 3 labels.version ≡ true
+  pub release : is_label 3 labels.release ≡ true
+  pub agency : is_label 2 labels.agency ≡ true
 
 abbrev pub labels_on : List (List ℕ) → Option Labels
 labels_on words = option_and_then labels_with (four_in words)
@@ -75,7 +78,7 @@ file_on words = option_and_then (λ w. file_with w.1 (kind_named w.0)) (two_in w
 abbrev pub files_on : List Line → List FileLine
 files_on lines = filter_map (λ line. file_on (words_of line)) lines
 
--- a kind doesn't stand before the last kind of the lines before
+-- a kind doesn't come before the last kind of the lines before
 abbrev pub is_in_turn : List FileLine → FileKind → Bool
 is_in_turn earlier kind = elim (slice_get earlier (length earlier - 1)) [ None ↦ true | Some last ↦ nat_le (place_of last.kind) (place_of kind) ]
 
@@ -96,6 +99,6 @@ abbrev pub manifest_on : List Line → Result Manifest DirFault
 manifest_on [] = unless_faulty (record { line = 0; kind = BadLine } ∷ []) (record { labels = record { version = []; release = []; agency = [] }; files = [] })
 manifest_on (head ∷ lines) = manifest_with (labels_on (words_of head)) head lines
 
--- octets stand for a manifest, or for its first fault; one without a line has it at line 0
+-- octets give a manifest, or its first fault; one without a line has it at line 0
 unfoldable pub manifest_in : List ℕ → Result Manifest DirFault
 manifest_in octets = manifest_on (filter is_counted (lines_of octets))

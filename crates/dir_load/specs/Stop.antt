@@ -1,19 +1,52 @@
 -- What a stop tells.
-use Rattle.std.specs.Prelude.{◌≡◌, ℕ, List}
+use Rattle.std.specs.Prelude.{◌≡◌, ℕ, List, Option, Some, None}
+use Rattle.edi_octets.specs.declared.fault.DirStop.{DirStop}
+use Rattle.edi_octets.specs.declared.fault.DirStop.TheVariants as dir
+use Rattle.edi_ports.specs.declared.named.NamedStop.{NamedStop}
+use Rattle.edi_ports.specs.declared.named.NamedStop.TheVariants as named
 use Rattle.dir_compile.specs.declared.stop.CompileStop.{CompileStop}
 use Rattle.dir_compile.specs.declared.stop.CompileStop.TheVariants as compile
 use Rattle.dir_load.specs.declared.stop.FileFault.{FileFault}
+use Rattle.dir_load.specs.declared.stop.FileFault.TheVariants.{Unread, Grammar}
+use Rattle.dir_load.specs.declared.stop.FileStop.{FileStop}
+use Rattle.dir_load.specs.declared.stop.FileStop.TheVariants as file
+use Rattle.dir_load.specs.declared.stop.Refusal.{Refusal}
+use Rattle.dir_load.specs.declared.stop.Refusal.TheVariants.{File, Parts}
 use Rattle.dir_load.specs.declared.stop.LoadStop.{LoadStop}
-use Rattle.dir_load.specs.declared.stop.LoadStop.TheVariants.{File, Compile, Fault, Memory}
+use Rattle.dir_load.specs.declared.stop.LoadStop.TheVariants.{Refused, Fault, Memory}
 
--- a stop tells this fault of the file of this name, unless memory ran out
-abbrev pub IsStopAt : List ℕ → FileFault → LoadStop → Type 0
-IsStopAt name fault (File other told) = (other ≡ name) × (told ≡ fault)
-IsStopAt name fault (Compile kind other) = ⊥
-IsStopAt name fault Fault = ⊥
-IsStopAt name fault Memory = Unit {0}
+-- the refusal that a stop tells; a fault of the shelf and want of memory tell none
+abbrev pub refusal_in : LoadStop → Option Refusal
+refusal_in (Refused refusal) = Some refusal
+refusal_in Fault = None
+refusal_in Memory = None
 
--- a stop of parts, as a stop of files
-abbrev pub stop_of : CompileStop → LoadStop
-stop_of (compile.Fault kind name) = Compile kind name
-stop_of compile.Memory = Memory
+-- the same of a stop at one file
+abbrev pub file_fault_in : FileStop → Option FileFault
+file_fault_in (file.Refused fault) = Some fault
+file_fault_in file.Fault = None
+file_fault_in file.Memory = None
+
+-- a stop of reading by name, as one at that file
+abbrev pub unread_stop : NamedStop → FileStop
+unread_stop (named.Unread unread) = file.Refused (Unread unread)
+unread_stop named.Fault = file.Fault
+unread_stop named.Memory = file.Memory
+
+-- a stop of a reader, as one at its file
+abbrev pub grammar_stop : DirStop → FileStop
+grammar_stop (dir.Fault fault) = file.Refused (Grammar fault)
+grammar_stop dir.Memory = file.Memory
+
+-- a stop of compiling, as one of loading
+abbrev pub compile_stop : CompileStop → LoadStop
+compile_stop (compile.Fault kind name) = Refused (Parts kind name)
+compile_stop compile.Memory = Memory
+
+-- a stop at the file of this name, as one of loading; there may be no memory for the name
+abbrev pub IsStopAt : List ℕ → FileStop → LoadStop → Type 0
+IsStopAt name (file.Refused fault) (Refused refusal) = refusal ≡ File name fault
+IsStopAt name (file.Refused fault) Fault = ⊥
+IsStopAt name (file.Refused fault) Memory = Unit {0}
+IsStopAt name file.Fault stop = stop ≡ Fault
+IsStopAt name file.Memory stop = stop ≡ Memory

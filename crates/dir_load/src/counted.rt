@@ -6,7 +6,7 @@ ghost use Rattle.dir_load.specs.Manifest.{is_counted as is_counted_of};
 
 use edi_octets::{LineText, Lines};
 
-/// The lines of a manifest that are left, but for those of spaces alone. A copy goes on from the same place.
+/// The lines of a manifest that are left, except those of spaces alone. A copy goes on from the same place.
 #[derive(Clone, Copy, Debug)]
 pub struct CountedLines<'a> {
     lines: Lines<'a>,

@@ -1,29 +1,27 @@
 //! Definitions gathered from files.
-ghost use Rattle.std.specs.Prelude.{◌≡◌, ◌≤◌, ◌+◌, ◌++◌, ◌∷◌, [], ℕ, List as Members, Ok, Some, IfOk, IsErrAnd, IsErrOf, MatchResult, OnOk, length};
+ghost use Rattle.std.specs.Prelude.{◌≡◌, ◌≤◌, ◌+◌, ℕ, List as Members, Some, IfOk, IsErrOf, OnOk, length};
+ghost use Rattle.std.specs.Result.{result_map_both};
+ghost use Rattle.edi_tables.specs.First.{Answers, unless_faulty};
 ghost use Rattle.edi_ports.specs.declared.shelf.ShelfFile.{ShelfFile};
 ghost use Rattle.edi_ports.specs.Faults.{HasRisen};
-ghost use Rattle.dir_lists.specs.Codes.{codes_in};
-ghost use Rattle.dir_lists.specs.Elements.{elements_in};
-ghost use Rattle.dir_segments.specs.Composites.{composites_in};
-ghost use Rattle.dir_segments.specs.Segments.{segments_in};
-ghost use Rattle.dir_messages.specs.Message.{message_in};
-ghost use Rattle.dir_load.specs.declared.manifest.FileLine.{FileLine as FileLineSeen};
-ghost use Rattle.dir_load.specs.Gathered.{Adds, GivesFile, IsFirstStop, IsGathered, IsHandedOn, IsNamed, octets_named};
-ghost use Rattle.dir_load.specs.Load.{file_stops, line_stops, parts_of, unless_broken};
+ghost use Rattle.dir_load.specs.declared.stop.FileFault.TheVariants.{Grammar};
+ghost use Rattle.dir_load.specs.Gathered.{Appends, IsFormed, found_of, joined};
+ghost use Rattle.dir_load.specs.Load.{file_on, found_by, found_on, nothing, parts_with, refusals_of};
+ghost use Rattle.dir_load.specs.Stop.{file_fault_in, refusal_in};
 
-use crate::stop::stop_at;
-use crate::{FileFault, FileKind, FileLine, Labels, LoadStop};
+use crate::stop::FileStop;
+use crate::{FileKind, FileLine, Labels, LoadStop};
 use dir_compile::Parts;
 use dir_lists::{read_codes, read_elements};
 use dir_messages::read_message;
 use dir_segments::{read_composites, read_segments};
 use edi_octets::DirStop;
-use edi_ports::{Opened, ReadStop, Shelf, read_file};
+use edi_ports::{Shelf, read_named};
 use edi_tables::{CodeList, CompositeDef, ElementDef, List, MessageDef, SegmentDef};
 use std::alloc::Global;
 
-// The most octets of a file.
-const LONGEST_FILE: usize = 4_194_304;
+/// The most octets of a file.
+pub const LONGEST_FILE: usize = 4_194_304;
 
 /// What the files so far define, each kind in the order of the files.
 #[derive(Drop)]
@@ -41,18 +39,19 @@ pub fn gather_files<S: Shelf>(
     shelf: &mut S,
     lines: &[FileLine],
 ) -> Result<Gathered, LoadStop>
-    ensures gathers { (files : Members ShelfFile) → S.files shelf.old ≡ Some files → MatchResult result
-        (λ gathered. (file_stops files lines.now ≡ []) × IsGathered files lines.now gathered)
-        (λ stop. IsFirstStop stop (file_stops files lines.now)) }
-    ensures named { IfOk result (λ gathered. IsNamed (length lines.now) gathered) }
+    ensures gathers { (files : Members ShelfFile) → S.files shelf.old ≡ Some files
+        → Answers found_of refusal_in result (unless_faulty (refusals_of files lines.now) (found_on files lines.now)) }
+    ensures formed { IfOk result (IsFormed (length lines.now)) }
     ensures files { S.files shelf.new ≡ S.files shelf.old }
     ensures counted { S.faults shelf.old ≤ S.faults shelf.new }
     ensures cause { IsErrOf result LoadStop.Fault → HasRisen (S.faults shelf.old) (S.faults shelf.new) }
     ensures steady { S.is_steady shelf.old → (IsErrOf result LoadStop.Fault → ⊥) × S.is_steady shelf.new }
 {
     let mut gathered = Gathered::new(alloc);
-    for file in lines {
-        gathered.add_file(alloc, shelf, file)?;
+    for line in lines {
+        if let Err(stop) = gathered.add_file(alloc, shelf, line) {
+            return Err(stop.at_file(alloc, line.name.octets()));
+        }
     }
     Ok(gathered)
 }
@@ -60,8 +59,8 @@ pub fn gather_files<S: Shelf>(
 impl Gathered {
     // Nothing yet.
     fn new(alloc: Global) -> Gathered
-        ensures none { (files : Members ShelfFile) → IsGathered files [] result }
-        ensures named { IsNamed 0 result }
+        ensures none { found_of result ≡ nothing }
+        ensures formed { IsFormed 0 result }
     {
         Gathered {
             elements: Vec::new(alloc),
@@ -77,51 +76,57 @@ impl Gathered {
         &mut self,
         alloc: Global,
         shelf: &mut S,
-        file: &FileLine,
-    ) -> Result<(), LoadStop>
-        ensures gathers { (files : Members ShelfFile) (earlier : Members FileLineSeen)
-            → S.files shelf.old ≡ Some files → IsGathered files earlier self.old
-            → MatchResult result
-            (λ _. (line_stops files earlier file.now ≡ []) × IsGathered files (earlier ++ file.now ∷ []) self.new)
-            (λ stop. IsFirstStop stop (line_stops files earlier file.now)) }
-        ensures named { (most : ℕ) → IsNamed most self.old → OnOk result (IsNamed (most + 1) self.new) }
+        line: &FileLine,
+    ) -> Result<(), FileStop>
+        ensures adds { (files : Members ShelfFile) → S.files shelf.old ≡ Some files
+            → Answers (λ _. found_of self.new) file_fault_in result
+            (result_map_both (joined (found_of self.old)) (λ fault. fault) (file_on files self.old.composites.items line.now)) }
+        ensures formed { (most : ℕ) → IsFormed most self.old → OnOk result (IsFormed (most + 1) self.new) }
         ensures files { S.files shelf.new ≡ S.files shelf.old }
         ensures counted { S.faults shelf.old ≤ S.faults shelf.new }
-        ensures cause { IsErrOf result LoadStop.Fault → HasRisen (S.faults shelf.old) (S.faults shelf.new) }
-        ensures steady { S.is_steady shelf.old → (IsErrOf result LoadStop.Fault → ⊥) × S.is_steady shelf.new }
+        ensures cause { IsErrOf result FileStop.Fault → HasRisen (S.faults shelf.old) (S.faults shelf.new) }
+        ensures steady { S.is_steady shelf.old → (IsErrOf result FileStop.Fault → ⊥) × S.is_steady shelf.new }
     {
-        let octets = read_named(alloc, shelf, file.name.octets())?;
-        self.add_octets(alloc, file, &octets)
+        let octets = read_named(alloc, shelf, line.name.octets(), LONGEST_FILE)?;
+        self.add_octets(alloc, line.kind, &octets)
     }
 
-    // Adds what the octets of a line's file define. A segment file is read with the composites so far.
-    fn add_octets(&mut self, alloc: Global, file: &FileLine, octets: &[u8]) -> Result<(), LoadStop>
+    // Adds what a file of that kind defines. A segment file is read with the composites so far.
+    fn add_octets(&mut self, alloc: Global, kind: FileKind, octets: &[u8]) -> Result<(), FileStop>
         requires { length octets.now ≤ 4194304 }
-        ensures gathers { (files : Members ShelfFile) (earlier : Members FileLineSeen)
-            → octets_named files file.now.name ≡ Ok octets.now → IsGathered files earlier self.old
-            → MatchResult result
-            (λ _. (line_stops files earlier file.now ≡ []) × IsGathered files (earlier ++ file.now ∷ []) self.new)
-            (λ stop. IsFirstStop stop (line_stops files earlier file.now)) }
-        ensures named { (most : ℕ) → IsNamed most self.old → OnOk result (IsNamed (most + 1) self.new) }
-        ensures unfailing { IsErrOf result LoadStop.Fault → ⊥ }
+        ensures adds { Answers (λ _. found_of self.new) file_fault_in result
+            (result_map_both (joined (found_of self.old)) Grammar (found_by kind self.old.composites.items octets.now)) }
+        ensures formed { (most : ℕ) → IsFormed most self.old → OnOk result (IsFormed (most + 1) self.new) }
+        ensures unfailing { IsErrOf result FileStop.Fault → ⊥ }
     {
-        let name = file.name.octets();
-        match file.kind {
-            FileKind::Elements => add_elements(alloc, name, octets, &mut self.elements),
-            FileKind::Codes => add_lists(alloc, name, octets, &mut self.lists),
-            FileKind::Composites => add_composites(alloc, name, octets, &mut self.composites),
+        match kind {
+            FileKind::Elements => append(&mut self.elements, read_elements(alloc, octets)),
+            FileKind::Codes => append(&mut self.lists, read_codes(alloc, octets)),
+            FileKind::Composites => append(&mut self.composites, read_composites(alloc, octets)),
             FileKind::Segments => {
-                add_segments(alloc, name, octets, &self.composites, &mut self.segments)
+                let read = read_segments(alloc, octets, &self.composites);
+                append(&mut self.segments, read)
             }
-            FileKind::Message => add_message(alloc, name, octets, &mut self.messages),
+            FileKind::Message => self.add_message(alloc, octets),
         }
+    }
+
+    // Adds the message of a message file.
+    fn add_message(&mut self, alloc: Global, octets: &[u8]) -> Result<(), FileStop>
+        requires { length octets.now ≤ 4194304 }
+        ensures adds { Answers (λ _. found_of self.new) file_fault_in result
+            (result_map_both (joined (found_of self.old)) Grammar (found_by FileKind.Message self.old.composites.items octets.now)) }
+        ensures formed { (most : ℕ) → IsFormed most self.old → OnOk result (IsFormed (most + 1) self.new) }
+        ensures unfailing { IsErrOf result FileStop.Fault → ⊥ }
+    {
+        let message = read_message(alloc, octets)?;
+        self.messages.push(message)?;
+        Ok(())
     }
 
     /// The parts of a directory with these labels.
     pub fn into_parts(self, labels: Labels) -> Parts
-        ensures parts { (files : Members ShelfFile) (lines : Members FileLineSeen) → IsGathered files lines self
-            → result ≡ parts_of files (record { labels = labels; files = lines }) }
-        ensures messages { result.messages ≡ self.messages.items }
+        ensures { result ≡ parts_with labels (found_of self) }
     {
         Parts {
             version: labels.version,
@@ -136,111 +141,11 @@ impl Gathered {
     }
 }
 
-// Adds the data elements of an element file.
-fn add_elements(
-    alloc: Global,
-    name: &[u8],
-    octets: &[u8],
-    elements: &mut Vec<ElementDef>,
-) -> Result<(), LoadStop>
-    requires { length octets.now ≤ 4194304 }
-    ensures { Adds (λ found. found) elements.old.items elements.new.items name.now result (unless_broken (elements_in octets.now)) }
+// Puts the definitions of a file after those of the files before.
+fn append<T: Drop>(all: &mut Vec<T>, read: Result<Vec<T>, DirStop>) -> Result<(), FileStop>
+    ensures { Appends read all.old.items all.new.items result }
 {
-    let mut found = judged(alloc, name, read_elements(alloc, octets))?;
-    elements.append(&mut found)?;
+    let mut found = read?;
+    all.append(&mut found)?;
     Ok(())
-}
-
-// Adds the lists of a code file.
-fn add_lists(
-    alloc: Global,
-    name: &[u8],
-    octets: &[u8],
-    lists: &mut Vec<CodeList>,
-) -> Result<(), LoadStop>
-    requires { length octets.now ≤ 4194304 }
-    ensures { Adds (λ found. found) lists.old.items lists.new.items name.now result (unless_broken (codes_in octets.now)) }
-{
-    let mut found = judged(alloc, name, read_codes(alloc, octets))?;
-    lists.append(&mut found)?;
-    Ok(())
-}
-
-// Adds the composites of a composite file.
-fn add_composites(
-    alloc: Global,
-    name: &[u8],
-    octets: &[u8],
-    composites: &mut Vec<CompositeDef>,
-) -> Result<(), LoadStop>
-    requires { length octets.now ≤ 4194304 }
-    ensures { Adds (λ found. found) composites.old.items composites.new.items name.now result (unless_broken (composites_in octets.now)) }
-{
-    let mut found = judged(alloc, name, read_composites(alloc, octets))?;
-    composites.append(&mut found)?;
-    Ok(())
-}
-
-// Adds the segments of a segment file that is read with known composites.
-fn add_segments(
-    alloc: Global,
-    name: &[u8],
-    octets: &[u8],
-    known: &[CompositeDef],
-    segments: &mut Vec<SegmentDef>,
-) -> Result<(), LoadStop>
-    requires { length octets.now ≤ 4194304 }
-    ensures { Adds (λ found. found) segments.old.items segments.new.items name.now result (unless_broken (segments_in known.now octets.now)) }
-{
-    let mut found = judged(alloc, name, read_segments(alloc, octets, known))?;
-    segments.append(&mut found)?;
-    Ok(())
-}
-
-// Adds the message of a message file.
-fn add_message(
-    alloc: Global,
-    name: &[u8],
-    octets: &[u8],
-    messages: &mut Vec<MessageDef>,
-) -> Result<(), LoadStop>
-    requires { length octets.now ≤ 4194304 }
-    ensures { Adds (λ found. found ∷ []) messages.old.items messages.new.items name.now result (unless_broken (message_in octets.now)) }
-{
-    let found = judged(alloc, name, read_message(alloc, octets))?;
-    messages.push(found)?;
-    Ok(())
-}
-
-/// All octets of the file of that name.
-pub fn read_named<S: Shelf>(alloc: Global, shelf: &mut S, name: &[u8]) -> Result<Vec<u8>, LoadStop>
-    ensures reads { (files : Members ShelfFile) → S.files shelf.old ≡ Some files
-        → GivesFile (λ octets. octets.items) name.now result (octets_named files name.now) }
-    ensures short { IfOk result (λ octets. length octets.items ≤ 4194304) }
-    ensures files { S.files shelf.new ≡ S.files shelf.old }
-    ensures counted { S.faults shelf.old ≤ S.faults shelf.new }
-    ensures cause { IsErrOf result LoadStop.Fault → HasRisen (S.faults shelf.old) (S.faults shelf.new) }
-    ensures steady { S.is_steady shelf.old → (IsErrOf result LoadStop.Fault → ⊥) × S.is_steady shelf.new }
-{
-    match shelf.open(name) {
-        Opened::Open => match read_file(alloc, shelf, LONGEST_FILE) {
-            Ok(octets) => Ok(octets),
-            Err(ReadStop::Fault) => Err(LoadStop::Fault),
-            Err(ReadStop::TooLong) => Err(stop_at(alloc, name, FileFault::TooLarge)),
-            Err(ReadStop::Memory) => Err(LoadStop::Memory),
-        },
-        Opened::Absent => Err(stop_at(alloc, name, FileFault::Absent)),
-        Opened::Failed => Err(LoadStop::Fault),
-    }
-}
-
-/// What a reader answered of the octets of the file of that name.
-pub fn judged<T>(alloc: Global, name: &[u8], read: Result<T, DirStop>) -> Result<T, LoadStop>
-    ensures { MatchResult read (λ found. result ≡ Ok found) (λ stop. IsErrAnd result (IsHandedOn name.now stop)) }
-{
-    match read {
-        Ok(found) => Ok(found),
-        Err(DirStop::Fault(fault)) => Err(stop_at(alloc, name, FileFault::Grammar(fault))),
-        Err(DirStop::Memory) => Err(LoadStop::Memory),
-    }
 }

@@ -12,4 +12,4 @@ mod words;
 
 pub use loading::load;
 pub use manifest::{FileKind, FileLine, Labels, Manifest, read_manifest};
-pub use stop::{FileFault, LoadStop};
+pub use stop::{FileFault, LoadStop, Refusal};

@@ -1,11 +1,13 @@
 //! Manifests: the labels of a directory, and the files that it is made of.
-ghost use Rattle.std.specs.Prelude.{◌≡◌, ◌≤◌, ◌+◌, ◌++◌, ◌∷◌, [], List, ℕ, length, IfOk, OnOk, option_and_then};
+ghost use Rattle.std.specs.Prelude.{◌≡◌, ◌≤◌, ◌+◌, ◌++◌, ◌∷◌, [], List, ℕ, length, IfOk, IfSome, OnOk, option_and_then};
 ghost use Rattle.std.specs.List.{flat_map, list_all};
 ghost use Rattle.edi_octets.specs.Profile.{with_earlier};
 ghost use Rattle.dir_load.specs.Counted.{counted_left};
 ghost use Rattle.edi_tables.specs.Tag.{is_tag_octet_of};
-ghost use Rattle.dir_load.specs.Manifest.{is_label as is_label_of, is_in_turn as is_in_turn_of, kind_named, place_of, labels_on, file_on, file_faults, files_on, manifest_in, words_in};
-ghost use Rattle.edi_octets.specs.DirStop.{Gives, unless_faulty};
+ghost use Rattle.dir_load.specs.Manifest.{HasLabelForms, is_in_turn as is_in_turn_of, kind_named, place_of, labels_on, file_on, file_faults, files_on, manifest_in, words_in};
+ghost use Rattle.edi_octets.specs.DirStop.{fault_in};
+ghost use Rattle.edi_tables.specs.First.{Answers, unless_faulty};
+ghost use Rattle.edi_tables.specs.Forms.{is_label as is_label_of};
 ghost use Rattle.edi_octets.specs.Left.{line_shown};
 ghost use Rattle.edi_octets.specs.Lines.{Line};
 ghost use Rattle.edi_octets.specs.declared.fault.DirStop.TheVariants.{Fault};
@@ -54,7 +56,8 @@ pub struct Manifest {
 #[tactic(auto, unfolding(crate::specs::Manifest::manifest_in))]
 pub fn read_manifest(alloc: Global, octets: &[u8]) -> Result<Manifest, DirStop>
     requires { length octets.now ≤ 4194304 }
-    ensures reads { Gives (λ manifest. manifest) result (manifest_in octets.now) }
+    ensures reads { Answers (λ manifest. manifest) fault_in result (manifest_in octets.now) }
+    ensures formed { IfOk result (λ manifest. HasLabelForms manifest.labels) }
     ensures few { IfOk result (λ manifest. length manifest.files ≤ 400) }
 {
     let mut lines = CountedLines::of(octets);
@@ -74,7 +77,7 @@ pub fn read_manifest(alloc: Global, octets: &[u8]) -> Result<Manifest, DirStop>
 // The files of a manifest's later lines.
 fn read_files(alloc: Global, lines: CountedLines<'_>) -> Result<Vec<FileLine>, DirStop>
     ensures few { IfOk result (λ files. length files.items ≤ 400) }
-    ensures reads { Gives (λ files. files.items) result
+    ensures reads { Answers (λ files. files.items) fault_in result
         (unless_faulty (flat_map (λ p. file_faults p.0 p.1) (with_earlier (counted_left lines.entry))) (files_on (counted_left lines.entry))) }
 {
     let mut files = Vec::new(alloc);
@@ -86,7 +89,8 @@ fn read_files(alloc: Global, lines: CountedLines<'_>) -> Result<Vec<FileLine>, D
 
 // The labels of a manifest's first line.
 fn read_labels(alloc: Global, line: &[u8]) -> Result<Option<Labels>, AllocError>
-    ensures { IfOk result (λ labels. labels ≡ labels_on (words_in line.now)) }
+    ensures labels { IfOk result (λ labels. labels ≡ labels_on (words_in line.now)) }
+    ensures formed { IfOk result (λ labels. IfSome labels HasLabelForms) }
 {
     let Some((word, version, release, agency)) = four_words(line) else {
         return Ok(None);
@@ -172,10 +176,10 @@ impl FileKind {
     }
 }
 
-// Reads a line behind others, whose files are given. Its file joins them.
+// Reads a line after others, whose files are given. Its file joins them.
 fn read_line(alloc: Global, line: &LineText<'_>, files: &mut Vec<FileLine>) -> Result<(), DirStop>
     ensures judged { (earlier : List Line) → files.old.items ≡ files_on earlier → length files.old.items ≡ length earlier
-        → Gives (λ done. done) result (unless_faulty (file_faults earlier (line_shown line.now)) tt) }
+        → Answers (λ done. done) fault_in result (unless_faulty (file_faults earlier (line_shown line.now)) tt) }
     ensures joins { OnOk result (files.new.items ≡ files.old.items ++ files_on (line_shown line.now ∷ [])) }
     ensures one { OnOk result (length files.new.items ≡ length files.old.items + 1) }
     ensures few { OnOk result (length files.new.items ≤ 400) }
@@ -196,7 +200,7 @@ fn read_line(alloc: Global, line: &LineText<'_>, files: &mut Vec<FileLine>) -> R
 // The most files that a manifest names.
 const MOST_FILES: usize = 400;
 
-// Whether a kind doesn't stand before that of the last file.
+// Whether a kind doesn't come before that of the last file.
 fn is_in_turn(files: &[FileLine], kind: FileKind) -> bool
     ensures { result ≡ is_in_turn_of files.now kind }
 {

@@ -31,7 +31,7 @@ pub fn four_words(line: &[u8]) -> Option<(&[u8], &[u8], &[u8], &[u8])>
     }
 }
 
-// The first word of a line, and what stands behind the space after it, if there is one.
+// The first word of a line, and what follows the space after it, if there is one.
 fn cut_word(line: &[u8]) -> (&[u8], Option<&[u8]>)
     ensures { MatchOption result.1 (words_in line.now ≡ result.0.now ∷ []) (λ rest. words_in line.now ≡ result.0.now ∷ words_in rest.now) }
 {

@@ -1,52 +1,48 @@
-use Rattle.std.proofs.Common.{◌≡◌, ◌+◌, ◌<◌, ◌++◌, ◌∷◌, [], take, length, refl, sym, ap, ◌∙◌, subst, arith}
+use Rattle.std.proofs.Common.{◌≡◌, ◌+◌, ◌<◌, ◌++◌, ◌∷◌, [], take, length, Ok, sym, ap, ◌∙◌, arith}
 use Rattle.std.proofs.lemmas.List.{take_all, take_more}
-use Rattle.std.proofs.lemmas.Result.{err_from_is_err_and}
+use Rattle.edi_tables.specs.First.{unless_faulty}
 use Rattle.edi_octets.proofs.EarlierLemmas.{judged-none}
-use Rattle.dir_load.specs.Gathered.{IsGathered}
-use Rattle.dir_load.specs.Load.{file_stops, line_stops}
-use Rattle.dir_load.proofs.GatherLemmas.{first-turn}
+use Rattle.dir_load.specs.Gathered.{found_of, joined}
+use Rattle.dir_load.specs.Load.{Found, file_after, file_on, found_on, refusals_in, refusals_of}
+use Rattle.dir_load.specs.Stop.{file_fault_in}
+use Rattle.dir_load.proofs.AnswerLemmas.{Answers-at_file, Answers-unmapped}
+use Rattle.dir_load.proofs.GatherLemmas.{Answers-turn, added-turn}
 use Rattle.dir_load.proofs.gather.gather_files.Goals as goal
 
-pub loop-file-init : goal.loop-file-init
-loop-file-init g c = record {
-  none = λ files told. refl;
-  gathered = λ files told. c.new-gathered.ensures.none files;
-  named = c.new-gathered.ensures.named;
-  files = refl;
-  counted = omega arith;
-  steady = λ was. was;
-}
-
-pub loop-file-preserved : goal.loop-file-preserved
-loop-file-preserved g c =
+pub loop-line-preserved : goal.loop-line-preserved
+loop-line-preserved g c =
     let lines = c.args.lines.now in
-    let i = c.loop-file.file-index in
-    let held = c.loop-file.invariant in
-    let line = c.file-item.result in
+    let i = c.loop-line.line-index in
+    let held = c.loop-line.invariant in
+    let line = c.line-item.result in
     let lt : i < length lines = omega arith in
-    let more : take (i + 1) lines ≡ take i lines ++ line ∷ [] = take_more lines i line lt ∙ ap (λ x. take i lines ++ x ∷ []) (sym c.file-item.is) in
+    let more : take (i + 1) lines ≡ take i lines ++ line ∷ [] = take_more lines i line lt ∙ ap (λ x. take i lines ++ x ∷ []) (sym c.line-item.is) in
     record {
-      none = λ files told. ap (file_stops files) more ∙ judged-none (λ p. line_stops files p.0 p.1) (take i lines) line (held.none files told) (c.in_ok-add_file.ensures.gathers files (take i lines) (held.files ∙ told) (held.gathered files told)).0;
-      gathered = λ files told. subst (λ seen. IsGathered files seen c.add_file.new.self) (sym more) (c.in_ok-add_file.ensures.gathers files (take i lines) (held.files ∙ told) (held.gathered files told)).1;
-      named = c.in_ok-add_file.ensures.named i held.named;
-      files = c.in_ok-add_file.ensures.files ∙ held.files;
-      counted = omega (arith, held.counted, c.in_ok-add_file.ensures.counted);
-      steady = λ was. (c.in_ok-add_file.ensures.steady (held.steady was)).1;
+      none = λ files told. ap (refusals_of files) more ∙ judged-none (λ p. refusals_in p.1.name (file_after files p.0 p.1)) (take i lines) line (held.none files told) (added-turn files (take i lines) line (found_of c.loop-line.gathered) (found_of c.add_file.new.self) (held.found files told) (c.in_default.ensures.adds files (held.files ∙ told))).0;
+      found = λ files told. (added-turn files (take i lines) line (found_of c.loop-line.gathered) (found_of c.add_file.new.self) (held.found files told) (c.in_default.ensures.adds files (held.files ∙ told))).1 ∙ ap (found_on files) (sym more);
+      formed = c.in_default.ensures.formed i held.formed;
+      files = c.in_default.ensures.files ∙ held.files;
+      counted = omega (arith, held.counted, c.in_default.ensures.counted);
+      steady = λ was. (c.in_default.ensures.steady (held.steady was)).1;
     }
 
-pub returns-in_err-add_file-clause-gathers : goal.returns-in_err-add_file-clause-gathers
-returns-in_err-add_file-clause-gathers g c files told =
+pub returns-in-Err-clause-gathers : goal.returns-in-Err-clause-gathers
+returns-in-Err-clause-gathers g c files told =
     let lines = c.args.lines.now in
-    let i = c.loop-file.file-index in
-    let held = c.loop-file.invariant in
+    let i = c.loop-line.line-index in
+    let held = c.loop-line.invariant in
+    let line = c.line-item.result in
+    let old : Found = found_of c.loop-line.gathered in
     let lt : i < length lines = omega arith in
-    let p = err_from_is_err_and c.from_residual.result c.from_residual.ensures.1 in
-    rw (p.1, p.2) (first-turn files lines i c.file-item.result c.in_err-add_file.field-0.0 lt c.file-item.is (held.none files told) (c.in_err-add_file.ensures.gathers files (take i lines) (held.files ∙ told) (held.gathered files told)))
+    let file = file_on files c.loop-line.gathered.composites.items line in
+    let at_line = rw c.octets.ensures at c.at_file.ensures in
+    let unread = Answers-unmapped (λ (done : Unit {0}). found_of c.add_file.new.self) (λ (f : Found). f) file_fault_in c.in-Err.stop file (joined old) (c.in-Err.ensures.adds files (held.files ∙ told)) in
+    Answers-turn files lines i line lt c.line-item.is old (held.none files told) (held.found files told) (λ (f : Found). f) found_of (found_on files lines) c.at_file.result (Answers-at_file (λ (f : Found). f) (λ (f : Found). f) line.name c.in-Err.stop c.at_file.result file at_line unread)
 
 pub returns-clause-gathers : goal.returns-clause-gathers
 returns-clause-gathers g c files told =
     let lines = c.args.lines.now in
-    let i = c.loop-file.file-index in
-    let held = c.loop-file.invariant in
+    let i = c.loop-line.line-index in
+    let held = c.loop-line.invariant in
     let all : take i lines ≡ lines = take_all i lines (omega arith) in
-    (ap (file_stops files) (sym all) ∙ held.none files told, subst (λ seen. IsGathered files seen c.loop-file.gathered) all (held.gathered files told))
+    ap (λ l. unless_faulty (refusals_of files l) (found_on files l)) (sym all) ∙ ap (λ refusals. unless_faulty refusals (found_on files (take i lines))) (held.none files told) ∙ ap (λ f. Ok f) (sym (held.found files told))

@@ -1,39 +1,47 @@
-use Rattle.std.proofs.Common.{Ok, Err, sym, ap, ◌∙◌, subst}
+use Rattle.std.proofs.Common.{◌≡◌, Ok, Err, ◌∙◌, subst}
 use Rattle.std.proofs.lemmas.Result.{err_from_is_err_and}
-use Rattle.dir_compile.specs.Directory.{Compiles, directory_of}
-use Rattle.dir_load.specs.Gathered.{IsFirstStop, IsGathered}
-use Rattle.dir_load.specs.Load.{file_stops}
-use Rattle.dir_load.proofs.LoadLemmas.{loads-unread, loads-stopped, loads-refused, loads-made}
+use Rattle.edi_tables.specs.First.{Answers, unless_faulty}
+use Rattle.dir_compile.specs.declared.parts.Parts.{Parts}
+use Rattle.dir_compile.specs.Directory.{directory_of}
+use Rattle.dir_compile.specs.Stop.{fault_in}
+use Rattle.dir_load.specs.declared.manifest.Manifest.{Manifest}
+use Rattle.dir_load.specs.Gathered.{found_of}
+use Rattle.dir_load.specs.Load.{file_by, found_on, refusals_of}
+use Rattle.dir_load.specs.Manifest.{manifest_in}
+use Rattle.dir_load.specs.Stop.{refusal_in}
+use Rattle.dir_load.proofs.AnswerLemmas.{Answers-at_file}
+use Rattle.dir_load.proofs.FormLemmas.{HasForms-parts}
+use Rattle.dir_load.proofs.LoadLemmas.{Answers-unread, Answers-refused, Answers-uncompiled, load_of-compiled}
 use Rattle.dir_load.proofs.loading.load.Goals as goal
 
-pub returns-in_err-manifest-clause-loads : goal.returns-in_err-manifest-clause-loads
-returns-in_err-manifest-clause-loads g c files told =
-    let p = err_from_is_err_and c.from_residual.result c.from_residual.ensures.1 in
-    rw (p.1, p.2) (loads-unread files c.args.name.now c.in_err-manifest.field-0.0 (c.in_err-manifest.ensures.reads files told))
+pub returns-in-Err-clause-loads : goal.returns-in-Err-clause-loads
+returns-in-Err-clause-loads g c files told =
+    let name = c.args.name.now in
+    Answers-unread (λ (d : Parts). d) files name (λ (m : Manifest). m) c.at_file.result (Answers-at_file (λ (m : Manifest). m) (λ (m : Manifest). m) name c.in-Err.stop c.at_file.result (file_by manifest_in files name) c.at_file.ensures (c.in-Err.ensures.reads files told))
 
 pub returns-in_err-gathered-clause-loads : goal.returns-in_err-gathered-clause-loads
 returns-in_err-gathered-clause-loads g c files told =
-    let p = err_from_is_err_and c.from_residual-in_err-gathered.result c.from_residual-in_err-gathered.ensures.1 in
-    let manifest = c.in_ok-manifest.manifest in
+    let p = err_from_is_err_and c.from_residual.result c.from_residual.ensures.1 in
     let stop = c.in_err-gathered.field-0.0 in
-    let first = subst (λ lines. IsFirstStop stop (file_stops files lines)) c.items.ensures (c.in_err-gathered.ensures.gathers files (c.in_ok-manifest.ensures.files ∙ told)) in
-    rw (p.1, p.2) (loads-stopped files c.args.name.now manifest (c.in_ok-manifest.ensures.reads files told) stop first)
+    let given = subst (λ lines. Answers found_of refusal_in (Err stop) (unless_faulty (refusals_of files lines) (found_on files lines))) c.items.ensures (c.in_err-gathered.ensures.gathers files (c.in-Ok.ensures.files ∙ told)) in
+    rw (p.1, p.2) (Answers-refused (λ (d : Parts). d) files c.args.name.now c.in-Ok.manifest (c.in-Ok.ensures.reads files told) found_of stop given)
 
 pub returns-in_err-compile-clause-loads : goal.returns-in_err-compile-clause-loads
 returns-in_err-compile-clause-loads g c files told =
     let p = err_from_is_err_and c.from_residual-in_err-compile.result c.from_residual-in_err-compile.ensures.1 in
-    let manifest = c.in_ok-manifest.manifest in
     let stop = c.in_err-compile.field-0.0 in
-    let gathers = c.in_ok-gathered.ensures.gathers files (c.in_ok-manifest.ensures.files ∙ told) in
-    let held = subst (λ lines. IsGathered files lines c.in_ok-gathered.gathered) c.items.ensures gathers.1 in
-    let compiles = subst (λ parts. Compiles (Err stop) (directory_of parts)) (c.into_parts.ensures.parts files manifest.files held) c.in_err-compile.ensures in
-    rw (p.1, p.2) (loads-refused files c.args.name.now manifest (c.in_ok-manifest.ensures.reads files told) (sym (ap (file_stops files) c.items.ensures) ∙ gathers.0) stop compiles)
+    let found = found_of c.in_ok-gathered.gathered in
+    let gathers = subst (λ lines. Answers found_of refusal_in (Ok c.in_ok-gathered.gathered) (unless_faulty (refusals_of files lines) (found_on files lines))) c.items.ensures (c.in_ok-gathered.ensures.gathers files (c.in-Ok.ensures.files ∙ told)) in
+    let compiles = subst (λ parts. Answers (λ (d : Parts). d) fault_in (Err stop) (directory_of parts)) c.into_parts.ensures c.in_err-compile.ensures.answers in
+    rw (p.1, p.2) (Answers-uncompiled (λ (d : Parts). d) files c.args.name.now c.in-Ok.manifest (c.in-Ok.ensures.reads files told) found gathers stop compiles)
 
 pub returns-clause-loads : goal.returns-clause-loads
 returns-clause-loads g c files told =
-    let manifest = c.in_ok-manifest.manifest in
-    let directory = c.in_ok-compile.field-0 in
-    let gathers = c.in_ok-gathered.ensures.gathers files (c.in_ok-manifest.ensures.files ∙ told) in
-    let held = subst (λ lines. IsGathered files lines c.in_ok-gathered.gathered) c.items.ensures gathers.1 in
-    let compiles = subst (λ parts. Compiles (Ok directory) (directory_of parts)) (c.into_parts.ensures.parts files manifest.files held) c.in_ok-compile.ensures in
-    loads-made files c.args.name.now manifest (c.in_ok-manifest.ensures.reads files told) (sym (ap (file_stops files) c.items.ensures) ∙ gathers.0) directory compiles
+    let found = found_of c.in_ok-gathered.gathered in
+    let gathers = subst (λ lines. Answers found_of refusal_in (Ok c.in_ok-gathered.gathered) (unless_faulty (refusals_of files lines) (found_on files lines))) c.items.ensures (c.in_ok-gathered.ensures.gathers files (c.in-Ok.ensures.files ∙ told)) in
+    let compiles = subst (λ parts. directory_of parts ≡ Ok c.in_ok-compile.field-0) c.into_parts.ensures c.in_ok-compile.ensures.answers in
+    load_of-compiled (λ (d : Parts). d) files c.args.name.now c.in-Ok.manifest (c.in-Ok.ensures.reads files told) found gathers c.in_ok-compile.field-0 compiles
+
+pub compile-requires-clause-forms : goal.compile-requires-clause-forms
+compile-requires-clause-forms g c =
+    rw c.into_parts.ensures (HasForms-parts c.in-Ok.manifest.labels c.in_ok-gathered.gathered _ c.in-Ok.ensures.formed c.in_ok-gathered.ensures.formed)

@@ -4,7 +4,7 @@ use Rattle.std.proofs.lemmas.List.Elements.{filter_map-append}
 use Rattle.std.proofs.lemmas.Result.{err_from_is_err_and}
 use Rattle.edi_octets.specs.Left.{line_shown}
 use Rattle.edi_octets.proofs.TurnLemmas.{judged-turn}
-use Rattle.dir_lists.proofs.AnswerLemmas.{none_from_ok, Gives-handed_on}
+use Rattle.edi_octets.proofs.AnswerLemmas.{none_from_ok, Answers-handed_on}
 use Rattle.dir_lists.proofs.LoopLemmas.{stopped-turn}
 use Rattle.dir_load.specs.Counted.{counted_left}
 use Rattle.dir_load.specs.Manifest.{file_faults, files_on, file_on, words_of}
@@ -33,4 +33,4 @@ returns-in_err-read_line-clause-reads c =
     let stop = c.in_err-read_line.field-0.0 in
     let given = c.in_err-read_line.ensures.judged (map line_shown seen) c.loop-line.invariant.files c.loop-line.invariant.each in
     let stopped = stopped-turn line_shown counted_left (λ p. file_faults p.0 p.1) c.into_iter-line-iterator.result seen c.loop-line.line-iterator c.loop-line.yielded_by line c.next.new.self c.in-Some.ensures.steps c.loop-line.invariant.none (λ (done : Unit {0}). done) tt stop given rest (sym (ap counted_left c.into_iter-line-iterator.ensures.into_iter_gives)) (files_on rest) in
-    Gives-handed_on _ c.from_residual.result stop _ (err_from_is_err_and c.from_residual.result c.from_residual.ensures.1) stopped
+    Answers-handed_on _ c.from_residual.result stop _ (err_from_is_err_and c.from_residual.result c.from_residual.ensures.1) stopped

@@ -1,32 +1,18 @@
-use Rattle.dir_load.specs.declared.manifest.FileKind.TheVariants.{Elements, Codes, Composites, Segments, Message}
-use Rattle.dir_load.proofs.GatherLemmas.{turns-elements, turns-codes, turns-composites, turns-segments, turns-message, turns-at, named-message}
+use Rattle.dir_load.proofs.FormLemmas.{formed-elements, formed-lists, formed-composites, formed-segments}
 use Rattle.dir_load.proofs.gather.Gathered.add_octets.Goals as goal
 
-pub returns-in-Elements-clause-gathers : goal.returns-in-Elements-clause-gathers
-returns-in-Elements-clause-gathers c files earlier told held =
-    let adds = rw c.octets-name.ensures at c.add_elements.ensures in
-    turns-at files earlier c.args.file.now Elements _ c.add_elements.result c.in-Elements.is (turns-elements files earlier c.args.file.now.name c.args.octets.now told c.args.self.now held c.add_elements.new.elements c.add_elements.result adds)
+pub returns-in-Elements-clause-formed : goal.returns-in-Elements-clause-formed
+returns-in-Elements-clause-formed c most held =
+    formed-elements most c.args.self.now held c.append.result c.read_elements.result c.append.new.all c.append.ensures c.read_elements.ensures.forms
 
-pub returns-in-Codes-clause-gathers : goal.returns-in-Codes-clause-gathers
-returns-in-Codes-clause-gathers c files earlier told held =
-    let adds = rw c.octets-name.ensures at c.add_lists.ensures in
-    turns-at files earlier c.args.file.now Codes _ c.add_lists.result c.in-Codes.is (turns-codes files earlier c.args.file.now.name c.args.octets.now told c.args.self.now held c.add_lists.new.lists c.add_lists.result adds)
+pub returns-in-Codes-clause-formed : goal.returns-in-Codes-clause-formed
+returns-in-Codes-clause-formed c most held =
+    formed-lists most c.args.self.now held c.append-in-Codes.result c.read_codes.result c.append-in-Codes.new.all c.append-in-Codes.ensures c.read_codes.ensures.forms
 
-pub returns-in-Composites-clause-gathers : goal.returns-in-Composites-clause-gathers
-returns-in-Composites-clause-gathers c files earlier told held =
-    let adds = rw c.octets-name.ensures at c.add_composites.ensures in
-    turns-at files earlier c.args.file.now Composites _ c.add_composites.result c.in-Composites.is (turns-composites files earlier c.args.file.now.name c.args.octets.now told c.args.self.now held c.add_composites.new.composites c.add_composites.result adds)
+pub returns-in-Composites-clause-formed : goal.returns-in-Composites-clause-formed
+returns-in-Composites-clause-formed c most held =
+    formed-composites most c.args.self.now held c.append-in-Composites.result c.read_composites.result c.append-in-Composites.new.all c.append-in-Composites.ensures c.read_composites.ensures.forms
 
-pub returns-in-Segments-clause-gathers : goal.returns-in-Segments-clause-gathers
-returns-in-Segments-clause-gathers c files earlier told held =
-    let adds = rw (c.octets-name.ensures, c.deref.ensures.value) at c.add_segments.ensures in
-    turns-at files earlier c.args.file.now Segments _ c.add_segments.result c.in-Segments.is (turns-segments files earlier c.args.file.now.name c.args.octets.now told c.args.self.now held c.add_segments.new.segments c.add_segments.result adds)
-
-pub returns-in-Message-clause-gathers : goal.returns-in-Message-clause-gathers
-returns-in-Message-clause-gathers c files earlier told held =
-    let adds = rw c.octets-name.ensures at c.add_message.ensures in
-    turns-at files earlier c.args.file.now Message _ c.add_message.result c.in-Message.is (turns-message files earlier c.args.file.now.name c.args.octets.now told c.args.self.now held c.add_message.new.messages c.add_message.result adds)
-
-pub returns-in-Message-clause-named : goal.returns-in-Message-clause-named
-returns-in-Message-clause-named c most held =
-    named-message most c.args.self.now c.add_message.new.messages c.octets-name.result.now c.args.octets.now c.add_message.result held c.add_message.ensures
+pub returns-in-Segments-clause-formed : goal.returns-in-Segments-clause-formed
+returns-in-Segments-clause-formed c most held =
+    formed-segments most c.args.self.now held c.append-in-Segments.result c.read_segments-read.result c.append-in-Segments.new.all c.append-in-Segments.ensures c.read_segments-read.ensures.forms

@@ -41,6 +41,7 @@ pub fn pairs(
 }
 
 /// The only follower of an entry with the tag of this one that was met before, and notes this one.
+#[inline]
 fn first_met(
     numbers: &[Option<u16>],
     marks: &mut [Option<Mark>],
@@ -58,6 +59,7 @@ fn first_met(
 }
 
 /// Whether a repeated group, or the entry itself, may stand a second time; another candidate stands for the first time.
+#[inline]
 fn may_stand_again(table: &Table, entry: u16, candidate: u16) -> bool
     requires within { entry < length table.now }
     requires candidate { candidate < length table.now }

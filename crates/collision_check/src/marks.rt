@@ -17,6 +17,7 @@ pub struct Mark {
 }
 
 /// The only follower of an entry with this tag that was met before, and notes this one. A tag is given by its number.
+#[inline]
 pub fn meet(marks: &mut [Option<Mark>], entry: u16, number: u16, follower: u16) -> Option<u16>
     requires { number < length marks.old }
     ensures first { result ≡ met_once (met_in entry (mark_at marks.old number)) }
@@ -37,6 +38,7 @@ pub fn meet(marks: &mut [Option<Mark>], entry: u16, number: u16, follower: u16) 
 }
 
 /// What a mark tells of the followers of this entry.
+#[inline]
 fn met_after(mark: Option<Mark>, entry: u16) -> Option<Met>
     ensures { result ≡ met_in entry mark }
 {

@@ -76,7 +76,8 @@ module _ (nodes : List Node) (table : IsTable nodes) (f : ℕ) (within : f < len
       ap (λ b. if b then end_at nodes (c - 1) else (if c == f then 0 else (if is_trigger_at nodes c then c - 1 else c))) once
       ∙ ap (λ b. if b then 0 else (if is_trigger_at nodes c then c - 1 else c)) (ne_eqb c f (λ same. omega arith)) ∙ is
 
-  not_repeat : (c : ℕ) → f < c → is_repeat nodes f c ≡ false
+  -- an entry after f repeats no group
+  pub not_repeat : (c : ℕ) → f < c → is_repeat nodes f c ≡ false
   not_repeat c past = elim (cases_Bool (is_repeat nodes f c)) [
     | inl repeat ↦ absurd (above (round_below nodes table f (c - 1) (repeat_round nodes table f c repeat)))
     | inr once ↦ once

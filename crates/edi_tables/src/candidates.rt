@@ -33,6 +33,7 @@ impl<'a> Iterator for Candidates<'a> {
 
     ghost remaining = { item_count (λ left. left) };
 
+    #[inline]
     fn next(&mut self) -> Option<u16> {
         if let Some(entry) = self.first {
             self.first = None;

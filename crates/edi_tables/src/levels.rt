@@ -33,6 +33,7 @@ impl<'a> Iterator for Groups<'a> {
 
     ghost remaining = { item_count (λ left. left) };
 
+    #[inline]
     fn next(&mut self) -> Option<u16> {
         let group = parent_at(self.nodes, self.at)?;
         self.at = usize::from(group);
@@ -68,6 +69,7 @@ impl<'a> Iterator for LaterSiblings<'a> {
 
     ghost remaining = { item_count (λ left. left) };
 
+    #[inline]
     fn next(&mut self) -> Option<u16> {
         let sibling = next_sibling(self.nodes, self.at, self.bound)?;
         self.at = usize::from(sibling);
@@ -76,6 +78,7 @@ impl<'a> Iterator for LaterSiblings<'a> {
 }
 
 /// The group that holds a node.
+#[inline]
 pub fn parent_at(nodes: &[Node], i: usize) -> Option<u16>
     requires { i < length nodes.now }
     ensures { result ≡ parent_at nodes.now i }
@@ -84,6 +87,7 @@ pub fn parent_at(nodes: &[Node], i: usize) -> Option<u16>
 }
 
 /// One past the last descendant of a node.
+#[inline]
 pub fn end_at(nodes: &[Node], i: usize) -> u16
     requires { i < length nodes.now }
     ensures { result ≡ end_at nodes.now i }
@@ -92,6 +96,7 @@ pub fn end_at(nodes: &[Node], i: usize) -> u16
 }
 
 /// Whether a node is a group.
+#[inline]
 pub fn is_group_at(nodes: &[Node], i: usize) -> bool
     requires { i < length nodes.now }
     ensures { result ≡ is_group_at nodes.now i }
@@ -100,6 +105,7 @@ pub fn is_group_at(nodes: &[Node], i: usize) -> bool
 }
 
 /// Whether a node is mandatory.
+#[inline]
 pub fn is_must_at(nodes: &[Node], i: usize) -> bool
     requires { i < length nodes.now }
     ensures { result ≡ is_must_at nodes.now i }
@@ -108,6 +114,7 @@ pub fn is_must_at(nodes: &[Node], i: usize) -> bool
 }
 
 /// The next sibling of a node on a level that ends at this bound: the node at its end.
+#[inline]
 pub fn next_sibling(nodes: &[Node], at: usize, bound: usize) -> Option<u16>
     requires { IsPlace nodes.now at bound }
     ensures { MatchOption result
@@ -123,6 +130,7 @@ pub fn next_sibling(nodes: &[Node], at: usize, bound: usize) -> Option<u16>
 }
 
 /// Where the siblings of a node end: with the group that holds them, or with the table.
+#[inline]
 pub fn level_end(nodes: &[Node], i: usize) -> usize
     requires { IsNode nodes.now i }
     ensures { result ≡ level_end nodes.now i }
@@ -134,6 +142,7 @@ pub fn level_end(nodes: &[Node], i: usize) -> usize
 }
 
 /// The entry that a node stands for: a group stands for its trigger.
+#[inline]
 pub fn entry_for(nodes: &[Node], i: u16) -> u16
     requires { IsNode nodes.now i }
     ensures { result ≡ entry_for nodes.now i }

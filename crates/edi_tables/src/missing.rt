@@ -33,6 +33,7 @@ impl<'a> Iterator for Missing<'a> {
 
     ghost remaining = { item_count (λ left. left) };
 
+    #[inline]
     fn next(&mut self) -> Option<u16> {
         while self.at < self.reached {
             if let Some(sibling) = levels::next_sibling(self.nodes, self.at, self.bound) {

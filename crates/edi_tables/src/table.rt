@@ -102,6 +102,7 @@ impl Table {
     }
 
     /// How many nodes it has: from 2 to 2,000.
+    #[inline]
     pub fn len(&self) -> usize
         ensures value { result ≡ length self.now }
         ensures some { 2 ≤ result }
@@ -111,6 +112,7 @@ impl Table {
     }
 
     /// The node with this number.
+    #[inline]
     pub fn node(&self, i: usize) -> &Node
         requires { i < length self.now }
         ensures { slice_get self.now i ≡ Some result.now }
@@ -143,6 +145,7 @@ impl Table {
     ghost use Rattle.edi_tables.specs.Placement.{is_filled};
 
     /// The group that holds a node; none where it is outside all groups.
+    #[inline]
     pub fn parent(&self, i: usize) -> Option<u16>
         requires { i < length self.now }
         ensures { result ≡ parent_at self.now i }
@@ -151,6 +154,7 @@ impl Table {
     }
 
     /// Whether a node is a group.
+    #[inline]
     pub fn is_group(&self, i: usize) -> bool
         requires { i < length self.now }
         ensures { result ≡ is_group_at self.now i }
@@ -159,6 +163,7 @@ impl Table {
     }
 
     /// Whether a node is the trigger of the group that holds it.
+    #[inline]
     pub fn is_trigger(&self, i: usize) -> bool
         requires { i < length self.now }
         ensures { result ≡ is_trigger_at self.now i }
@@ -225,6 +230,7 @@ impl Table {
     }
 
     /// Whether a group is one of those round a node.
+    #[inline]
     pub fn is_round(&self, i: u16, group: u16) -> bool
         requires within { i < length self.now }
         requires group { group < length self.now }
@@ -234,12 +240,17 @@ impl Table {
     }
 
     /// Whether going from an entry to a candidate repeats a group: the candidate is the trigger of a group round the entry.
+    #[inline]
     pub fn is_repeat(&self, entry: u16, candidate: u16) -> bool
         requires within { entry < length self.now }
         requires candidate { candidate < length self.now }
         ensures { result ≡ is_repeat self.now entry candidate }
     {
-        match levels::parent_at(&self.nodes, usize::from(candidate)) {
+        let nodes = self.nodes.as_slice();
+        if candidate > entry {
+            return false;
+        }
+        match levels::parent_at(nodes, usize::from(candidate)) {
             Some(group) => group + 1 == candidate && self.is_round(entry, group),
             None => false,
         }
@@ -248,6 +259,7 @@ impl Table {
     /// The node that going from an entry to a candidate reaches: no node from there on is passed.
     ///
     /// A repeated group is passed to its end, and the entry itself passes none.
+    #[inline]
     pub fn reached(&self, entry: u16, candidate: u16) -> u16
         requires within { entry < length self.now }
         requires candidate { candidate < length self.now }
@@ -265,6 +277,7 @@ impl Table {
     }
 
     /// Whether going from an entry to a candidate passes a mandatory node, by the first one after the entry.
+    #[inline]
     pub fn misses(&self, entry: u16, first_must: Option<u16>, candidate: u16) -> bool
         requires within { entry < length self.now }
         requires candidate { candidate < length self.now }

@@ -1,5 +1,5 @@
 -- From where to where messages and functional groups run in a list of tags.
-use Rattle.std.specs.Prelude.{◌-◌, ◌+◌, ℕ, Bool, true, false, ◌&&◌, nat_le, List, [], ◌∷◌, length, find, position, slice_get, Option, Some, None, codes, if◌then◌else◌}
+use Rattle.std.specs.Prelude.{◌-◌, ◌+◌, ℕ, Bool, true, false, ◌&&◌, ◌==◌, nat_le, List, [], ◌∷◌, length, find, slice_get, Option, Some, None, codes, if◌then◌else◌}
 use Rattle.std.specs.List.{range_with_len, filter_map, list_any}
 use Rattle.edi_tables.specs.declared.tag.Tag.{Tag}
 use Rattle.edi_tables.specs.Rows.{has_name}
@@ -39,14 +39,34 @@ unfoldable pub group_extents : List (Option Tag) → List Extent
 group_extents tags =
     filter_map (extent_at (codes "UNG") (codes "UNE") (codes "UNE" ∷ codes "UNG" ∷ codes "UNZ" ∷ codes "UNB" ∷ []) tags) (range_with_len 0 (length tags))
 
--- a segment, by its number, lies in an extent
-abbrev pub holds : ℕ → Extent → Bool
-holds k extent = nat_le extent.first k && nat_le k extent.last
+-- the segment at place i lies in an extent
+abbrev pub lies_in : ℕ → Extent → Bool
+lies_in i e = nat_le e.first (i + 1) && nat_le (i + 1) e.last
 
--- which message a segment lies in, by its place among the messages from 0
-unfoldable pub message_at : List (Option Tag) → ℕ → Option ℕ
-message_at tags k = position (holds k) (message_extents tags)
+-- the segment at place i closes an extent
+abbrev pub closes : ℕ → Extent → Bool
+closes i e = e.closed && e.last == i + 1
 
--- which functional group a segment lies in; a message is in the group that its UNH lies in
-unfoldable pub group_at : List (Option Tag) → ℕ → Option ℕ
-group_at tags k = position (holds k) (group_extents tags)
+-- the segment at place i opens an extent
+abbrev pub opens : ℕ → Extent → Bool
+opens i e = e.first == i + 1
+
+-- the message that the segment at place i lies in
+unfoldable pub message_at : List (Option Tag) → ℕ → Option Extent
+message_at tags i = find (lies_in i) (message_extents tags)
+
+-- the message that the UNT at place i closes
+unfoldable pub message_closed_at : List (Option Tag) → ℕ → Option Extent
+message_closed_at tags i = find (closes i) (message_extents tags)
+
+-- the functional group that the segment at place i lies in; a message is in the group that its UNH lies in
+unfoldable pub group_at : List (Option Tag) → ℕ → Option Extent
+group_at tags i = find (lies_in i) (group_extents tags)
+
+-- the functional group that the UNE at place i closes
+unfoldable pub group_closed_at : List (Option Tag) → ℕ → Option Extent
+group_closed_at tags i = find (closes i) (group_extents tags)
+
+-- the functional group that the UNG at place i opens
+unfoldable pub group_opened_at : List (Option Tag) → ℕ → Option Extent
+group_opened_at tags i = find (opens i) (group_extents tags)

@@ -1,22 +1,21 @@
 -- A walk through a table: nothing that comes later on a level that is left later has been counted, so counts change by one step alone.
-use Rattle.std.proofs.Common.{◌≡◌, ℕ, zero, suc, ◌+◌, ◌-◌, ◌<◌, ◌≤◌, Bool, true, false, cond, List, [], ◌∷◌, ◌++◌, Option, Some, None, map, length, refl, sym, ap, subst, ◌∙◌, ◌⊎◌, inl, inr, ⊎_elim, arith}
-use Rattle.std.specs.Prelude.{count_by, slice_get, nat_eq, ◌==◌, ◌||◌, Contains, if◌then◌else◌}
-use Rattle.std.specs.List.{All, list_any}
-use Rattle.std.specs.Option.{option_eq}
-use Rattle.std.proofs.lemmas.Bool.{cond_both, cases_Bool, cases_eq, cases_lt, eq-eqb, ne_eqb, eqb-true, or_left, or_cases, or_right, false≢true}
+use Rattle.std.proofs.Common.{◌≡◌, ℕ, zero, suc, ◌+◌, ◌<◌, ◌≤◌, true, false, cond, List, [], ◌∷◌, ◌++◌, Option, Some, None, length, refl, sym, ap, subst, ◌∙◌, ◌⊎◌, inl, inr, ⊎_elim, arith}
+use Rattle.std.specs.Prelude.{count_by, slice_get, nat_eq, Contains}
+use Rattle.std.specs.List.{All}
+use Rattle.std.proofs.lemmas.Bool.{cond_both, cases_eq, cases_lt, eq-eqb, ne_eqb, eqb-true, or_left, or_cases, false≢true}
 use Rattle.std.proofs.lemmas.List.Elements.{All-nil, All-cons, All-append, All-weaker, All-contains}
 use Rattle.edi_tables.specs.declared.tag.Tag.{Tag}
 use Rattle.edi_tables.specs.declared.table.Node.{Node}
 use Rattle.edi_tables.specs.Rows.{IsTable}
-use Rattle.edi_tables.specs.Walk.{tag_at, parent_at, end_at, is_group_at, is_trigger_of, is_trigger_at, groups_round, outward, itself, candidates_of}
-use Rattle.edi_tables.specs.Placement.{is_at, placed_since, placed_behind, entry_count, group_count, last_placed}
+use Rattle.edi_tables.specs.Walk.{tag_at, parent_at, end_at, is_group_at, is_trigger_at, groups_round, outward, itself, candidates_of}
+use Rattle.edi_tables.specs.Placement.{is_at, placed_behind, last_placed}
 use Rattle.edi_tables.proofs.TableLaws.{HasTableLaws, table_laws}
 use Rattle.edi_tables.proofs.Stepping.{is_round, Steps, round_none, round_some, parent_of_round, candidates_step_so}
 use Rattle.edi_tables.proofs.Reaching.{round_ends, inner_round}
 use Rattle.edi_tables.proofs.Distinct.{IsLater, level, level_later}
-use Rattle.edi_tables.proofs.Counting.{one_if, count_push, at_itself}
-use Rattle.edi_tables.proofs.Placements.{first_outside, tagged}
-use Rattle.edi_tables.proofs.Pushing.{behind_yes, behind_no, since_yes, since_no, since_behind, last_push, last_none}
+use Rattle.edi_tables.proofs.Counting.{count_push}
+use Rattle.edi_tables.proofs.Placements.{tagged}
+use Rattle.edi_tables.proofs.Pushing.{behind_yes, behind_no, last_push, last_none}
 
 -- a node that is later than f, in no group or in one round f, has not been placed since the last trigger of its group
 abbrev pub Ahead : List Node → List (Option ℕ) → ℕ → Type 0

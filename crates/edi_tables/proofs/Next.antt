@@ -1,8 +1,8 @@
 -- The pairs of a walk after one step are a function of its pairs and of the step.
-use Rattle.std.proofs.Common.{◌≡◌, ℕ, zero, suc, ◌+◌, ◌-◌, ◌<◌, ◌≤◌, Bool, true, false, cond, List, [], ◌∷◌, ◌++◌, Option, Some, None, map, length, refl, sym, ap, subst, ◌∙◌, ◌⊎◌, inl, inr, ⊎_elim, arith}
+use Rattle.std.proofs.Common.{◌≡◌, ℕ, ◌+◌, ◌-◌, Bool, true, false, List, [], ◌∷◌, ◌++◌, Option, Some, map, refl, sym, ap, ◌∙◌, inl, inr, arith}
 use Rattle.std.specs.Prelude.{reverse, nat_eq, nat_le, not, ◌==◌, ◌&&◌, ◌||◌, Contains, if◌then◌else◌}
 use Rattle.std.specs.List.{list_any}
-use Rattle.std.proofs.lemmas.Bool.{cases_Bool, cases_eq, eq-eqb, ne_eqb, eqb-true, or_left, or_right, or_cases, false≢true}
+use Rattle.std.proofs.lemmas.Bool.{cases_Bool, cases_eq, eq-eqb, ne_eqb, eqb-true, or_left, or_right, false≢true}
 use Rattle.std.proofs.lemmas.List.{reverse-append}
 use Rattle.std.proofs.lemmas.List.Folds.{list_any-append}
 use Rattle.edi_tables.specs.declared.table.Node.{Node}
@@ -13,7 +13,7 @@ use Rattle.edi_tables.specs.Pairs.{pairs_with, pairs_of, count_in, entry_in, gro
 use Rattle.edi_tables.proofs.Stepping.{is_round}
 use Rattle.edi_tables.proofs.Reaching.{round_ends}
 use Rattle.edi_tables.proofs.Placements.{repeat_round}
-use Rattle.edi_tables.proofs.Pushing.{last_push, last_none}
+use Rattle.edi_tables.proofs.Pushing.{last_push}
 use Rattle.edi_tables.proofs.Ahead.{IsSound, round_group}
 use Rattle.edi_tables.proofs.Counts.{group_grows, entry_grows, trigger_once, group_none, entry_none}
 

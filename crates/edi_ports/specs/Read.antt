@@ -15,7 +15,7 @@ IsReadAll before now limit (Err TooLong) = TakesFront before now (λ n. limit < 
 IsReadAll before now limit (Err Fault) = TakesFront before now (λ n. n ≤ limit)
 IsReadAll before now limit (Err Memory) = TakesFront before now (λ n. n ≤ limit)
 
--- the part stands behind what was there; too long where it would pass the limit; else memory ran out, and nothing changed
+-- the part follows what was there; too long where it would pass the limit; else memory ran out, and nothing changed
 abbrev pub IsGathering : List ℕ → List ℕ → List ℕ → ℕ → Result Unit ReadStop → Type 0
 IsGathering before now part limit (Ok done) = (now ≡ before ++ part) × (length before + length part ≤ limit)
 IsGathering before now part limit (Err TooLong) = limit < length before + length part

@@ -71,7 +71,7 @@ pub fn read_file<S: Shelf>(alloc: Global, shelf: &mut S, limit: usize) -> Result
     }
 }
 
-// Puts octets behind those that were taken before, unless they are then more than the limit allows.
+// Puts octets after those that were taken before, unless they are then more than the limit allows.
 fn gather(octets: &mut Vec<u8>, part: &[u8], limit: usize) -> Result<(), ReadStop>
     requires { length octets.old.items ≤ limit }
     ensures { IsGathering octets.old.items octets.new.items part.now limit result }

@@ -33,7 +33,7 @@ pub trait Shelf {
     /// Whether a file is open.
     ghost is_open: { Self → Bool };
 
-    /// How often it has failed: a count that never falls, and stands still at 2^64 - 1.
+    /// How often it has failed: a count that never falls, and stays at 2^64 - 1 once it is there.
     ghost faults: { Self → ℕ };
 
     /// That none of its calls fails from here on.

@@ -16,7 +16,7 @@ pub trait Sink {
     /// The octets that were put so far, where the sink tells them.
     ghost held: { Self → Option (List ℕ) };
 
-    /// How often it has failed: a count that never falls, and stands still at 2^64 - 1.
+    /// How often it has failed: a count that never falls, and stays at 2^64 - 1 once it is there.
     ghost faults: { Self → ℕ };
 
     /// That it takes so many more octets without a fault.

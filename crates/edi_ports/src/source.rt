@@ -15,7 +15,7 @@ pub trait Source {
     /// The octets that are left, where the source tells them.
     ghost rest: { Self → Option (List ℕ) };
 
-    /// How often it has failed: a count that never falls, and stands still at 2^64 - 1.
+    /// How often it has failed: a count that never falls, and stays at 2^64 - 1 once it is there.
     ghost faults: { Self → ℕ };
 
     /// That none of its calls fails from here on.

@@ -8,3 +8,4 @@ pub mod Placed
 pub mod Ambiguous
 pub mod Marking
 pub mod Meeting
+pub mod AllDiffer

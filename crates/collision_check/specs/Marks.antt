@@ -1,5 +1,5 @@
 -- The numbers of a table's tags, and what is known of each tag after an entry. Bodies and their invariants need it alone.
-use Rattle.std.specs.Prelude.{◌≡◌, ◌≤◌, ℕ, Bool, false, ◌==◌, List, Option, Some, None, map, find, cond, length, slice_get, slice_set, unwrap_or, if◌then◌else◌}
+use Rattle.std.specs.Prelude.{◌≡◌, ◌≤◌, ℕ, Bool, true, false, ◌==◌, List, Option, Some, None, map, find, cond, length, slice_get, slice_set, unwrap_or, if◌then◌else◌}
 use Rattle.std.specs.List.{range_with_len}
 use Rattle.std.specs.Str.{bytes_eq}
 use Rattle.edi_tables.specs.declared.tag.Tag.{Tag}
@@ -29,6 +29,11 @@ number_at nodes i = number_of nodes (tag_at nodes i)
 -- the numbers of all nodes' tags
 unfoldable pub numbers_of : List Node → List (Option ℕ)
 numbers_of nodes = map (number_at nodes) (range_with_len 0 (length nodes))
+
+-- the number of the node at a place is that of the node itself
+abbrev pub is_own : ℕ → Option ℕ → Bool
+is_own place None = true
+is_own place (Some number) = number == place
 
 -- what is known of a tag after one follower more with it
 abbrev pub met_next : Option Met → ℕ → Met

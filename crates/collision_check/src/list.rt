@@ -9,7 +9,7 @@ ghost use Rattle.collision_check.specs.Listed.{IsAmbiguous, collision_seen, coll
 ghost use Rattle.collision_check.specs.Marks.{IsFresh, numbers_of};
 
 use crate::marks::Mark;
-use crate::numbers::numbers;
+use crate::numbers::{all_differ, numbers};
 use crate::{follow, front};
 use edi_tables::{List, Table, Tag};
 use std::alloc::{AllocError, Global};
@@ -37,9 +37,12 @@ pub fn list_collisions(alloc: Global, table: &Table) -> Result<Vec<Collision>, A
 {
     let count = table.len();
     let numbers = numbers(alloc, table.nodes())?;
+    let mut collisions = Vec::new(alloc);
+    if all_differ(&numbers) {
+        return Ok(collisions);
+    }
     let mut marks = unmarked(alloc, count)?;
     let marks = marks.as_mut_slice();
-    let mut collisions = Vec::new(alloc);
     for entry in 0..count {
         push_collisions(alloc, table, &numbers, marks, entry as u16, &mut collisions)?;
     }

@@ -1,0 +1,13 @@
+pub mod Ahead
+pub mod Closing
+pub mod Counting
+pub mod Extents
+pub mod Fitting
+pub mod GroupAhead
+pub mod IsKnown
+pub mod Openings
+pub mod Progress
+pub mod RuleLaws
+pub mod Searching
+pub mod SegmentErrors
+pub mod TagKinds

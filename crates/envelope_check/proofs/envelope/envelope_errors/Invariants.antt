@@ -1,0 +1,5 @@
+use Rattle.envelope_check.proofs.Progress.{IsDone}
+use Rattle.envelope_check.proofs.envelope.envelope_errors.Given as goal
+
+abbrev pub invariant-loop : goal.invariant-loop
+invariant-loop l = IsDone l.heads l.starts l.counter l.known l.rest l.marks l.errors.items

@@ -1,0 +1,3 @@
+pub mod Envelope
+pub mod Heads
+pub mod Known

@@ -1,0 +1,106 @@
+//! The errors of the envelopes of a text.
+ghost use Rattle.std.specs.Prelude.{◌≡◌, ◌+◌, ◌++◌, length, not, is_some, IfOk, OnOk};
+ghost use Rattle.std.specs.Option.{option_copied};
+ghost use Rattle.edi_tables.specs.Rows.{when};
+ghost use Rattle.envelope_check.specs.Heads.{Fits};
+ghost use Rattle.envelope_check.specs.Envelope.{envelope_errors_of, error_of_text as text_error};
+ghost use Rattle.envelope_check.specs.Known.{errors_by, first_unb as first_unb_of, has_kind, is_unz};
+
+use crate::head::{Head, SegmentMark};
+use crate::heads::{first_unb, has_end, split_here};
+use crate::known::Known;
+use crate::rules::{Rule, rules};
+use error_ledger::{ErrorLine, Kind};
+use seq_tree::Seq;
+use std::alloc::{AllocError, Global};
+
+/// The errors of the envelopes of a text, in the order of errors: those of the interchange, of its functional groups and
+/// of its messages, but for the service string advice, the syntax that UNB names, and a tail.
+///
+/// `starts` are all segments in order, and `total` is how many they are. `heads` are those of them that have one of the
+/// six tags of `HeadKind`, in order. Only want of memory is an error.
+pub fn envelope_errors(
+    alloc: Global,
+    heads: &[Head],
+    total: u32,
+    starts: &Seq<SegmentMark>,
+) -> Result<Vec<ErrorLine>, AllocError>
+    requires fits { Fits heads.now starts.now }
+    requires total { total ≡ length starts.now }
+    ensures { IfOk result (λ errors. errors.items ≡ envelope_errors_of heads.now starts.now) }
+{
+    let mut errors = text_errors(alloc, heads)?;
+    let mut known = Known::first(heads);
+    let mut rest = heads;
+    let mut marks = starts.iter();
+    for _ in 0..total {
+        let Some(mark) = marks.next() else {
+            unreachable!();
+        };
+        let number = known.segments + 1;
+        let (head, after) = split_here(rest, number);
+        push_errors(&mut errors, number, mark, rules(&known, head, after))?;
+        known = known.after(head);
+        rest = after;
+    }
+    Ok(errors)
+}
+
+// The errors of the text as a whole: it begins with no UNB, and it has no UNZ.
+fn text_errors(alloc: Global, heads: &[Head]) -> Result<Vec<ErrorLine>, AllocError>
+    ensures { IfOk result (λ errors. errors.items
+        ≡ when (not (is_some (first_unb_of heads.now))) (text_error Kind.NoUnb)
+        ++ when (not (has_kind is_unz heads.now)) (text_error Kind.NoUnz)) }
+{
+    let mut errors = Vec::new(alloc);
+    if first_unb(heads).is_none() {
+        errors.push(error_of_text(Kind::NoUnb))?;
+    }
+    if !has_end(heads) {
+        errors.push(error_of_text(Kind::NoUnz))?;
+    }
+    Ok(errors)
+}
+
+// An error of the text as a whole, at segment 0.
+fn error_of_text(kind: Kind) -> ErrorLine
+    ensures { result ≡ text_error kind }
+{
+    ErrorLine {
+        segment: 0,
+        start: 0,
+        tag: None,
+        element: 0,
+        component: 0,
+        kind,
+        node: 0,
+        missing: None,
+    }
+}
+
+// Puts the errors of the rules that a segment breaks at the end.
+#[tactic(auto, unfolding(crate::specs::Known::errors_by))]
+fn push_errors(
+    errors: &mut Vec<ErrorLine>,
+    number: u32,
+    mark: &SegmentMark,
+    rules: [Rule; 11],
+) -> Result<(), AllocError>
+    ensures { OnOk result (errors.new.items ≡ errors.old.items ++ errors_by number mark.now rules) }
+{
+    for (is_broken, element, kind) in rules {
+        if is_broken {
+            errors.push(ErrorLine {
+                segment: number,
+                start: mark.start,
+                tag: mark.tag,
+                element,
+                component: 0,
+                kind,
+                node: 0,
+                missing: None,
+            })?;
+        }
+    }
+    Ok(())
+}

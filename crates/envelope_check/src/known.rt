@@ -1,0 +1,74 @@
+//! What is known of a text when one of its segments is looked at.
+ghost use Rattle.std.specs.Prelude.{◌≡◌, ◌+◌, ◌≤◌, ◌<◌, ◌^◌};
+
+use crate::head::{Head, HeadKind};
+use crate::heads::{first_unb, has_groups, kind_in};
+use crate::step::{group_after, group_messages_after, message_after, message_segments_after};
+
+/// What is known of a text when one of its segments is looked at: what the segments before it have opened and counted.
+#[derive(Clone, Copy)]
+pub(crate) struct Known<'a> {
+    /// The text has a functional group, before the segment or after it.
+    pub has_groups: bool,
+    /// The first segment, where it is UNB.
+    pub interchange: Option<&'a Head>,
+    /// A UNZ came before.
+    pub ended: bool,
+    /// The UNH of the message that is open, and how many segments it has so far.
+    pub message: Option<&'a Head>,
+    pub message_segments: u32,
+    /// The UNG of the group that is open, and how many messages it has so far.
+    pub group: Option<&'a Head>,
+    pub group_messages: u32,
+    /// How many segments, groups and messages came before.
+    pub segments: u32,
+    pub groups: u32,
+    pub messages: u32,
+    ghost few_message_segments: { message_segments ≤ segments },
+    ghost few_group_messages: { group_messages ≤ segments },
+    ghost few_groups: { groups ≤ segments },
+    ghost few_messages: { messages ≤ segments },
+}
+
+impl<'a> Known<'a> {
+    ghost use Rattle.std.specs.Option.{option_copied};
+    ghost use Rattle.envelope_check.specs.Known.{IsKnownAfter, IsKnownFirst};
+
+    /// Before the first segment.
+    pub(crate) fn first(heads: &'a [Head]) -> Known<'a>
+        ensures { IsKnownFirst heads.now result }
+    {
+        Known {
+            has_groups: has_groups(heads),
+            interchange: first_unb(heads),
+            ended: false,
+            message: None,
+            message_segments: 0,
+            group: None,
+            group_messages: 0,
+            segments: 0,
+            groups: 0,
+            messages: 0,
+        }
+    }
+
+    /// After a segment, which may be a head.
+    pub(crate) fn after(&self, head: Option<&'a Head>) -> Known<'a>
+        requires { self.now.segments + 1 < 2 ^ 32 }
+        ensures { IsKnownAfter self.now (option_copied head.entry) result }
+    {
+        let kind = kind_in(head);
+        Known {
+            has_groups: self.has_groups,
+            interchange: self.interchange,
+            ended: self.ended || matches!(kind, Some(HeadKind::Unz)),
+            message: message_after(kind, head, self.message),
+            message_segments: message_segments_after(kind, self.message_segments),
+            group: group_after(kind, head, self.group),
+            group_messages: group_messages_after(kind, self.group_messages),
+            segments: self.segments + 1,
+            groups: self.groups + u32::from(matches!(kind, Some(HeadKind::Ung))),
+            messages: self.messages + u32::from(matches!(kind, Some(HeadKind::Unh))),
+        }
+    }
+}

@@ -1,0 +1,14 @@
+//! What is wrong with the envelopes of a text: of its interchange, its functional groups and its messages.
+#![tactic(auto)]
+
+mod envelope;
+mod head;
+mod heads;
+mod known;
+mod rules;
+mod step;
+#[cfg(test)]
+mod tests;
+
+pub use envelope::envelope_errors;
+pub use head::{Head, HeadKind, SegmentMark};

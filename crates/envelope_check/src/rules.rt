@@ -1,0 +1,197 @@
+//! The rules on envelopes, each a test of its own on one segment.
+ghost use Rattle.std.specs.Prelude.{◌≡◌, ◌+◌, ◌<◌, ◌^◌, is_some};
+ghost use Rattle.std.specs.Option.{option_copied};
+ghost use Rattle.envelope_check.specs.Envelope.{gives as gives_number};
+ghost use Rattle.envelope_check.specs.Known.{
+  second_unb_by,
+  has_place_by,
+  outside_by,
+  empty_interchange_by,
+  mixed_by,
+  lacks_une_by,
+  empty_group_by,
+  other_type_by,
+  counted_by,
+  count_due_by,
+  miscounts_by,
+  opening_by,
+  refers_elsewhere_by,
+  lacks_table_by,
+  rules_by,
+  group_end as group_end_of,
+  next_but_unt as next_but_unt_of,
+};
+
+use crate::head::{Head, HeadKind};
+use crate::heads::{group_end, kind_in, next_but_unt};
+use crate::known::Known;
+use edi_octets::read_decimal;
+use error_ledger::Kind;
+
+/// A rule at a segment: whether it is broken, and the element and the kind of its error.
+pub(crate) type Rule = (bool, u32, Kind);
+
+/// The rules at a segment, in the order of their errors.
+#[tactic(auto, unfolding(crate::specs::Known::rules_by))]
+pub(crate) fn rules(known: &Known, head: Option<&Head>, after: &[Head]) -> [Rule; 11]
+    requires { known.now.segments + 1 < 2 ^ 32 }
+    ensures { result ≡ rules_by known.now (option_copied head.entry) after.now }
+{
+    let kind = kind_in(head);
+    #[rattlefmt::skip]
+    let rules = [
+        (is_second_unb(known, kind), 0, Kind::SecondUnb),
+        (known.ended, 0, Kind::AfterEnd),
+        (is_outside(known, kind), 0, Kind::Outside),
+        (is_empty_interchange(known, kind), 0, Kind::EmptyInterchange),
+        (is_mixed(known, kind), 0, Kind::Mixed),
+        (lacks_une(kind, after), 0, Kind::NoUne),
+        (is_empty_group(kind, after), 0, Kind::EmptyGroup),
+        (is_of_other_type(kind, head, known.group), 0, Kind::GroupType),
+        (miscounts(head, count_due(known, kind)), 1, Kind::Count),
+        (refers_elsewhere(head, opening(known, kind)), 2, Kind::Reference),
+        (lacks_table(head), 2, Kind::NoTable),
+    ];
+    rules
+}
+
+// A UNB that isn't the first segment, and isn't after the end.
+fn is_second_unb(known: &Known, kind: Option<HeadKind>) -> bool
+    ensures { result ≡ second_unb_by kind known.now.segments known.now.ended }
+{
+    matches!(kind, Some(HeadKind::Unb)) && known.segments != 0 && !known.ended
+}
+
+// It lies in a message, closes a message or a group, or opens or closes what isn't in one.
+fn has_place(known: &Known, kind: Option<HeadKind>) -> bool
+    ensures { result ≡ has_place_by kind (is_some known.now.message) (is_some known.now.group) }
+{
+    match kind {
+        None | Some(HeadKind::Unt) => known.message.is_some(),
+        Some(HeadKind::Une) => known.group.is_some(),
+        Some(_) => true,
+    }
+}
+
+fn is_outside(known: &Known, kind: Option<HeadKind>) -> bool
+    ensures { result
+        ≡ outside_by kind known.now.ended (is_some known.now.message) (is_some known.now.group) }
+{
+    !known.ended && !has_place(known, kind)
+}
+
+// The first UNZ, with no group and no message before it.
+fn is_empty_interchange(known: &Known, kind: Option<HeadKind>) -> bool
+    ensures { result
+        ≡ empty_interchange_by kind known.now.ended known.now.groups known.now.messages }
+{
+    matches!(kind, Some(HeadKind::Unz)) && !known.ended && known.groups == 0 && known.messages == 0
+}
+
+// A message in no group, in a text with groups.
+fn is_mixed(known: &Known, kind: Option<HeadKind>) -> bool
+    ensures { result ≡ mixed_by kind (is_some known.now.group) known.now.has_groups }
+{
+    matches!(kind, Some(HeadKind::Unh)) && known.group.is_none() && known.has_groups
+}
+
+// A group that ends without a UNE.
+fn lacks_une(kind: Option<HeadKind>, after: &[Head]) -> bool
+    ensures { result ≡ lacks_une_by kind (group_end_of after.now) }
+{
+    matches!(kind, Some(HeadKind::Ung)) && !matches!(group_end(after), Some(HeadKind::Une))
+}
+
+// A group without a message: its first head that isn't UNT is no UNH.
+fn is_empty_group(kind: Option<HeadKind>, after: &[Head]) -> bool
+    ensures { result ≡ empty_group_by kind (next_but_unt_of after.now) }
+{
+    matches!(kind, Some(HeadKind::Ung)) && !matches!(next_but_unt(after), Some(HeadKind::Unh))
+}
+
+// A message of another type than its group's.
+fn is_of_other_type(kind: Option<HeadKind>, head: Option<&Head>, group: Option<&Head>) -> bool
+    ensures { result ≡ other_type_by kind (option_copied head.entry) (option_copied group.entry) }
+{
+    match (kind, head, group) {
+        (Some(HeadKind::Unh), Some(head), Some(group)) => {
+            head.name.octets() != group.name.octets()
+        }
+        _ => false,
+    }
+}
+
+// The number that a closing segment has to give.
+fn count_due(known: &Known, kind: Option<HeadKind>) -> Option<u32>
+    requires { known.now.segments + 1 < 2 ^ 32 }
+    ensures { result ≡ count_due_by kind known.now }
+{
+    match kind? {
+        HeadKind::Unt => known
+            .message
+            .is_some()
+            .then_some(known.message_segments + 1),
+        HeadKind::Une => known.group.is_some().then_some(known.group_messages),
+        HeadKind::Unz => (!known.ended).then_some(counted(known.groups, known.messages)),
+        _ => None,
+    }
+}
+
+// What the end of the interchange counts: the groups or, where there are none, the messages.
+fn counted(groups: u32, messages: u32) -> u32
+    ensures { result ≡ counted_by groups messages }
+{
+    if groups == 0 { messages } else { groups }
+}
+
+// A count that isn't the number that it has to be.
+fn miscounts(head: Option<&Head>, due: Option<u32>) -> bool
+    ensures { result ≡ miscounts_by (option_copied head.entry) due }
+{
+    match (head, due) {
+        (Some(head), Some(due)) => !gives(head.count.octets(), due),
+        _ => false,
+    }
+}
+
+// Whether these octets are 1 to 19 digits that give this number.
+fn gives(value: &[u8], number: u32) -> bool
+    ensures { result ≡ gives_number value.now number }
+{
+    match read_decimal(value) {
+        Some(given) => given == u64::from(number),
+        None => false,
+    }
+}
+
+// The segment that opened what a segment closes.
+fn opening<'a>(known: &Known<'a>, kind: Option<HeadKind>) -> Option<&'a Head>
+    ensures { option_copied result ≡ opening_by kind known.now }
+{
+    match kind? {
+        HeadKind::Unt => known.message,
+        HeadKind::Une => known.group,
+        HeadKind::Unz if !known.ended => known.interchange,
+        _ => None,
+    }
+}
+
+// A reference that isn't that of the opening segment.
+fn refers_elsewhere(head: Option<&Head>, opening: Option<&Head>) -> bool
+    ensures { result ≡ refers_elsewhere_by (option_copied head.entry) (option_copied opening.entry) }
+{
+    match (head, opening) {
+        (Some(head), Some(opening)) => head.reference.octets() != opening.reference.octets(),
+        _ => false,
+    }
+}
+
+// A message for which the directory has no table.
+fn lacks_table(head: Option<&Head>) -> bool
+    ensures { result ≡ lacks_table_by (option_copied head.entry) }
+{
+    match head {
+        Some(head) => matches!(head.kind, HeadKind::Unh) && !head.tabled,
+        None => false,
+    }
+}

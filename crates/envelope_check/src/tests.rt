@@ -1,0 +1,1 @@
+//! The errors of envelopes, on rows that are worked out by hand.

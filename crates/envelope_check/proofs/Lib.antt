@@ -11,3 +11,4 @@ pub mod RuleLaws
 pub mod Searching
 pub mod SegmentErrors
 pub mod TagKinds
+mod Worked

@@ -40,6 +40,10 @@ pub record HeadPlace : Type 0 where
 abbrev pub place_of : Head → HeadPlace
 place_of head = record { segment = head.segment; start = head.start; kind = head.kind }
 
+-- where segment k with this mark is as a head, if its tag is one of the six
+abbrev pub place_by : ℕ → SegmentMark → Option HeadPlace
+place_by k mark = option_map (λ kind. record { segment = k; start = mark.start; kind = kind }) (kind_of mark.tag)
+
 -- where the head at place i is, if the segment there has one of the six tags
 abbrev pub head_place : List SegmentMark → ℕ → Option HeadPlace
 head_place marks i =

@@ -1,26 +1,25 @@
 -- What a closing segment has to give: its count, and the reference of the segment that opened what it closes.
-use Rattle.std.proofs.Common.{◌≡◌, ℕ, zero, suc, ◌+◌, ◌-◌, ◌<◌, ◌≤◌, Bool, true, false, not, cond, List, [], ◌∷◌, ◌&&◌, Option, Some, None, length, refl, sym, ap, subst, ◌∙◌, inl, inr, arith}
-use Rattle.std.specs.Prelude.{is_some, ◌==◌, codes, if◌then◌else◌}
+use Rattle.std.proofs.Common.{◌≡◌, ℕ, ◌+◌, ◌<◌, Bool, true, false, not, cond, List, [], ◌&&◌, Option, Some, None, length, refl, sym, ap, ◌∙◌, arith}
+use Rattle.std.specs.Prelude.{is_some, codes, if◌then◌else◌}
 use Rattle.std.specs.Option.{option_map, option_map_or, option_and_then, option_or, option_copied}
 use Rattle.std.specs.Str.{bytes_eq}
-use Rattle.std.proofs.lemmas.Bool.{cases_Bool, false≢true, true≢false}
-use Rattle.edi_tables.specs.Extents.{Extent, tag_in}
+use Rattle.std.proofs.lemmas.Bool.{false≢true, true≢false}
+use Rattle.edi_tables.specs.Extents.{Extent, tag_in, message_closed_at, group_closed_at}
 use Rattle.edi_tables.specs.declared.tag.Tag.{Tag}
-use Rattle.edi_tables.specs.Rows.{has_name}
 use Rattle.envelope_check.specs.declared.head.Head.{Head}
 use Rattle.envelope_check.specs.declared.head.HeadKind.{HeadKind}
-use Rattle.envelope_check.specs.declared.head.HeadKind.TheVariants.{Unb, Ung, Unh, Unt, Une, Unz}
+use Rattle.envelope_check.specs.declared.head.HeadKind.TheVariants.{Unh, Unt, Une, Unz}
 use Rattle.envelope_check.specs.declared.head.SegmentMark.{SegmentMark}
 use Rattle.envelope_check.specs.declared.known.Known.{Known}
-use Rattle.envelope_check.specs.Heads.{tags_of, head_of, kind_of, reference_of, count_of}
+use Rattle.envelope_check.specs.Heads.{tags_of, head_of, reference_of, count_of}
 use Rattle.envelope_check.specs.Known.{kind_in, is_unh, is_unz, is_une, by_closing, counted_by, count_due_by, miscounts_by, opening_by, refers_elsewhere_by}
-use Rattle.envelope_check.specs.Envelope.{is_at, count_at, is_end, message_closed_at, group_closed_at, segments_in, messages_in, counted_at_end, count_due, opening_of, gives, miscounts, refers_elsewhere}
+use Rattle.envelope_check.specs.Envelope.{is_at, count_at, is_end, segments_in, messages_in, counted_at_end, count_due, opening_of, gives, miscounts, refers_elsewhere}
 use Rattle.envelope_check.proofs.Counting.{count_more}
 use Rattle.envelope_check.proofs.TagKinds.{is_unt, unt_by_kind, une_by_kind, unh_by_kind}
-use Rattle.envelope_check.proofs.Openings.{first_of, next_stop, stretch_closed, opened, opened_is, Opened, IsOpen}
+use Rattle.envelope_check.proofs.Openings.{first_of, next_stop, stretch_closed}
 use Rattle.envelope_check.proofs.Extents.{tag_kind, kind_passes, message_opened, group_opened, message_from, group_from, message_marks, group_marks, opens_message, closes_message, ends_message, opens_group, closes_group, ends_group_at, message_closed_by, group_closed_by}
-use Rattle.envelope_check.proofs.IsKnown.{IsKnown, opener, opened_before, is_some_copied}
-use Rattle.envelope_check.proofs.RuleLaws.{Site, end_is, is_some_map, IsOpener, group_opener, message_opener, no_head}
+use Rattle.envelope_check.proofs.IsKnown.{IsKnown, opened_before, is_some_copied}
+use Rattle.envelope_check.proofs.RuleLaws.{Site, end_is, IsOpener, group_opener, message_opener}
 
 -- the message that a segment closes ends with it
 message_ends : (tags : List (Option Tag)) (i a : ℕ) → i < length tags → is_at (codes "UNT") tags i ≡ true → message_opened tags i ≡ Some a → message_from tags a ≡ record { first = a + 1; last = i + 1; closed = true }

@@ -1,13 +1,12 @@
 -- Counts of segments up to a place, and the end of the interchange, as a place is passed.
-use Rattle.std.proofs.Common.{◌≡◌, ℕ, zero, suc, ◌+◌, ◌-◌, ◌<◌, ◌≤◌, Bool, true, false, not, cond, List, [], ◌∷◌, ◌&&◌, ◌||◌, Option, Some, None, length, refl, sym, ap, subst, ◌∙◌, inl, inr, arith, eq-eqb}
-use Rattle.std.specs.Prelude.{find, filter, is_some, ◌==◌, nat_lt, codes, MatchOption}
+use Rattle.std.proofs.Common.{◌≡◌, ℕ, zero, suc, ◌+◌, ◌-◌, ◌<◌, ◌≤◌, Bool, true, false, not, cond, List, [], ◌∷◌, ◌&&◌, ◌||◌, Option, Some, None, length, refl, sym, ap, ◌∙◌, inl, inr, arith, eq-eqb}
+use Rattle.std.specs.Prelude.{find, filter, is_some, ◌==◌, nat_lt, codes}
 use Rattle.std.specs.Option.{option_map_or}
 use Rattle.std.specs.List.{range_with_len}
-use Rattle.std.proofs.lemmas.Bool.{cases_Bool, cases_order, false≢true, ne_eqb, lt-ltb, le-ltb}
-use Rattle.edi_tables.specs.Extents.{tag_in}
+use Rattle.std.proofs.lemmas.Bool.{cases_Bool, cases_order, ne_eqb, lt-ltb, le-ltb}
 use Rattle.edi_tables.specs.declared.tag.Tag.{Tag}
 use Rattle.envelope_check.specs.Envelope.{is_at, count_at, end_of_interchange, is_end, is_after_end}
-use Rattle.envelope_check.proofs.Searching.{IsFirst, IsNone, Found, found}
+use Rattle.envelope_check.proofs.Searching.{Found, found}
 
 length_cond : (p : Bool) (a : ℕ) (xs : List ℕ) → length (cond p (a ∷ xs) xs) ≡ length xs + cond p 1 0
 length_cond true a xs = omega arith

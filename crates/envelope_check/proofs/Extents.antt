@@ -1,17 +1,16 @@
 -- The message and the group at a place, told by its kind and by what is open before it.
-use Rattle.std.proofs.Common.{◌≡◌, ℕ, ◌+◌, ◌-◌, ◌<◌, ◌≤◌, Bool, true, false, not, cond, List, [], ◌∷◌, ◌&&◌, ◌||◌, Option, Some, None, length, refl, sym, ap, subst, ◌∙◌, arith}
-use Rattle.std.specs.Prelude.{find, codes, is_some}
+use Rattle.std.proofs.Common.{◌≡◌, ℕ, ◌<◌, Bool, true, false, not, cond, List, ◌&&◌, Option, Some, None, length, refl, sym, ap, ◌∙◌}
+use Rattle.std.specs.Prelude.{codes}
 use Rattle.std.specs.Option.{option_map, option_map_or}
-use Rattle.std.proofs.lemmas.Bool.{false≢true}
-use Rattle.edi_tables.specs.Extents.{Extent, tag_in, message_extents, group_extents}
+use Rattle.edi_tables.specs.Extents.{Extent, tag_in, message_extents, group_extents, message_at, message_closed_at, group_at, group_closed_at, group_opened_at}
 use Rattle.edi_tables.specs.declared.tag.Tag.{Tag}
 use Rattle.edi_tables.specs.Rows.{has_name}
 use Rattle.envelope_check.specs.declared.head.HeadKind.{HeadKind}
-use Rattle.envelope_check.specs.declared.head.HeadKind.TheVariants.{Unb, Ung, Unh, Unt, Une, Unz}
+use Rattle.envelope_check.specs.declared.head.HeadKind.TheVariants.{Unh, Unt, Une}
 use Rattle.envelope_check.specs.Heads.{kind_of}
 use Rattle.envelope_check.specs.Known.{is_ung, is_unh, is_une, ends_group}
-use Rattle.envelope_check.specs.Envelope.{is_at, message_at, message_closed_at, group_at, group_closed_at, group_opened_at}
-use Rattle.envelope_check.proofs.Openings.{stretch, stretch_to, next_stop, opened, holder, closed_by, AreMarks, stretch_at, stretch_closed_at, stretch_opened_at, stretch_closed}
+use Rattle.envelope_check.specs.Envelope.{is_at}
+use Rattle.envelope_check.proofs.Openings.{stretch, opened, AreMarks, stretch_at, stretch_closed_at, stretch_opened_at}
 use Rattle.envelope_check.proofs.TagKinds.{is_unt, stops_message, stops_group, ung_by_kind, unh_by_kind, unt_by_kind, une_by_kind, message_stop_by_kind, group_stop_by_kind}
 
 abbrev pub tag_kind : List (Option Tag) → ℕ → Option HeadKind

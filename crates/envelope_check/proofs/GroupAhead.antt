@@ -1,26 +1,25 @@
 -- How a group goes on after its UNG, told by the heads to come.
-use Rattle.std.proofs.Common.{◌≡◌, ℕ, zero, suc, ◌+◌, ◌-◌, ◌<◌, ◌≤◌, Bool, true, false, not, cond, List, [], ◌∷◌, Option, Some, None, length, refl, sym, ap, subst, ◌∙◌, inl, inr, arith}
-use Rattle.std.specs.Prelude.{find, filter, is_some, ◌==◌, codes, MatchOption, if◌then◌else◌}
+use Rattle.std.proofs.Common.{◌≡◌, ℕ, ◌+◌, ◌-◌, ◌<◌, ◌≤◌, Bool, true, false, not, cond, List, Option, Some, None, length, refl, sym, ap, subst, ◌∙◌, inl, inr, arith}
+use Rattle.std.specs.Prelude.{find, is_some, ◌==◌, codes}
 use Rattle.std.specs.Option.{option_map, option_map_or, option_and_then}
 use Rattle.std.specs.List.{range_with_len}
-use Rattle.std.proofs.lemmas.Bool.{cases_Bool, cases_eq, cases_lt, cases_order, false≢true, true≢false, false_from_ne_true}
-use Rattle.edi_tables.specs.Extents.{Extent, tag_in}
+use Rattle.std.proofs.lemmas.Bool.{cases_Bool, cases_eq, cases_lt, cases_order, true≢false}
+use Rattle.edi_tables.specs.Extents.{Extent, tag_in, group_opened_at}
 use Rattle.edi_tables.specs.declared.tag.Tag.{Tag}
-use Rattle.edi_tables.specs.Rows.{has_name}
 use Rattle.envelope_check.specs.declared.head.Head.{Head}
 use Rattle.envelope_check.specs.declared.head.HeadKind.{HeadKind}
 use Rattle.envelope_check.specs.declared.head.HeadKind.TheVariants.{Unb, Ung, Unh, Unt, Une, Unz}
 use Rattle.envelope_check.specs.declared.head.SegmentMark.{SegmentMark}
 use Rattle.envelope_check.specs.declared.known.Known.{Known}
-use Rattle.envelope_check.specs.Heads.{tags_of, kind_of}
+use Rattle.envelope_check.specs.Heads.{tags_of}
 use Rattle.envelope_check.specs.Known.{kind_in, is_ung, is_unh, is_une, is_no_unt, ends_group, group_end, next_but_unt, lacks_une_by, empty_group_by}
-use Rattle.envelope_check.specs.Envelope.{is_at, count_at, group_opened_at, messages_in, lacks_une, is_empty_group}
-use Rattle.envelope_check.proofs.Searching.{IsFirst, IsNone, Found, found, find_is, find_none}
+use Rattle.envelope_check.specs.Envelope.{is_at, count_at, messages_in, lacks_une, is_empty_group}
+use Rattle.envelope_check.proofs.Searching.{IsFirst, Found, found, find_is, find_none}
 use Rattle.envelope_check.proofs.Counting.{none_counted}
-use Rattle.envelope_check.proofs.TagKinds.{stops_group, unh_by_kind, une_by_kind, group_stop_by_kind}
+use Rattle.envelope_check.proofs.TagKinds.{unh_by_kind, une_by_kind, group_stop_by_kind}
 use Rattle.envelope_check.proofs.Openings.{stretch_to, next_stop, first_of}
-use Rattle.envelope_check.proofs.Extents.{tag_kind, kind_passes, group_from, closes_group, ends_group_at, group_opened_by}
-use Rattle.envelope_check.proofs.Ahead.{length_tags, Heads, Here, at_kind, kind_at, find_ahead}
+use Rattle.envelope_check.proofs.Extents.{kind_passes, group_from, closes_group, ends_group_at, group_opened_by}
+use Rattle.envelope_check.proofs.Ahead.{length_tags, Heads, at_kind, kind_at, find_ahead}
 use Rattle.envelope_check.proofs.IsKnown.{find_same}
 use Rattle.envelope_check.proofs.RuleLaws.{Site}
 

@@ -1,11 +1,10 @@
 -- Which extent a place lies in, closes or opens, told by the places before it alone. The tests are: a place opens one (o), closes one (c), or stops one (s).
-use Rattle.std.proofs.Common.{◌≡◌, ℕ, zero, suc, ◌+◌, ◌-◌, ◌<◌, ◌≤◌, Bool, true, false, not, cond, List, [], ◌∷◌, ◌&&◌, ◌⊎◌, Option, Some, None, refl, sym, ap, subst, ◌∙◌, inl, inr, arith, le-leb, eq-eqb}
-use Rattle.std.specs.Prelude.{find, MatchOption, nat_le, ◌==◌, if◌then◌else◌}
+use Rattle.std.proofs.Common.{◌≡◌, ℕ, zero, suc, ◌+◌, ◌-◌, ◌<◌, ◌≤◌, Bool, true, false, not, cond, List, ◌&&◌, ◌⊎◌, Option, Some, None, refl, sym, ap, subst, ◌∙◌, inl, inr, arith, le-leb, eq-eqb}
+use Rattle.std.specs.Prelude.{find, MatchOption, nat_le, if◌then◌else◌}
 use Rattle.std.specs.Option.{option_map}
 use Rattle.std.specs.List.{range_with_len, filter_map}
-use Rattle.std.proofs.lemmas.Bool.{cases_Bool, cases_eq, cases_order, cases_lt, false≢true, true≢false, and_parts, and_from, and_cases, leb-true, eqb-true, false_from_ne_true, not-false, not-true}
-use Rattle.edi_tables.specs.Extents.{Extent}
-use Rattle.envelope_check.specs.Envelope.{lies_in, closes, opens}
+use Rattle.std.proofs.lemmas.Bool.{cases_Bool, cases_eq, cases_lt, false≢true, true≢false, and_parts, and_from, leb-true, eqb-true, false_from_ne_true, not-true}
+use Rattle.edi_tables.specs.Extents.{Extent, lies_in, closes, opens}
 use Rattle.envelope_check.proofs.Searching.{IsFirst, IsNone, Found, found, find_is, find_none, find_given}
 
 -- the extent from place a on that stops at a place, or runs to the end n

@@ -1,26 +1,24 @@
 -- Each rule on a segment, told by what is known there.
-use Rattle.std.proofs.Common.{◌≡◌, ℕ, zero, suc, ◌+◌, ◌-◌, ◌<◌, ◌≤◌, Bool, true, false, not, cond, List, [], ◌∷◌, ◌++◌, ◌&&◌, ◌||◌, Option, Some, None, length, refl, sym, ap, subst, ◌∙◌, inl, inr, arith}
-use Rattle.std.specs.Prelude.{find, filter, is_some, ◌==◌, codes, if◌then◌else◌}
-use Rattle.std.specs.Option.{option_map, option_map_or, option_and_then, option_or, option_copied}
-use Rattle.std.specs.List.{range_with_len}
+use Rattle.std.proofs.Common.{◌≡◌, ℕ, ◌+◌, ◌<◌, Bool, true, false, not, cond, List, [], ◌&&◌, ◌||◌, Option, Some, None, length, refl, sym, ap, ◌∙◌}
+use Rattle.std.specs.Prelude.{is_some, ◌==◌, codes}
+use Rattle.std.specs.Option.{option_map, option_map_or, option_copied}
 use Rattle.std.specs.Str.{bytes_eq}
-use Rattle.std.proofs.lemmas.Bool.{cases_Bool, false≢true, true≢false}
-use Rattle.edi_tables.specs.Extents.{Extent, tag_in}
+use Rattle.std.proofs.lemmas.Bool.{false≢true, true≢false}
+use Rattle.edi_tables.specs.Extents.{Extent, tag_in, message_at, group_at, group_closed_at}
 use Rattle.edi_tables.specs.declared.tag.Tag.{Tag}
-use Rattle.edi_tables.specs.Rows.{has_name}
 use Rattle.envelope_check.specs.declared.head.Head.{Head}
 use Rattle.envelope_check.specs.declared.head.HeadKind.{HeadKind}
-use Rattle.envelope_check.specs.declared.head.HeadKind.TheVariants.{Unb, Ung, Unh, Unt, Une, Unz}
+use Rattle.envelope_check.specs.declared.head.HeadKind.TheVariants.{Unb, Unh, Unt, Unz}
 use Rattle.envelope_check.specs.declared.head.SegmentMark.{SegmentMark}
 use Rattle.envelope_check.specs.declared.known.Known.{Known}
-use Rattle.envelope_check.specs.Heads.{tags_of, head_of, kind_of, reference_of, count_of, message_type_of, is_tabled}
-use Rattle.envelope_check.specs.Known.{kind_in, is_unb, is_ung, is_unh, is_unz, is_une, ends_group, second_unb_by, outside_by, empty_interchange_by, mixed_by, other_type_by, by_closing, counted_by, count_due_by, miscounts_by, opening_by, refers_elsewhere_by, lacks_table_by}
-use Rattle.envelope_check.specs.Envelope.{is_at, count_at, is_end, is_after_end, message_at, message_closed_at, group_at, group_closed_at, segments_in, messages_in, counted_at_end, count_due, opening_of, gives, is_second_unb, is_outside, is_empty_interchange, is_mixed, is_of_other_type, miscounts, refers_elsewhere, lacks_table}
+use Rattle.envelope_check.specs.Heads.{tags_of, head_of, message_type_of, is_tabled}
+use Rattle.envelope_check.specs.Known.{kind_in, is_unb, is_ung, is_unh, is_unz, is_une, ends_group, second_unb_by, outside_by, empty_interchange_by, mixed_by, other_type_by, lacks_table_by}
+use Rattle.envelope_check.specs.Envelope.{is_at, count_at, is_end, is_after_end, is_second_unb, is_outside, is_empty_interchange, is_mixed, is_of_other_type, lacks_table}
 use Rattle.envelope_check.proofs.Ahead.{Here}
-use Rattle.envelope_check.proofs.Counting.{count_more, is_end_by}
-use Rattle.envelope_check.proofs.TagKinds.{is_unt, unb_by_kind, ung_by_kind, unh_by_kind, unt_by_kind, une_by_kind, unz_by_kind}
-use Rattle.envelope_check.proofs.Openings.{stretch_closed, first_of, next_stop}
-use Rattle.envelope_check.proofs.Extents.{tag_kind, kind_passes, held, message_opened, group_opened, message_from, group_from, message_marks, group_marks, opens_message, closes_message, ends_message, opens_group, closes_group, ends_group_at, message_at_by, group_at_by, message_closed_by, group_closed_by}
+use Rattle.envelope_check.proofs.Counting.{is_end_by}
+use Rattle.envelope_check.proofs.TagKinds.{is_unt, unb_by_kind, ung_by_kind, unh_by_kind, unz_by_kind}
+use Rattle.envelope_check.proofs.Openings.{first_of, next_stop}
+use Rattle.envelope_check.proofs.Extents.{tag_kind, kind_passes, held, message_opened, group_opened, message_from, group_from, closes_group, ends_group_at, message_at_by, group_at_by, group_closed_by}
 use Rattle.envelope_check.proofs.IsKnown.{IsKnown, opener}
 
 -- a segment with what is known before it

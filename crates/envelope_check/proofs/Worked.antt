@@ -1,8 +1,8 @@
 -- Worked cases, computed from the definitions.
-use Rattle.std.proofs.Common.{◌≡◌, ℕ, List, [], ◌∷◌, Bool, true, Option, Some, None, refl}
+use Rattle.std.proofs.Common.{◌≡◌, ℕ, List, [], ◌∷◌, true, Option, Some, None, refl}
 use Rattle.std.specs.Prelude.{codes}
 use Rattle.edi_tables.specs.declared.tag.Tag.{Tag}
-use Rattle.edi_tables.specs.Extents.{message_extents, group_extents}
+use Rattle.edi_tables.specs.Extents.{message_extents, group_extents, message_at, message_closed_at, group_at, group_closed_at, group_opened_at}
 use Rattle.error_ledger.specs.declared.error.ErrorLine.{ErrorLine}
 use Rattle.error_ledger.specs.declared.kind.Kind.{Kind}
 use Rattle.error_ledger.specs.declared.kind.Kind.TheVariants.{SecondUnb, AfterEnd, Outside, Mixed, Reference, Count, EmptyGroup}
@@ -11,7 +11,7 @@ use Rattle.envelope_check.specs.declared.head.HeadKind.{HeadKind}
 use Rattle.envelope_check.specs.declared.head.HeadKind.TheVariants.{Unb, Ung, Unh, Unt, Une, Unz}
 use Rattle.envelope_check.specs.declared.head.SegmentMark.{SegmentMark}
 use Rattle.envelope_check.specs.Heads.{name_of, Fits}
-use Rattle.envelope_check.specs.Envelope.{end_of_interchange, message_at, message_closed_at, group_at, group_closed_at, group_opened_at, is_second_unb, is_outside, is_empty_interchange, is_mixed, lacks_une, is_empty_group, is_of_other_type, count_due, miscounts, opening_of, refers_elsewhere, lacks_table, error_with, errors_at, text_errors, envelope_errors_of}
+use Rattle.envelope_check.specs.Envelope.{end_of_interchange, is_second_unb, is_outside, is_empty_interchange, is_mixed, lacks_une, is_empty_group, is_of_other_type, count_due, miscounts, opening_of, refers_elsewhere, lacks_table, error_with, errors_at, text_errors, envelope_errors_of}
 
 abbrev tagged : HeadKind → Option Tag
 tagged kind = Some (record { octets = name_of kind })

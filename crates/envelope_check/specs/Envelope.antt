@@ -1,10 +1,10 @@
 -- What is wrong with the envelopes of a text. Places are counted from 0: segment k is at place k - 1.
-use Rattle.std.specs.Prelude.{◌+◌, ◌-◌, ℕ, Bool, true, false, not, ◌==◌, ◌&&◌, ◌||◌, nat_le, nat_lt, List, [], ◌∷◌, ◌++◌, length, filter, find, Option, Some, None, is_some, codes, if◌then◌else◌}
+use Rattle.std.specs.Prelude.{◌+◌, ◌-◌, ℕ, Bool, false, not, ◌==◌, ◌&&◌, ◌||◌, nat_lt, List, ◌++◌, length, filter, find, Option, Some, None, is_some, codes, if◌then◌else◌}
 use Rattle.std.specs.Option.{option_map, option_map_or, option_or}
 use Rattle.std.specs.List.{range_with_len, flat_map}
 use Rattle.std.specs.Str.{bytes_eq}
 use Rattle.edi_tables.specs.declared.tag.Tag.{Tag}
-use Rattle.edi_tables.specs.Extents.{Extent, tag_in, message_extents, group_extents}
+use Rattle.edi_tables.specs.Extents.{Extent, tag_in, message_at, message_closed_at, group_at, group_closed_at, group_opened_at}
 use Rattle.edi_tables.specs.Rows.{has_name, when}
 use Rattle.edi_octets.specs.Decimal.{decimal_in}
 use Rattle.error_ledger.specs.declared.error.ErrorLine.{ErrorLine}
@@ -48,38 +48,6 @@ is_end tags i = option_map_or (λ z. z == i) (end_of_interchange tags) false
 -- place i is after the end of the interchange
 abbrev pub is_after_end : List (Option Tag) → ℕ → Bool
 is_after_end tags i = option_map_or (λ z. nat_lt z i) (end_of_interchange tags) false
-
--- the segment at place i lies in an extent
-abbrev pub lies_in : ℕ → Extent → Bool
-lies_in i e = nat_le e.first (i + 1) && nat_le (i + 1) e.last
-
--- the segment at place i closes an extent
-abbrev pub closes : ℕ → Extent → Bool
-closes i e = e.closed && e.last == i + 1
-
--- the segment at place i opens an extent
-abbrev pub opens : ℕ → Extent → Bool
-opens i e = e.first == i + 1
-
--- the message that the segment at place i lies in
-unfoldable pub message_at : List (Option Tag) → ℕ → Option Extent
-message_at tags i = find (lies_in i) (message_extents tags)
-
--- the message that the UNT at place i closes
-unfoldable pub message_closed_at : List (Option Tag) → ℕ → Option Extent
-message_closed_at tags i = find (closes i) (message_extents tags)
-
--- the group that the segment at place i lies in
-unfoldable pub group_at : List (Option Tag) → ℕ → Option Extent
-group_at tags i = find (lies_in i) (group_extents tags)
-
--- the group that the UNE at place i closes
-unfoldable pub group_closed_at : List (Option Tag) → ℕ → Option Extent
-group_closed_at tags i = find (closes i) (group_extents tags)
-
--- the group that the UNG at place i opens
-unfoldable pub group_opened_at : List (Option Tag) → ℕ → Option Extent
-group_opened_at tags i = find (opens i) (group_extents tags)
 
 -- how many segments an extent has
 abbrev pub segments_in : Extent → ℕ

@@ -4,7 +4,12 @@ ghost use Rattle.std.specs.Option.{option_copied};
 ghost use Rattle.edi_tables.specs.Rows.{when};
 ghost use Rattle.envelope_check.specs.Heads.{Fits};
 ghost use Rattle.envelope_check.specs.Envelope.{envelope_errors_of, error_of_text as text_error};
-ghost use Rattle.envelope_check.specs.Known.{errors_by, first_unb as first_unb_of, has_kind, is_unz};
+ghost use Rattle.envelope_check.specs.Known.{
+  errors_by,
+  first_unb as first_unb_of,
+  has_kind,
+  is_unz,
+};
 
 use crate::head::{Head, SegmentMark};
 use crate::heads::{first_unb, has_end, split_here};
@@ -14,11 +19,11 @@ use error_ledger::{ErrorLine, Kind};
 use seq_tree::Seq;
 use std::alloc::{AllocError, Global};
 
-/// The errors of the envelopes of a text, in the order of errors: those of the interchange, of its functional groups and
-/// of its messages, but for the service string advice, the syntax that UNB names, and a tail.
+/// The errors of the envelopes of a text, in the order of errors: of the interchange, its functional groups and its messages.
+/// What is wrong with the service string advice, the syntax that UNB names, and a tail are left to the caller.
 ///
 /// `starts` are all segments in order, and `total` is how many they are. `heads` are those of them that have one of the
-/// six tags of `HeadKind`, in order. Only want of memory is an error.
+/// six tags of `HeadKind`, in order. Only want of memory is an error. The work grows with the number of segments.
 pub fn envelope_errors(
     alloc: Global,
     heads: &[Head],

@@ -62,7 +62,7 @@ fn is_second_unb(known: &Known, kind: Option<HeadKind>) -> bool
     matches!(kind, Some(HeadKind::Unb)) && known.segments != 0 && !known.ended
 }
 
-// It lies in a message, closes a message or a group, or opens or closes what isn't in one.
+// It lies in a message, closes a message or a group, or is one that needs neither.
 fn has_place(known: &Known, kind: Option<HeadKind>) -> bool
     ensures { result ≡ has_place_by kind (is_some known.now.message) (is_some known.now.group) }
 {
@@ -178,7 +178,8 @@ fn opening<'a>(known: &Known<'a>, kind: Option<HeadKind>) -> Option<&'a Head>
 
 // A reference that isn't that of the opening segment.
 fn refers_elsewhere(head: Option<&Head>, opening: Option<&Head>) -> bool
-    ensures { result ≡ refers_elsewhere_by (option_copied head.entry) (option_copied opening.entry) }
+    ensures { result
+        ≡ refers_elsewhere_by (option_copied head.entry) (option_copied opening.entry) }
 {
     match (head, opening) {
         (Some(head), Some(opening)) => head.reference.octets() != opening.reference.octets(),

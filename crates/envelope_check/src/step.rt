@@ -14,13 +14,13 @@ use crate::head::{Head, HeadKind};
 pub(crate) fn message_after<'a>(
     kind: Option<HeadKind>,
     head: Option<&'a Head>,
-    open: Option<&'a Head>,
+    before: Option<&'a Head>,
 ) -> Option<&'a Head>
     ensures { option_copied result
-        ≡ message_left kind (option_copied head.entry) (option_copied open.entry) }
+        ≡ message_left kind (option_copied head.entry) (option_copied before.entry) }
 {
     match kind {
-        None => open,
+        None => before,
         Some(HeadKind::Unh) => head,
         Some(_) => None,
     }
@@ -30,14 +30,14 @@ pub(crate) fn message_after<'a>(
 pub(crate) fn group_after<'a>(
     kind: Option<HeadKind>,
     head: Option<&'a Head>,
-    open: Option<&'a Head>,
+    before: Option<&'a Head>,
 ) -> Option<&'a Head>
     ensures { option_copied result
-        ≡ group_left kind (option_copied head.entry) (option_copied open.entry) }
+        ≡ group_left kind (option_copied head.entry) (option_copied before.entry) }
 {
     match kind {
         Some(HeadKind::Ung) => head,
-        None | Some(HeadKind::Unh | HeadKind::Unt) => open,
+        None | Some(HeadKind::Unh | HeadKind::Unt) => before,
         Some(_) => None,
     }
 }

@@ -1,0 +1,12 @@
+pub mod Backwards
+pub mod Choosing
+pub mod Derived
+pub mod Least
+pub mod Onward
+pub mod PairReads
+pub mod Placing
+pub mod Readings
+pub mod Sameness
+pub mod Sound
+pub mod Turning
+pub mod Whole

@@ -1,0 +1,74 @@
+use Rattle.std.proofs.Common.{◌≡◌, ◌+◌, ◌++◌, ◌∷◌, [], ℕ, false, List, Option, Some, None, refl, sym, ap, subst, ◌∙◌}
+use Rattle.edi_tables.specs.declared.table.Node.{Node}
+use Rattle.edi_tables.specs.Pairs.{pairs_of}
+use Rattle.table_walk.specs.Reading.{IsReading}
+use Rattle.table_walk.specs.Steps.{IsShaped, AreCountsUpTo, member_in, pairs_after, GoesOn}
+use Rattle.table_walk.proofs.Placing.{nowhere, member_entry, shaped_after, counts_after}
+use Rattle.table_walk.proofs.Onward.{goes_on}
+use Rattle.table_walk.proofs.state.State.place.Goals as goal
+
+pub pairs_next-requires-clause-within : goal.pairs_next-requires-clause-within
+pairs_next-requires-clause-within g c =
+    let at = c.of-position.result in
+    (member_entry at.table.now at.pairs.now c.args.tag at.lawful c.in-Some.entry (sym c.in-Some.is ∙ c.member.ensures)).1
+
+pub is_over-requires : goal.is_over-requires
+is_over-requires g c =
+    let at = c.of-position.result in
+    (member_entry at.table.now at.pairs.now c.args.tag at.lawful c.in-Some.entry (sym c.in-Some.is ∙ c.member.ensures)).1
+
+pub missing-requires : goal.missing-requires
+missing-requires g c =
+    let at = c.of-position.result in
+    (member_entry at.table.now at.pairs.now c.args.tag at.lawful c.in-Some.entry (sym c.in-Some.is ∙ c.member.ensures)).1
+
+pub returns-in_ok-gather-in-Some-clause-nowhere : goal.returns-in_ok-gather-in-Some-clause-nowhere
+returns-in_ok-gather-in-Some-clause-nowhere g c =
+    let found : Some c.in-Some.entry ≡ member_in c.args.table.now c.args.self.now c.args.tag =
+    sym c.in-Some.is ∙ c.member.ensures ∙ ap (λ (t : List Node). member_in t c.of-position.result.pairs.now c.args.tag) c.of-position.ensures.table
+    ∙ ap (λ (ps : List (ℕ × ℕ)). member_in c.args.table.now ps c.args.tag) (c.of-position.ensures.pairs ∙ c.pairs.ensures) in
+    nowhere c.args.table.now c.args.self.now c.args.tag (Some c.in-Some.entry) found
+
+pub returns-in_ok-gather-in-Some-clause-shaped : goal.returns-in_ok-gather-in-Some-clause-shaped
+returns-in_ok-gather-in-Some-clause-shaped g c =
+    let at = c.of-position.result in
+    let after : c.in_ok-of-in-Some.field-0 ≡ pairs_after at.table.now at.pairs.now (Some c.in-Some.entry) = c.in_ok-of-in-Some.ensures ∙ c.pairs_next.ensures in
+    subst (λ (t : List Node). IsShaped t c.in_ok-of-in-Some.field-0) c.of-position.ensures.table
+    (subst (IsShaped at.table.now) (sym after) (shaped_after at.table.now at.pairs.now c.args.tag at.lawful c.in-Some.entry (sym c.in-Some.is ∙ c.member.ensures)))
+
+pub returns-in_ok-gather-in-Some-clause-counts : goal.returns-in_ok-gather-in-Some-clause-counts
+returns-in_ok-gather-in-Some-clause-counts g c most few =
+    let at = c.of-position.result in
+    let after : c.in_ok-of-in-Some.field-0 ≡ pairs_after at.table.now at.pairs.now (Some c.in-Some.entry) = c.in_ok-of-in-Some.ensures ∙ c.pairs_next.ensures in
+    subst (AreCountsUpTo (most + 1)) (sym after)
+    (counts_after at.table.now at.pairs.now (Some c.in-Some.entry) most (subst (AreCountsUpTo most) (sym (c.of-position.ensures.pairs ∙ c.pairs.ensures)) few))
+
+pub returns-in_ok-gather-in-Some-clause-reading : goal.returns-in_ok-gather-in-Some-clause-reading
+returns-in_ok-gather-in-Some-clause-reading g c tags before =
+    let at = c.of-position.result in
+    let pairs_same = c.of-position.ensures.pairs ∙ c.pairs.ensures in
+    subst
+    (λ (t : List Node). IsReading t tags before → pairs_of t before ≡ c.args.self.now
+    → GoesOn t tags before c.args.tag (Some c.in-Some.entry) c.in_ok-gather-in-Some.field-0.items c.is_over.result c.in_ok-of-in-Some.field-0)
+    c.of-position.ensures.table
+    (λ reading same. goes_on at.table.now at.lawful tags before reading c.args.tag at.pairs.now (same ∙ sym pairs_same) (Some c.in-Some.entry) (sym c.in-Some.is ∙ c.member.ensures)
+    c.in_ok-gather-in-Some.field-0.items (c.in_ok-gather-in-Some.ensures ∙ c.missing.ensures) c.is_over.result c.is_over.ensures
+    c.in_ok-of-in-Some.field-0 (c.in_ok-of-in-Some.ensures ∙ c.pairs_next.ensures))
+
+pub returns-in_ok-share-in-None-clause-nowhere : goal.returns-in_ok-share-in-None-clause-nowhere
+returns-in_ok-share-in-None-clause-nowhere g c =
+    let found : None ≡ member_in c.args.table.now c.args.self.now c.args.tag =
+    sym c.in-None.is ∙ c.member.ensures ∙ ap (λ (t : List Node). member_in t c.of-position.result.pairs.now c.args.tag) c.of-position.ensures.table
+    ∙ ap (λ (ps : List (ℕ × ℕ)). member_in c.args.table.now ps c.args.tag) (c.of-position.ensures.pairs ∙ c.pairs.ensures) in
+    nowhere c.args.table.now c.args.self.now c.args.tag None found
+
+pub returns-in_ok-share-in-None-clause-reading : goal.returns-in_ok-share-in-None-clause-reading
+returns-in_ok-share-in-None-clause-reading g c tags before =
+    let at = c.of-position.result in
+    let pairs_same = c.of-position.ensures.pairs ∙ c.pairs.ensures in
+    subst
+    (λ (t : List Node). IsReading t tags before → pairs_of t before ≡ c.args.self.now
+    → GoesOn t tags before c.args.tag None c.new.result.items false c.in_ok-share-in-None.field-0)
+    c.of-position.ensures.table
+    (λ reading same. goes_on at.table.now at.lawful tags before reading c.args.tag at.pairs.now (same ∙ sym pairs_same) None (sym c.in-None.is ∙ c.member.ensures)
+    c.new.result.items c.new.ensures.items false refl c.in_ok-share-in-None.field-0 (c.in_ok-share-in-None.ensures ∙ sym pairs_same))

@@ -1,0 +1,4 @@
+pub mod Bodies
+pub mod Errors
+pub mod Reading
+pub mod Steps

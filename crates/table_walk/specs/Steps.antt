@@ -1,0 +1,54 @@
+-- One step of a reading, by the pairs of the entry placed last alone: where the next segment is, what is wrong with that, and the pairs after it.
+use Rattle.std.specs.Prelude.{◌≡◌, ◌<◌, ◌≤◌, ℕ, Bool, false, List, [], ◌∷◌, ◌++◌, length, map, filter, reverse, All, Option, Some, None}
+use Rattle.edi_tables.specs.declared.tag.Tag.{Tag}
+use Rattle.edi_tables.specs.declared.table.Node.{Node}
+use Rattle.edi_tables.specs.Walk.{is_group_at, groups_round, candidates_of, missing_between}
+use Rattle.edi_tables.specs.Pairs.{pairs_of, pairs_next, entry_in, over_in, rank_in}
+use Rattle.table_walk.specs.Reading.{has_tag, least_from, IsReading}
+use Rattle.table_walk.specs.Errors.{missing_before, is_member_over}
+
+-- pairs belong to a table: they have the groups round one of its entries, outermost first, and the entry
+pub record IsShaped (nodes : List Node) (pairs : List (ℕ × ℕ)) : Type 0 where
+  pub groups : map (λ p. p.0) pairs ≡ reverse (groups_round nodes (entry_in pairs)) ++ entry_in pairs ∷ []
+  pub within : entry_in pairs < length nodes
+  pub entry : is_group_at nodes (entry_in pairs) ≡ false
+
+-- no count is greater
+abbrev pub AreCountsUpTo : ℕ → List (ℕ × ℕ) → Type 0
+AreCountsUpTo most pairs = All (λ pair. pair.1 ≤ most) pairs
+
+-- where a segment with this tag is
+unfoldable pub member_in : List Node → List (ℕ × ℕ) → Option Tag → Option ℕ
+member_in nodes pairs tag = least_from (rank_in nodes pairs) None (filter (has_tag nodes tag) (candidates_of nodes (entry_in pairs)))
+
+-- the mandatory nodes that going to a member passes
+abbrev pub missing_in : List Node → List (ℕ × ℕ) → Option ℕ → List ℕ
+missing_in nodes pairs None = []
+missing_in nodes pairs (Some c) = missing_between nodes (entry_in pairs) c
+
+-- whether a member is one too many
+abbrev pub is_over_in : List Node → List (ℕ × ℕ) → Option ℕ → Bool
+is_over_in nodes pairs None = false
+is_over_in nodes pairs (Some c) = over_in nodes pairs c
+
+-- the pairs after a member; a segment at no entry leaves them
+abbrev pub pairs_after : List Node → List (ℕ × ℕ) → Option ℕ → List (ℕ × ℕ)
+pairs_after nodes pairs None = pairs
+pairs_after nodes pairs (Some c) = pairs_next nodes pairs c
+
+-- where segments with these tags are, one after the other
+abbrev pub members_from : List Node → List (ℕ × ℕ) → List (Option Tag) → List (Option ℕ)
+members_from nodes pairs [] = []
+members_from nodes pairs (tag ∷ tags) = member_in nodes pairs tag ∷ members_from nodes (pairs_after nodes pairs (member_in nodes pairs tag)) tags
+
+-- the pairs after segments with these tags
+abbrev pub pairs_from : List Node → List (ℕ × ℕ) → List (Option Tag) → List (ℕ × ℕ)
+pairs_from nodes pairs [] = pairs
+pairs_from nodes pairs (tag ∷ tags) = pairs_from nodes (pairs_after nodes pairs (member_in nodes pairs tag)) tags
+
+-- a reading goes on with one segment more: where it is, what is missing before it, whether it is one too many, and the pairs after it
+pub record GoesOn (nodes : List Node) (tags : List (Option Tag)) (placed : List (Option ℕ)) (tag : Option Tag) (member : Option ℕ) (passed : List ℕ) (too_many : Bool) (after : List (ℕ × ℕ)) : Type 0 where
+  pub reading : IsReading nodes (tags ++ tag ∷ []) (placed ++ member ∷ [])
+  pub missing : passed ≡ missing_before nodes placed member
+  pub over : too_many ≡ is_member_over nodes placed member
+  pub pairs : after ≡ pairs_of nodes (placed ++ member ∷ [])

@@ -1,0 +1,11 @@
+//! The walk of a message through its segment table: at which entry each segment is, and what is missing or too many there.
+#![tactic(auto)]
+
+mod position;
+mod read;
+mod state;
+#[cfg(test)]
+mod tests;
+
+pub use read::read_tags;
+pub use state::{Placed, State, start};

@@ -1,0 +1,236 @@
+//! One step of a walk, by the pairs of the entry placed last.
+ghost use Rattle.std.specs.Prelude.{◌≡◌, ◌<◌, ◌==◌, ◌||◌, ◌&&◌, Some, nat_le, nat_lt, length, find, if◌then◌else◌};
+ghost use Rattle.edi_tables.specs.Rows.{IsTable};
+ghost use Rattle.edi_tables.specs.Walk.{is_must_at, later_nodes, max_at, missing_between, missing_past};
+ghost use Rattle.edi_tables.specs.Placement.{is_filled};
+ghost use Rattle.edi_tables.specs.Pairs.{count_in, entry_in, entry_next, group_next, over_in, pairs_next, rank_in};
+ghost use Rattle.table_walk.specs.Reading.{has_tag};
+ghost use Rattle.table_walk.specs.Steps.{AreCountsUpTo, IsShaped, member_in};
+
+use arrayvec::ArrayVec;
+use edi_tables::{Missing, Table, Tag};
+
+/// Sixteen groups round an entry, and the entry.
+pub const MOST_PAIRS: usize = 17;
+
+/// The pairs of a walk: the number of a node, and its count.
+pub type Pairs = ArrayVec<(u16, u32), MOST_PAIRS>;
+
+/// The best candidate so far, and its rank: 4, which is more than each rank, where there is none.
+#[derive(Clone, Copy)]
+pub struct Best {
+    pub entry: Option<u16>,
+    pub rank: u8,
+}
+
+impl Best {
+    /// No candidate.
+    pub const NONE: Best = Best {
+        entry: None,
+        rank: 4,
+    };
+
+    /// The better of the best so far and a candidate with this rank: the candidate only where its rank is less.
+    pub fn or(self, candidate: u16, rank: u8) -> Best
+        ensures { result ≡ (if nat_lt rank self.rank then record { entry = Some candidate; rank = rank } else self) }
+    {
+        if rank < self.rank {
+            Best {
+                entry: Some(candidate),
+                rank,
+            }
+        } else {
+            self
+        }
+    }
+}
+
+/// An entry that was placed last, with its pairs and the first mandatory node after it.
+#[derive(Drop)]
+pub struct Position<'a> {
+    table: &'a Table,
+    pairs: &'a [(u16, u32)],
+    entry: u16,
+    first_must: Option<u16>,
+    ghost lawful: { IsTable table.now },
+    ghost shaped: { IsShaped table.now pairs.now },
+    ghost here: { entry ≡ entry_in pairs.now },
+    ghost must: { first_must ≡ find (is_must_at table.now) (later_nodes table.now entry) },
+}
+
+impl<'a> Position<'a> {
+    /// The position that these pairs tell.
+    pub fn of(table: &'a Table, pairs: &'a [(u16, u32)]) -> Position<'a>
+        requires { IsShaped table.now pairs.now }
+        ensures table { result.table.now ≡ table.now }
+        ensures pairs { result.pairs.now ≡ pairs.now }
+    {
+        // Its nodes are those of a table, which the steps below rely on.
+        let _nodes = table.nodes();
+        let entry = entry_in(pairs);
+        let first_must = table.first_must_after(entry);
+        Position {
+            table,
+            pairs,
+            entry,
+            first_must,
+        }
+    }
+
+    /// Where a segment with this tag is: at the first candidate with the least rank.
+    ///
+    /// It stops at a candidate that no later one can better: ranks are at least 2 once a candidate misses a node.
+    pub fn member(&self, tag: Option<Tag>) -> Option<u16>
+        ensures { result ≡ member_in self.now.table.now self.now.pairs.now tag }
+    {
+        let mut best = Best::NONE;
+        for candidate in self.table.candidates(self.entry) {
+            if has_tag(self.table, tag, candidate) {
+                best = best.or(candidate, self.rank(candidate));
+            }
+            if self.is_settled(best, candidate) {
+                return best.entry;
+            }
+        }
+        best.entry
+    }
+
+    /// Whether going to a candidate is one too many.
+    pub fn is_over(&self, candidate: u16) -> bool
+        requires { candidate < length self.now.table.now }
+        ensures { result ≡ over_in self.now.table.now self.now.pairs.now candidate }
+    {
+        if self.table.is_repeat(self.entry, candidate) {
+            self.is_full(candidate - 1)
+        } else {
+            candidate == self.entry && self.is_full(candidate)
+        }
+    }
+
+    /// The pairs after a candidate.
+    pub fn pairs_next(&self, candidate: u16) -> Pairs
+        requires within { candidate < length self.now.table.now }
+        requires few { AreCountsUpTo 4194303 self.now.pairs.now }
+        ensures { result.items ≡ pairs_next self.now.table.now self.now.pairs.now candidate }
+    {
+        let mut pairs = ArrayVec::new();
+        pairs.push((candidate, self.entry_next(candidate)));
+        for group in self.table.groups_round(usize::from(candidate)) {
+            pairs.push((group, self.group_next(candidate, group)));
+        }
+        pairs.as_mut_slice().reverse();
+        pairs
+    }
+
+    /// The mandatory nodes that going to a candidate passes, ascending.
+    pub fn missing(&self, candidate: u16) -> Missing<'a>
+        requires { candidate < length self.now.table.now }
+        ensures { result ≡ missing_between self.now.table.now (entry_in self.now.pairs.now) candidate }
+    {
+        self.table.missing(self.entry, candidate)
+    }
+
+    /// The mandatory nodes that going past the table's end passes, ascending.
+    pub fn missing_past(&self) -> Missing<'a>
+        ensures { result ≡ missing_past self.now.table.now (entry_in self.now.pairs.now) }
+    {
+        self.table.missing_past(self.entry)
+    }
+
+    // Whether going to a candidate passes a mandatory node.
+    fn misses(&self, candidate: u16) -> bool
+        requires { candidate < length self.now.table.now }
+        ensures { result ≡ is_filled (missing_between self.now.table.now (entry_in self.now.pairs.now) candidate) }
+    {
+        self.table.misses(self.entry, self.first_must, candidate)
+    }
+
+    // Whether no candidate after this one can better the best so far.
+    fn is_settled(&self, best: Best, candidate: u16) -> bool
+        requires { candidate < length self.now.table.now }
+        ensures { result ≡ (best.rank == 0 || (nat_le best.rank 2 && is_filled (missing_between self.now.table.now (entry_in self.now.pairs.now) candidate))) }
+    {
+        best.rank == 0 || best.rank <= 2 && self.misses(candidate)
+    }
+
+    // The rank of a candidate, from 0 to 3.
+    fn rank(&self, candidate: u16) -> u8
+        requires { candidate < length self.now.table.now }
+        ensures { result ≡ rank_in self.now.table.now self.now.pairs.now candidate }
+    {
+        match (self.is_over(candidate), self.misses(candidate)) {
+            (false, false) => 0,
+            (true, false) => 1,
+            (false, true) => 2,
+            (true, true) => 3,
+        }
+    }
+
+    // Whether the count of a node has reached its greatest count.
+    fn is_full(&self, node: u16) -> bool
+        requires { node < length self.now.table.now }
+        ensures { result ≡ nat_le (max_at self.now.table.now node) (count_in self.now.pairs.now node) }
+    {
+        self.table.node(usize::from(node)).max <= count_in(self.pairs, node)
+    }
+
+    // The count of a group round a candidate after going there: one more where the candidate is its trigger.
+    fn group_next(&self, candidate: u16, group: u16) -> u32
+        requires within { group < length self.now.table.now }
+        requires few { AreCountsUpTo 4194303 self.now.pairs.now }
+        ensures { result ≡ group_next self.now.pairs.now candidate group }
+    {
+        let count = count_in(self.pairs, group);
+        if candidate == group + 1 {
+            count + 1
+        } else {
+            count
+        }
+    }
+
+    // The count of a candidate after going there: one more where it is the entry itself and no trigger, else 1.
+    fn entry_next(&self, candidate: u16) -> u32
+        requires within { candidate < length self.now.table.now }
+        requires few { AreCountsUpTo 4194303 self.now.pairs.now }
+        ensures { result ≡ entry_next self.now.table.now self.now.pairs.now candidate }
+    {
+        if candidate == self.entry && !self.table.is_trigger(usize::from(candidate)) {
+            count_in(self.pairs, candidate) + 1
+        } else {
+            1
+        }
+    }
+}
+
+// Whether an entry has this tag; a segment without a tag fits nowhere.
+pub fn has_tag(table: &Table, tag: Option<Tag>, entry: u16) -> bool
+    requires { entry < length table.now }
+    ensures { result ≡ has_tag table.now tag entry }
+{
+    match (tag, table.node(usize::from(entry)).tag) {
+        (Some(tag), Some(other)) => tag.octets == other.octets,
+        _ => false,
+    }
+}
+
+// The entry of pairs: the node of the last.
+fn entry_in(pairs: &[(u16, u32)]) -> u16
+    ensures { result ≡ entry_in pairs.now }
+{
+    match pairs.last() {
+        Some(pair) => pair.0,
+        None => 0,
+    }
+}
+
+// The count of a node in pairs; 0 where they lack it.
+fn count_in(pairs: &[(u16, u32)], node: u16) -> u32
+    ensures { result ≡ count_in pairs.now node }
+{
+    for pair in pairs {
+        if pair.0 == node {
+            return pair.1;
+        }
+    }
+    0
+}

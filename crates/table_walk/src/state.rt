@@ -1,0 +1,149 @@
+//! The state of a walk: what one segment leaves to the next.
+ghost use Rattle.std.specs.Prelude.{◌≡◌, ◌+◌, ◌↔◌, ℕ, List, [], ◌∷◌, Option, Some, None, IsTrue, IfOk, filter};
+ghost use Rattle.edi_tables.specs.declared.tag.Tag.{Tag};
+ghost use Rattle.edi_tables.specs.Walk.{candidates_of, missing_past};
+ghost use Rattle.edi_tables.specs.Pairs.{entry_in, pairs_of};
+ghost use Rattle.table_walk.specs.Reading.{IsReading, has_tag};
+ghost use Rattle.table_walk.specs.Steps.{AreCountsUpTo, GoesOn, IsShaped, is_over_in, member_in, missing_in, pairs_after};
+
+use crate::position::{Pairs, Position};
+use arrayvec::ArrayVec;
+use edi_tables::{Missing, Table, Tag};
+use smallvec::SmallVec;
+use std::alloc::{AllocError, Global};
+use std::marker::Model;
+use std::rc::Rc;
+use std::sync::ledger::Ledger;
+use step_counter::Steps;
+
+/// The groups round the entry placed last, outermost first, and that entry, each with its count.
+///
+/// It is seen as this list of pairs. A copy shares the pairs.
+#[derive(Debug, Drop)]
+pub struct State {
+    pairs: Rc<Pairs>,
+}
+
+impl Model for State {
+    ghost use Rattle.std.specs.Prelude.{ℕ, List};
+
+    ghost Value = { List (ℕ × ℕ) };
+
+    ghost view = { λ s. s.pairs.value.items };
+}
+
+/// Where a segment is: at an entry or at none, with what is missing before it, and the state after it.
+#[derive(Debug, Drop)]
+pub struct Placed {
+    pub state: State,
+    pub entry: Option<u16>,
+    pub over: bool,
+    pub missing: SmallVec<u16, 4>,
+}
+
+/// The state after UNH.
+pub fn start(alloc: Global, table: &Table) -> Result<State, AllocError>
+    ensures pairs { IfOk result (λ state. state ≡ pairs_of table.now (Some 0 ∷ [])) }
+    ensures shaped { IfOk result (λ state. IsShaped table.now state) }
+    ensures counts { IfOk result (λ state. AreCountsUpTo 1 state) }
+{
+    // UNH is in no group.
+    let _nodes = table.nodes();
+    let mut pairs = ArrayVec::new();
+    pairs.push((0, 1));
+    State::of(alloc, pairs)
+}
+
+impl State {
+    fn of(alloc: Global, pairs: Pairs) -> Result<State, AllocError>
+        ensures { IfOk result (λ state. state ≡ pairs.items) }
+    {
+        Ok(State {
+            pairs: Rc::new(alloc, pairs)?,
+        })
+    }
+
+    /// Its pairs: the number of a node, and its count.
+    pub fn pairs(&self) -> &[(u16, u32)]
+        ensures { result.now ≡ self.now }
+    {
+        self.pairs.as_slice()
+    }
+
+    /// Where the next segment is, and the state after it. The call is counted.
+    pub fn place<L: Ledger>(
+        &self,
+        alloc: Global,
+        table: &Table,
+        tag: Option<Tag>,
+        placed: &mut Steps<L>,
+    ) -> Result<Placed, AllocError>
+        requires shaped { IsShaped table.now self.now }
+        requires few { AreCountsUpTo 4194303 self.now }
+        ensures counted { placed.new ≡ placed.old + 1 }
+        ensures entry { IfOk result (λ next. next.entry ≡ member_in table.now self.now tag) }
+        ensures nowhere { IfOk result (λ next. (next.entry ≡ None) ↔ (filter (has_tag table.now tag) (candidates_of table.now (entry_in self.now)) ≡ [])) }
+        ensures missing { IfOk result (λ next. next.missing.items ≡ missing_in table.now self.now next.entry) }
+        ensures over { IfOk result (λ next. next.over ≡ is_over_in table.now self.now next.entry) }
+        ensures state { IfOk result (λ next. next.state ≡ pairs_after table.now self.now next.entry) }
+        ensures shaped { IfOk result (λ next. IsShaped table.now next.state) }
+        ensures counts { (most : ℕ) → AreCountsUpTo most self.now → IfOk result (λ next. AreCountsUpTo (most + 1) next.state) }
+        ensures reading { IfOk result
+            (λ next. (tags : List (Option Tag))
+            (before : List (Option ℕ)) → IsReading table.now tags before
+            → pairs_of table.now before ≡ self.now
+            → GoesOn table.now tags before tag next.entry next.missing.items next.over next.state) }
+    {
+        placed.tick();
+        let position = Position::of(table, self.pairs());
+        match position.member(tag) {
+            Some(entry) => Ok(Placed {
+                state: State::of(alloc, position.pairs_next(entry))?,
+                entry: Some(entry),
+                over: position.is_over(entry),
+                missing: gather(alloc, position.missing(entry))?,
+            }),
+            None => Ok(Placed {
+                state: self.share()?,
+                entry: None,
+                over: false,
+                missing: SmallVec::new(alloc),
+            }),
+        }
+    }
+
+    /// The mandatory nodes from here to the table's end, ascending: what is missing where a message ends here.
+    pub fn finish(&self, alloc: Global, table: &Table) -> Result<SmallVec<u16, 4>, AllocError>
+        requires { IsShaped table.now self.now }
+        ensures { IfOk result (λ missing. missing.items ≡ missing_past table.now (entry_in self.now)) }
+    {
+        gather(alloc, Position::of(table, self.pairs()).missing_past())
+    }
+
+    /// Whether two states have the same pairs.
+    pub fn same(&self, other: &State) -> bool
+        ensures { IsTrue result ↔ (self.now ≡ other.now) }
+    {
+        self.pairs() == other.pairs()
+    }
+
+    /// The same state once more. It takes no memory: the error is that of an `Rc` whose count is full.
+    pub fn share(&self) -> Result<State, AllocError>
+        ensures { IfOk result (λ state. state ≡ self.now) }
+    {
+        Ok(State {
+            pairs: self.pairs.clone()?,
+        })
+    }
+}
+
+// These nodes as a list.
+fn gather(alloc: Global, nodes: Missing<'_>) -> Result<SmallVec<u16, 4>, AllocError>
+    ensures { IfOk result (λ list. list.items ≡ nodes.entry) }
+{
+    let mut list = SmallVec::new(alloc);
+    for node in nodes {
+        list.push(node)?;
+    }
+    Ok(list)
+}

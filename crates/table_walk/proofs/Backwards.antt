@@ -1,5 +1,5 @@
 -- Counts that are looked up backwards, one placed entry after the other.
-use Rattle.std.proofs.Common.{◌≡◌, ℕ, ◌+◌, ◌<◌, Bool, true, false, List, [], ◌∷◌, ◌++◌, Option, Some, None, sym, refl, ap, ◌∙◌, arith}
+use Rattle.std.proofs.Common.{◌≡◌, ℕ, ◌+◌, ◌<◌, true, false, List, [], ◌∷◌, ◌++◌, Option, Some, None, refl, arith}
 use Rattle.std.specs.Prelude.{count_by, unwrap_or}
 use Rattle.std.proofs.lemmas.Bool.{ne_eqb, eqb-true}
 use Rattle.edi_tables.specs.declared.table.Node.{Node}
@@ -7,7 +7,7 @@ use Rattle.edi_tables.specs.Rows.{IsTable}
 use Rattle.edi_tables.specs.Walk.{parent_at}
 use Rattle.edi_tables.specs.Placement.{is_at, placed_since, placed_behind, group_count, last_placed}
 use Rattle.edi_tables.proofs.Pushing.{since_behind, last_push, last_none}
-use Rattle.edi_tables.proofs.TableLaws.{HasTableLaws, table_laws}
+use Rattle.edi_tables.proofs.TableLaws.{table_laws}
 
 -- the entry placed last, after one segment more
 pub last_step : (placed : List (Option ℕ)) (member : Option ℕ) → last_placed (placed ++ member ∷ []) ≡ unwrap_or member (last_placed placed)

@@ -1,7 +1,7 @@
 -- The best of the candidates that were looked at.
-use Rattle.std.proofs.Common.{◌≡◌, ℕ, zero, suc, ◌+◌, ◌-◌, ◌<◌, ◌≤◌, Bool, true, false, cond, List, [], ◌∷◌, ◌++◌, Option, Some, None, length, refl, sym, ap, subst, ◌∙◌, ◌⊎◌, inl, inr, ⊎_elim, arith}
+use Rattle.std.proofs.Common.{◌≡◌, ℕ, ◌+◌, ◌<◌, ◌≤◌, Bool, true, false, cond, List, [], ◌∷◌, Option, Some, None, length, refl, sym, ap, subst, ◌∙◌, ⊎_elim, arith}
 use Rattle.std.specs.Prelude.{All, AllPairs, filter, find, nat_le, nat_lt, ◌==◌, ◌||◌, ◌&&◌, if◌then◌else◌}
-use Rattle.std.proofs.lemmas.Bool.{cases_Bool, cases_lt, cond_both, false≢true, eqb-true, leb-true, lt-ltb, or_cases, and_parts}
+use Rattle.std.proofs.lemmas.Bool.{cond_both, false≢true, eqb-true, leb-true, lt-ltb, or_cases, and_parts}
 use Rattle.std.proofs.lemmas.List.Elements.{All-head, All-tail, All-filter, All-weaker}
 use Rattle.edi_tables.specs.declared.table.Node.{Node}
 use Rattle.edi_tables.specs.Walk.{is_must_at, reached_node, later_nodes, candidates_of, missing_between}
@@ -11,7 +11,7 @@ use Rattle.edi_tables.proofs.Rising.{IsRising, rising_pairs, misses_on}
 use Rattle.table_walk.specs.declared.position.Best.{Best}
 use Rattle.table_walk.specs.Reading.{better, least_from}
 use Rattle.table_walk.specs.Bodies.{bound_of}
-use Rattle.table_walk.proofs.Least.{le_ltb, better_yes, better_no, least_kept}
+use Rattle.table_walk.proofs.Least.{least_kept}
 
 -- the best so far, where these candidates are left, and what is the best of all
 pub record IsBest (nodes : List Node) (f : ℕ) (passes : ℕ → Bool) (rank : ℕ → ℕ) (whole : Option ℕ) (left : List ℕ) (best : Best) : Type 0 where

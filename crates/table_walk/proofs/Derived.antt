@@ -1,11 +1,11 @@
 -- Where a table lists no collision, a derivation is the reading of its tags, and that has no structure error.
-use Rattle.std.proofs.Common.{◌≡◌, ℕ, zero, suc, ◌+◌, ◌-◌, ◌<◌, ◌≤◌, Bool, true, false, List, [], ◌∷◌, ◌++◌, Option, Some, None, map, length, take, get_or, refl, sym, ap, subst, ◌∙◌, ◌⊎◌, inl, inr, ⊎_elim, arith}
-use Rattle.std.specs.Prelude.{All, Contains, filter, slice_get, slice_index, if◌then◌else◌}
-use Rattle.std.specs.List.{flat_map, range_with_len, filter_map}
+use Rattle.std.proofs.Common.{◌≡◌, ℕ, zero, suc, ◌+◌, ◌-◌, ◌<◌, ◌≤◌, Bool, true, false, List, [], ◌∷◌, ◌++◌, Option, Some, None, map, length, take, get_or, refl, sym, ap, subst, ◌∙◌, inl, inr, arith}
+use Rattle.std.specs.Prelude.{Contains, filter, slice_get, slice_index, if◌then◌else◌}
+use Rattle.std.specs.List.{flat_map, range_with_len}
 use Rattle.std.proofs.lemmas.Bool.{cases_eq, false≢true}
 use Rattle.std.proofs.lemmas.List.{get_or-map, length-map, take-map}
-use Rattle.std.proofs.lemmas.List.Elements.{All-head, All-tail, All-filter, All-contains, All-contains_itself, filter_passes}
-use Rattle.std.proofs.lemmas.Option.{slice_get-get_or, slice_get_within}
+use Rattle.std.proofs.lemmas.List.Elements.{All-filter, All-contains, All-contains_itself, filter_passes}
+use Rattle.std.proofs.lemmas.Option.{slice_get-get_or}
 use Rattle.std.proofs.lemmas.Slice.Eq.{bytes_eq-Decides}
 use Rattle.edi_tables.specs.declared.tag.Tag.{Tag}
 use Rattle.edi_tables.specs.declared.table.Node.{Node}
@@ -20,8 +20,8 @@ use Rattle.edi_tables.proofs.Places.{kept}
 use Rattle.edi_tables.proofs.Placements.{blank, filter_some, last_of, placed_more, repeat_round, counted, in_followers, tag_known, entry_is}
 use Rattle.collision_check.proofs.Single.{same_follower}
 use Rattle.table_walk.specs.Reading.{has_tag, IsLeast, IsMember, member_at, IsReading, reading_of}
-use Rattle.table_walk.specs.Errors.{Fault, StructureError, faults_of, faults_at, at_place, open_faults, errors_of_placed, structure_errors_of}
-use Rattle.table_walk.specs.Errors.Fault.{Missing, Over, Unplaced}
+use Rattle.table_walk.specs.Errors.{StructureError, faults_of, faults_at, at_place, open_faults, errors_of_placed, structure_errors_of}
+use Rattle.table_walk.specs.Errors.Fault.{Missing, Over}
 use Rattle.table_walk.proofs.Readings.{reading_is, reading_once}
 
 -- the only one of rank 0 is the least

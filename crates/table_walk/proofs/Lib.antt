@@ -10,3 +10,4 @@ pub mod Sameness
 pub mod Sound
 pub mod Turning
 pub mod Whole
+pub mod Worked

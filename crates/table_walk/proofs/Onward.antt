@@ -1,25 +1,22 @@
 -- A step of a reading is a function of the table, the pairs and the tag alone.
-use Rattle.std.proofs.Common.{◌≡◌, ℕ, zero, suc, ◌+◌, ◌-◌, ◌<◌, ◌≤◌, Bool, true, false, cond, List, [], ◌∷◌, ◌++◌, Option, Some, None, map, length, refl, sym, ap, subst, ◌∙◌, ◌⊎◌, inl, inr, ⊎_elim, arith, append_assoc}
-use Rattle.std.specs.Prelude.{All, Contains, filter, reverse, count_by}
-use Rattle.std.proofs.lemmas.Bool.{false≢true, cases_Bool}
-use Rattle.std.proofs.lemmas.List.{append-nil, map-append, length-append}
+use Rattle.std.proofs.Common.{◌≡◌, ℕ, ◌+◌, ◌<◌, Bool, false, List, [], ◌∷◌, ◌++◌, Option, Some, None, map, length, refl, sym, ap, subst, ◌∙◌, arith, append_assoc}
+use Rattle.std.specs.Prelude.{filter, reverse, count_by}
+use Rattle.std.proofs.lemmas.List.{append-nil, map-append}
 use Rattle.edi_tables.specs.declared.tag.Tag.{Tag}
 use Rattle.edi_tables.specs.declared.table.Node.{Node}
 use Rattle.edi_tables.specs.Rows.{IsTable}
-use Rattle.edi_tables.specs.Walk.{tag_at, is_group_at, groups_round, candidates_of, missing_between}
-use Rattle.edi_tables.specs.Placement.{is_at, placed_since, placed_behind, entry_count, group_count, last_placed, rank_of, is_over}
-use Rattle.edi_tables.specs.Pairs.{pairs_with, pairs_of, pairs_next, entry_in, rank_in, over_in}
+use Rattle.edi_tables.specs.Walk.{is_group_at, groups_round, candidates_of, missing_between}
+use Rattle.edi_tables.specs.Placement.{is_at, placed_since, placed_behind, entry_count, group_count, last_placed, rank_of}
+use Rattle.edi_tables.specs.Pairs.{pairs_with, pairs_of, pairs_next, entry_in, rank_in}
 use Rattle.edi_tables.proofs.Counting.{count_push}
-use Rattle.edi_tables.proofs.Placements.{tagged}
 use Rattle.edi_tables.proofs.Pushing.{behind_no, since_no, last_none}
-use Rattle.edi_tables.proofs.Ahead.{IsSound}
-use Rattle.edi_tables.proofs.Next.{entry_last, pairs_here, entry_known, over_is, rank_is, pairs_step}
+use Rattle.edi_tables.proofs.Next.{entry_last, entry_known, over_is, rank_is, pairs_step}
 use Rattle.table_walk.specs.Reading.{has_tag, tagged_candidates, least_from, IsMember, IsReading, member_of, reading_from}
 use Rattle.table_walk.specs.Errors.{missing_before, is_member_over}
 use Rattle.table_walk.specs.Steps.{IsShaped, member_in, missing_in, is_over_in, pairs_after, members_from, pairs_from, GoesOn}
 use Rattle.table_walk.proofs.Least.{least_same}
 use Rattle.table_walk.proofs.Readings.{member_is, reading_more}
-use Rattle.table_walk.proofs.Sound.{Sound, member_fits, sound_member, sound_reading, tag_of}
+use Rattle.table_walk.proofs.Sound.{Sound, member_fits, sound_member, sound_reading}
 
 add_none : (n : ℕ) → n + 0 ≡ n
 add_none n = omega arith

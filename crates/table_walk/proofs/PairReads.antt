@@ -1,11 +1,11 @@
 -- Pairs as a slice: the last, the count of a node, and how great counts are.
-use Rattle.std.proofs.Common.{◌≡◌, ℕ, zero, suc, ◌+◌, ◌-◌, ◌<◌, ◌≤◌, Bool, true, false, cond, List, [], ◌∷◌, ◌++◌, Option, Some, None, map, length, refl, sym, ap, subst, ◌∙◌, ◌⊎◌, inl, inr, ⊎_elim, arith}
-use Rattle.std.specs.Prelude.{All, slice_get, reverse, not, ◌==◌, ◌&&◌, if◌then◌else◌}
-use Rattle.std.proofs.lemmas.Bool.{cases_Bool, cond_both}
-use Rattle.std.proofs.lemmas.List.Elements.{All-nil, All-cons, All-head, All-tail, All-append}
+use Rattle.std.proofs.Common.{◌≡◌, ℕ, zero, suc, ◌+◌, ◌-◌, ◌≤◌, List, [], ◌∷◌, Some, map, length, refl, sym, ap, ◌∙◌, arith}
+use Rattle.std.specs.Prelude.{slice_get, reverse, not, ◌==◌, ◌&&◌}
+use Rattle.std.proofs.lemmas.Bool.{cond_both}
+use Rattle.std.proofs.lemmas.List.Elements.{All-nil, All-cons, All-head, All-tail, All-append, All-weaker}
 use Rattle.edi_tables.specs.declared.table.Node.{Node}
 use Rattle.edi_tables.specs.Walk.{is_trigger_at, groups_round}
-use Rattle.edi_tables.specs.Pairs.{pairs_with, pairs_next, count_in, entry_in, group_next, entry_next}
+use Rattle.edi_tables.specs.Pairs.{pairs_next, count_in, entry_in, group_next, entry_next}
 use Rattle.table_walk.specs.Steps.{AreCountsUpTo}
 
 -- the entry is the node of the last pair
@@ -52,3 +52,7 @@ next_up_to most nodes pairs c all =
     All-append (λ (p : ℕ × ℕ). p.1 ≤ most + 1) (map (λ g. let pair : ℕ × ℕ = (g, group_next pairs c g) in pair) (reverse (groups_round nodes c))) (last ∷ [])
     (all_counted (most + 1) (group_next pairs c) (λ g. group_up_to most pairs c g all) (reverse (groups_round nodes c)))
     (All-cons (λ (p : ℕ × ℕ). p.1 ≤ most + 1) last [] (entry_up_to most nodes pairs c all) (All-nil (λ (p : ℕ × ℕ). p.1 ≤ most + 1)))
+
+-- counts that are up to a number are up to a greater one
+pub counts_weaker : (most more : ℕ) (pairs : List (ℕ × ℕ)) → most ≤ more → AreCountsUpTo most pairs → AreCountsUpTo more pairs
+counts_weaker most more pairs greater all = All-weaker (λ (p : ℕ × ℕ). p.1 ≤ most) (λ (p : ℕ × ℕ). p.1 ≤ more) (λ p below. omega (arith, below, greater)) pairs all

@@ -1,21 +1,21 @@
 -- What one step says of the entry that it finds, and of the pairs after it.
-use Rattle.std.proofs.Common.{◌≡◌, ℕ, zero, suc, ◌+◌, ◌<◌, ◌≤◌, Bool, true, false, List, [], ◌∷◌, ◌++◌, Option, Some, None, length, refl, sym, ap, subst, ◌∙◌, inl, inr, ⊎_elim, arith}
-use Rattle.std.specs.Prelude.{map, reverse, ◌↔◌, All, Contains, filter, slice_get, count_by}
-use Rattle.std.proofs.lemmas.List.Elements.{All-weaker, All-contains, filter_passes, All-filter}
+use Rattle.std.proofs.Common.{◌≡◌, ℕ, ◌+◌, ◌<◌, ◌≤◌, true, false, List, [], ◌∷◌, ◌++◌, Option, Some, None, length, refl, sym, ap, subst, ◌∙◌, arith}
+use Rattle.std.specs.Prelude.{map, reverse, ◌↔◌, filter, slice_get, count_by}
+use Rattle.std.proofs.lemmas.List.Elements.{All-weaker, filter_passes}
 use Rattle.edi_tables.specs.declared.tag.Tag.{Tag}
 use Rattle.edi_tables.specs.declared.table.Node.{Node}
 use Rattle.edi_tables.specs.Rows.{IsTable}
-use Rattle.edi_tables.specs.Walk.{tag_at, parent_at, is_group_at, groups_round, candidates_of}
-use Rattle.edi_tables.specs.Placement.{is_at, placed_since, entry_count, group_count}
-use Rattle.edi_tables.specs.Pairs.{pairs_of, pairs_with, entry_in, rank_in}
+use Rattle.edi_tables.specs.Walk.{tag_at, parent_at, is_group_at, candidates_of, missing_past}
+use Rattle.edi_tables.specs.Placement.{is_at, placed_since, entry_count, group_count, last_placed}
+use Rattle.edi_tables.specs.Pairs.{pairs_of, entry_in, rank_in}
 use Rattle.edi_tables.proofs.Counting.{count_push}
 use Rattle.edi_tables.proofs.Placements.{tagged, first_outside}
 use Rattle.edi_tables.proofs.Walking.{groups_round_none}
 use Rattle.table_walk.specs.Reading.{has_tag, IsLeastOf, IsReading}
-use Rattle.table_walk.specs.Steps.{IsShaped, AreCountsUpTo, member_in, missing_in, is_over_in, pairs_after, GoesOn}
+use Rattle.table_walk.specs.Steps.{IsShaped, AreCountsUpTo, member_in, pairs_after}
 use Rattle.table_walk.proofs.Least.{least_of, least_has}
-use Rattle.table_walk.proofs.Sound.{sound_start, tag_of}
-use Rattle.table_walk.proofs.Onward.{shaped, shaped_next, goes_on}
+use Rattle.table_walk.proofs.Sound.{sound_start, sound_reading, tag_of}
+use Rattle.table_walk.proofs.Onward.{entry_is, shaped, shaped_next}
 use Rattle.table_walk.proofs.PairReads.{next_up_to}
 
 module _ (nodes : List Node) (pairs : List (ℕ × ℕ)) (tag : Option Tag) where
@@ -70,3 +70,9 @@ module _ (nodes : List Node) (table : IsTable nodes) where
 
   pub shaped_first : IsShaped nodes (pairs_of nodes (Some 0 ∷ []))
   shaped_first = shaped nodes (Some 0 ∷ []) (sound_start nodes table)
+
+  -- what is missing where a reading ends, by its pairs
+  pub ends_same : (tags : List (Option Tag)) (placed : List (Option ℕ)) → IsReading nodes tags placed → (pairs : List (ℕ × ℕ)) → pairs_of nodes placed ≡ pairs → missing_past nodes (entry_in pairs) ≡ missing_past nodes (last_placed placed)
+  ends_same tags placed reading pairs same =
+      ap (λ (ps : List (ℕ × ℕ)). missing_past nodes (entry_in ps)) (sym same)
+      ∙ ap (missing_past nodes) (entry_is nodes table placed (sound_reading nodes table tags placed reading))

@@ -1,8 +1,8 @@
 -- The pairs after a step, made from the last to the first and then turned round.
-use Rattle.std.proofs.Common.{◌≡◌, ℕ, zero, suc, ◌+◌, ◌-◌, ◌<◌, ◌≤◌, Bool, true, false, List, [], ◌∷◌, ◌++◌, map, length, take, drop, refl, sym, ap, subst, ◌∙◌, arith}
+use Rattle.std.proofs.Common.{◌≡◌, ℕ, zero, suc, ◌+◌, ◌<◌, ◌≤◌, List, [], ◌∷◌, ◌++◌, map, length, take, drop, refl, sym, ap, subst, ◌∙◌, arith}
 use Rattle.std.specs.Prelude.{All, reverse}
 use Rattle.std.specs.List.{refill}
-use Rattle.std.proofs.lemmas.List.{append-nil, reverse-append, length-append, length-reverse, length-map, take_all, append_assoc}
+use Rattle.std.proofs.lemmas.List.{append-nil, reverse-append, length-append, take_all, append_assoc}
 use Rattle.std.proofs.lemmas.List.Elements.{All-head, All-tail}
 use Rattle.edi_tables.specs.declared.table.Node.{Node}
 use Rattle.edi_tables.specs.Rows.{IsTable}

@@ -1,8 +1,8 @@
 -- The reading of a whole message: how it is made, and what it says of each segment.
 use Rattle.std.proofs.Common.{◌≡◌, ℕ, zero, suc, ◌+◌, ◌-◌, ◌<◌, ◌≤◌, Bool, true, false, List, [], ◌∷◌, ◌++◌, Option, Some, None, map, length, take, drop, get_or, refl, sym, ap, subst, ◌∙◌, arith}
-use Rattle.std.specs.Prelude.{find, filter, ◌&&◌, ◌==◌, if◌then◌else◌}
+use Rattle.std.specs.Prelude.{find, ◌&&◌, ◌==◌, if◌then◌else◌}
 use Rattle.std.proofs.lemmas.Bool.{false≢true}
-use Rattle.std.proofs.lemmas.List.{take_all, length-drop}
+use Rattle.std.proofs.lemmas.List.{take_all}
 use Rattle.std.proofs.Math.Seq.{drop-cons}
 use Rattle.edi_tables.specs.declared.tag.Tag.{Tag}
 use Rattle.edi_tables.specs.declared.table.Node.{Node}
@@ -16,7 +16,7 @@ use Rattle.table_walk.specs.Errors.Fault.{Missing, Over, Unplaced}
 use Rattle.table_walk.proofs.Least.{least_first}
 use Rattle.table_walk.proofs.Readings.{member_is, reading_is, reading_once}
 use Rattle.table_walk.proofs.Turning.{drop_past}
-use Rattle.table_walk.proofs.Sound.{Sound, sound_start, sound_member}
+use Rattle.table_walk.proofs.Sound.{Sound, sound_member}
 
 -- a list that isn't empty
 pub some_of : (n : ℕ) → (n == 0) ≡ false → 0 < n

@@ -1,5 +1,5 @@
 -- What is wrong in the structure of a message, by its segment table.
-use Rattle.std.specs.Prelude.{◌-◌, ◌+◌, ℕ, Bool, false, List, [], ◌∷◌, ◌++◌, length, take, map, Option, Some, None, if◌then◌else◌}
+use Rattle.std.specs.Prelude.{◌-◌, ℕ, Bool, false, List, [], ◌∷◌, ◌++◌, length, take, map, Option, Some, None, if◌then◌else◌}
 use Rattle.std.specs.List.{flat_map, range_with_len}
 use Rattle.edi_tables.specs.declared.tag.Tag.{Tag}
 use Rattle.edi_tables.specs.declared.table.Node.{Node}

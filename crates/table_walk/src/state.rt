@@ -2,6 +2,7 @@
 ghost use Rattle.std.specs.Prelude.{◌≡◌, ◌+◌, ◌↔◌, ℕ, List, [], ◌∷◌, Option, Some, None, IsTrue, IfOk, filter};
 ghost use Rattle.edi_tables.specs.declared.tag.Tag.{Tag};
 ghost use Rattle.edi_tables.specs.Walk.{candidates_of, missing_past};
+ghost use Rattle.edi_tables.specs.Placement.{last_placed};
 ghost use Rattle.edi_tables.specs.Pairs.{entry_in, pairs_of};
 ghost use Rattle.table_walk.specs.Reading.{IsReading, has_tag};
 ghost use Rattle.table_walk.specs.Steps.{AreCountsUpTo, GoesOn, IsShaped, is_over_in, member_in, missing_in, pairs_after};
@@ -115,9 +116,16 @@ impl State {
     /// The mandatory nodes from here to the table's end, ascending: what is missing where a message ends here.
     pub fn finish(&self, alloc: Global, table: &Table) -> Result<SmallVec<u16, 4>, AllocError>
         requires { IsShaped table.now self.now }
-        ensures { IfOk result (λ missing. missing.items ≡ missing_past table.now (entry_in self.now)) }
+        ensures missing { IfOk result (λ missing. missing.items ≡ missing_past table.now (entry_in self.now)) }
+        ensures reading { IfOk result
+            (λ missing. (tags : List (Option Tag))
+            (placed : List (Option ℕ)) → IsReading table.now tags placed
+            → pairs_of table.now placed ≡ self.now
+            → missing.items ≡ missing_past table.now (last_placed placed)) }
     {
-        gather(alloc, Position::of(table, self.pairs()).missing_past())
+        let position = Position::of(table, self.pairs());
+        let missing = gather(alloc, position.missing_past())?;
+        Ok(missing)
     }
 
     /// Whether two states have the same pairs.

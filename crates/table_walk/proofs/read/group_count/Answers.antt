@@ -1,4 +1,4 @@
-use Rattle.std.proofs.Common.{◌≡◌, ◌+◌, ℕ, Option, ap, ◌∙◌}
+use Rattle.std.proofs.Common.{◌+◌, ℕ, Option, ap, ◌∙◌}
 use Rattle.std.specs.Prelude.{count_by}
 use Rattle.edi_tables.specs.Walk.{parent_at}
 use Rattle.edi_tables.specs.Placement.{is_at, placed_since}

@@ -1,4 +1,4 @@
-use Rattle.std.proofs.Common.{◌≡◌, ◌+◌, ℕ, Option, None, List, take, get_or, sym, ap, ◌∙◌}
+use Rattle.std.proofs.Common.{ℕ, Option, None, take, get_or, sym, ap, ◌∙◌}
 use Rattle.std.specs.Prelude.{unwrap_or}
 use Rattle.std.proofs.lemmas.List.{take_more}
 use Rattle.edi_tables.specs.Placement.{last_placed}

@@ -1,7 +1,7 @@
-use Rattle.std.proofs.Common.{◌≡◌, ◌+◌, ◌<◌, ◌≤◌, ℕ, length, refl, sym, ap, subst, ◌∙◌}
+use Rattle.std.proofs.Common.{◌<◌, ◌≤◌, length, refl, sym, subst, ◌∙◌}
 use Rattle.std.specs.Prelude.{All, AllPairs}
-use Rattle.edi_tables.specs.Walk.{reached_node, missing_between}
-use Rattle.edi_tables.specs.Placement.{is_filled, is_over, last_placed, rank_of}
+use Rattle.edi_tables.specs.Walk.{reached_node}
+use Rattle.edi_tables.specs.Placement.{last_placed, rank_of}
 use Rattle.table_walk.specs.Reading.{has_tag, member_of}
 use Rattle.table_walk.proofs.Choosing.{IsBest, rank_of_small, best_start, best_meet, best_skip}
 use Rattle.table_walk.proofs.read.member_of.Goals as goal

@@ -1,7 +1,6 @@
-use Rattle.std.proofs.Common.{◌≡◌, ◌<◌, ◌+◌, ◌-◌, ◌++◌, ◌∷◌, [], ℕ, List, Option, Some, None, length, take, drop, get_or, refl, sym, ap, subst, ◌∙◌, arith}
+use Rattle.std.proofs.Common.{◌≡◌, ◌+◌, ◌-◌, ◌++◌, ◌∷◌, [], ℕ, List, Option, Some, None, length, take, drop, get_or, sym, ap, subst, ◌∙◌, arith}
 use Rattle.edi_tables.specs.declared.tag.Tag.{Tag}
-use Rattle.edi_tables.specs.Placement.{last_placed}
-use Rattle.table_walk.specs.Reading.{member_of, reading_from, reading_of}
+use Rattle.table_walk.specs.Reading.{member_of, reading_from}
 use Rattle.table_walk.proofs.Sound.{Sound, sound_start}
 use Rattle.table_walk.proofs.Whole.{some_of, later_tags, read_all, read_more, sound_step, whole_is, whole_once, first_place}
 use Rattle.table_walk.proofs.Derived.{derived}

@@ -1,5 +1,5 @@
 use Rattle.std.specs.Prelude.{All, AllPairs}
-use Rattle.std.proofs.Common.{◌≡◌, ◌+◌, ◌<◌, ◌≤◌, ℕ, length, refl, sym, ap, subst, ◌∙◌}
+use Rattle.std.proofs.Common.{◌<◌, ◌≤◌, length, refl, sym, subst, ◌∙◌}
 use Rattle.edi_tables.specs.Walk.{reached_node, missing_between}
 use Rattle.edi_tables.specs.Placement.{is_filled}
 use Rattle.edi_tables.specs.Pairs.{entry_in, over_in, rank_in}

@@ -1,9 +1,8 @@
-use Rattle.std.proofs.Common.{◌≡◌, ◌++◌, ◌∷◌, [], ◌<◌, ℕ, List, length, refl, sym, ap, subst, ◌∙◌, arith}
+use Rattle.std.proofs.Common.{◌≡◌, ◌++◌, ◌∷◌, [], ◌<◌, ℕ, List, length, sym, ap, subst, ◌∙◌}
 use Rattle.std.specs.Prelude.{All, reverse}
 use Rattle.std.proofs.lemmas.List.{length-reverse}
 use Rattle.edi_tables.specs.Walk.{groups_round}
-use Rattle.edi_tables.specs.Pairs.{entry_next, group_next}
-use Rattle.table_walk.proofs.Turning.{IsTurned, turned_begin, turned_more, turned_end, turned_inside, refill_whole}
+use Rattle.table_walk.proofs.Turning.{turned_begin, turned_more, turned_end, refill_whole}
 use Rattle.table_walk.proofs.position.Position.pairs_next.Goals as goal
 
 pub loop-group-init : goal.loop-group-init

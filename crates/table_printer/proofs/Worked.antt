@@ -5,7 +5,7 @@ use Rattle.std.specs.Fmt.{digits}
 use Rattle.edi_tables.specs.declared.segment.TableRow.{TableRow}
 use Rattle.edi_tables.specs.Rows.{parent_of, end_of}
 use Rattle.edi_tables.specs.Walk.{later_siblings, groups_round, candidates_of, later_nodes, missing_between}
-use Rattle.edi_tables.specs.Collisions.{followers_of, front_of, collisions_of}
+use Rattle.edi_tables.specs.Collisions.{shared_pairs, followers_of, front_of, collisions_of}
 use Rattle.dir_compile.specs.declared.parts.Parts.{Parts}
 use Rattle.table_printer.specs.Tables.{node_line, collision_line, table_text, labels_line, tables_text}
 
@@ -34,5 +34,5 @@ two_dates = record {
 two_dates_shown : tables_text two_dates
     ≡ codes "directory D 96A UN" ++ 10 ∷ codes "table TSTCOL 6" ++ 10 ∷ codes "0 0 UNH M 1" ++ 10 ∷ codes "1 0 BGM M 1" ++ 10 ∷ codes "2 0 DTM C 5" ++ 10 ∷ codes "3 0 RFF C 1"
     ++ 10 ∷ codes "4 0 DTM C 1" ++ 10 ∷ codes "5 0 UNT M 1" ++ 10 ∷ codes "collisions 2" ++ 10 ∷ codes "UNH BGM DTM | 0 1 2 | 0 1 4" ++ 10 ∷ codes "UNH BGM DTM DTM | 0 1 2 2 | 0 1 2 4" ++ 10 ∷ []
-unfolding two_dates digits tables_text labels_line table_text node_line collision_line collisions_of followers_of front_of candidates_of later_siblings groups_round missing_between later_nodes parent_of end_of
+unfolding two_dates digits tables_text labels_line table_text node_line collision_line collisions_of shared_pairs followers_of front_of candidates_of later_siblings groups_round missing_between later_nodes parent_of end_of
 two_dates_shown = refl

@@ -1,5 +1,5 @@
 -- A step of a reading is a function of the table, the pairs and the tag alone.
-use Rattle.std.proofs.Common.{◌≡◌, ℕ, ◌+◌, ◌<◌, Bool, false, List, [], ◌∷◌, ◌++◌, Option, Some, None, map, length, refl, sym, ap, subst, ◌∙◌, arith, append_assoc}
+use Rattle.std.proofs.Common.{◌≡◌, ℕ, ◌+◌, ◌<◌, Bool, false, List, [], ◌∷◌, ◌++◌, Option, Some, None, map, length, drop, refl, sym, ap, subst, ◌∙◌, arith, append_assoc}
 use Rattle.std.specs.Prelude.{filter, reverse, count_by}
 use Rattle.std.proofs.lemmas.List.{append-nil, map-append}
 use Rattle.edi_tables.specs.declared.tag.Tag.{Tag}
@@ -13,7 +13,7 @@ use Rattle.edi_tables.proofs.Pushing.{behind_no, since_no, last_none}
 use Rattle.edi_tables.proofs.Next.{entry_last, entry_known, over_is, rank_is, pairs_step}
 use Rattle.table_walk.specs.Reading.{has_tag, tagged_candidates, least_from, IsMember, IsReading, member_of, reading_from}
 use Rattle.table_walk.specs.Errors.{missing_before, is_member_over}
-use Rattle.table_walk.specs.Steps.{IsShaped, member_in, missing_in, is_over_in, pairs_after, members_from, pairs_from, GoesOn}
+use Rattle.table_walk.specs.Steps.{IsShaped, member_in, missing_in, is_over_in, pairs_after, members_from, pairs_from, GoesOn, GoOnAlike}
 use Rattle.table_walk.proofs.Least.{least_same}
 use Rattle.table_walk.proofs.Readings.{member_is, reading_more}
 use Rattle.table_walk.proofs.Sound.{Sound, member_fits, sound_member, sound_reading}
@@ -89,6 +89,20 @@ module _ (nodes : List Node) where
       ∙ append_assoc placed (member ∷ []) (members_from nodes (pairs_of nodes (placed ++ member ∷ [])) tags)
       ∙ ap (λ (pairs : List (ℕ × ℕ)). placed ++ member ∷ members_from nodes pairs tags) (pairs_member table placed sound tag member is)
       ∙ ap (λ (m : Option ℕ). placed ++ m ∷ members_from nodes (pairs_after nodes (pairs_of nodes placed) m) tags) (member_same table placed sound tag)
+
+  drop_front : {A : Type 0} (xs ys : List A) → drop (length xs) (xs ++ ys) ≡ ys
+  drop_front [] ys = refl
+  drop_front (x ∷ xs) ys = drop_front xs ys
+
+  rest_is : (table : IsTable nodes) (read : List (Option Tag)) (placed : List (Option ℕ)) → IsReading nodes read placed → (tags : List (Option Tag))
+      → drop (length placed) (reading_from nodes placed tags) ≡ members_from nodes (pairs_of nodes placed) tags
+  rest_is table read placed reading tags =
+      ap (drop (length placed)) (onward table tags placed (sound_reading nodes table read placed reading)) ∙ drop_front placed (members_from nodes (pairs_of nodes placed) tags)
+
+  -- readings with the same pairs go on alike
+  pub alike : (table : IsTable nodes) (one_tags two_tags : List (Option Tag)) (one two : List (Option ℕ)) → IsReading nodes one_tags one → IsReading nodes two_tags two → pairs_of nodes one ≡ pairs_of nodes two → GoOnAlike nodes one two
+  alike table one_tags two_tags one two read_one read_two same tags =
+      rest_is table one_tags one read_one tags ∙ ap (λ (pairs : List (ℕ × ℕ)). members_from nodes pairs tags) same ∙ sym (rest_is table two_tags two read_two tags)
 
   pub pairs_onward : (table : IsTable nodes) (tags : List (Option Tag)) (placed : List (Option ℕ)) → Sound nodes placed → pairs_of nodes (reading_from nodes placed tags) ≡ pairs_from nodes (pairs_of nodes placed) tags
   pairs_onward table [] placed sound = refl

@@ -1,10 +1,10 @@
 -- One step of a reading, by the pairs of the entry placed last alone: where the next segment is, what is wrong with that, and the pairs after it.
-use Rattle.std.specs.Prelude.{◌≡◌, ◌<◌, ◌≤◌, ℕ, Bool, false, List, [], ◌∷◌, ◌++◌, length, map, filter, reverse, All, Option, Some, None}
+use Rattle.std.specs.Prelude.{◌≡◌, ◌<◌, ◌≤◌, ℕ, Bool, false, List, [], ◌∷◌, ◌++◌, length, drop, map, filter, reverse, All, Option, Some, None}
 use Rattle.edi_tables.specs.declared.tag.Tag.{Tag}
 use Rattle.edi_tables.specs.declared.table.Node.{Node}
 use Rattle.edi_tables.specs.Walk.{is_group_at, groups_round, candidates_of, missing_between}
 use Rattle.edi_tables.specs.Pairs.{pairs_of, pairs_next, entry_in, over_in, rank_in}
-use Rattle.table_walk.specs.Reading.{has_tag, least_from, IsReading}
+use Rattle.table_walk.specs.Reading.{has_tag, least_from, reading_from, IsReading}
 use Rattle.table_walk.specs.Errors.{missing_before, is_member_over}
 
 -- pairs belong to a table: they have the groups round one of its entries, outermost first, and the entry
@@ -45,6 +45,10 @@ members_from nodes pairs (tag ∷ tags) = member_in nodes pairs tag ∷ members_
 abbrev pub pairs_from : List Node → List (ℕ × ℕ) → List (Option Tag) → List (ℕ × ℕ)
 pairs_from nodes pairs [] = pairs
 pairs_from nodes pairs (tag ∷ tags) = pairs_from nodes (pairs_after nodes pairs (member_in nodes pairs tag)) tags
+
+-- two readings go on alike: after both, segments with the same tags are at the same entries
+abbrev pub GoOnAlike : List Node → List (Option ℕ) → List (Option ℕ) → Type 0
+GoOnAlike nodes one two = (tags : List (Option Tag)) → drop (length one) (reading_from nodes one tags) ≡ drop (length two) (reading_from nodes two tags)
 
 -- a reading goes on with one segment more: where it is, what is missing before it, whether it is one too many, and the pairs after it
 pub record GoesOn (nodes : List Node) (tags : List (Option Tag)) (placed : List (Option ℕ)) (tag : Option Tag) (member : Option ℕ) (passed : List ℕ) (too_many : Bool) (after : List (ℕ × ℕ)) : Type 0 where

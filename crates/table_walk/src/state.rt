@@ -1,11 +1,13 @@
 //! The state of a walk: what one segment leaves to the next.
 ghost use Rattle.std.specs.Prelude.{◌≡◌, ◌+◌, ◌↔◌, ℕ, List, [], ◌∷◌, Option, Some, None, IsTrue, IfOk, filter};
 ghost use Rattle.edi_tables.specs.declared.tag.Tag.{Tag};
+ghost use Rattle.edi_tables.specs.declared.table.Node.{Node};
+ghost use Rattle.edi_tables.specs.Rows.{IsTable};
 ghost use Rattle.edi_tables.specs.Walk.{candidates_of, missing_past};
 ghost use Rattle.edi_tables.specs.Placement.{last_placed};
 ghost use Rattle.edi_tables.specs.Pairs.{entry_in, pairs_of};
 ghost use Rattle.table_walk.specs.Reading.{IsReading, has_tag};
-ghost use Rattle.table_walk.specs.Steps.{AreCountsUpTo, GoesOn, IsShaped, is_over_in, member_in, missing_in, pairs_after};
+ghost use Rattle.table_walk.specs.Steps.{AreCountsUpTo, GoOnAlike, GoesOn, IsShaped, is_over_in, member_in, missing_in, pairs_after};
 
 use crate::position::{Pairs, Position};
 use arrayvec::ArrayVec;
@@ -130,7 +132,16 @@ impl State {
 
     /// Whether two states have the same pairs.
     pub fn same(&self, other: &State) -> bool
-        ensures { IsTrue result ↔ (self.now ≡ other.now) }
+        ensures equal { IsTrue result ↔ (self.now ≡ other.now) }
+        // So a walk need not be taken again from where it comes to a state that it had.
+        ensures onward { IsTrue result
+            → (nodes : List Node) → IsTable nodes
+            → (one_tags two_tags : List (Option Tag))
+            (one two : List (Option ℕ)) → IsReading nodes one_tags one
+            → IsReading nodes two_tags two
+            → pairs_of nodes one ≡ self.now
+            → pairs_of nodes two ≡ other.now
+            → GoOnAlike nodes one two }
     {
         self.pairs() == other.pairs()
     }

@@ -31,7 +31,8 @@ is_member_over nodes placed (Some c) = is_over nodes placed c
 -- what is wrong with a member, after these
 abbrev pub faults_of : List Node → List (Option ℕ) → Option ℕ → List Fault
 faults_of nodes placed None = Unplaced ∷ []
-faults_of nodes placed (Some c) = map Missing (missing_between nodes (last_placed placed) c) ++ (if is_over nodes placed c then Over c ∷ [] else [])
+faults_of nodes placed (Some c) =
+    map Missing (missing_between nodes (last_placed placed) c) ++ (if is_over nodes placed c then Over c ∷ [] else [])
 
 -- what is wrong with the segment at place k by itself
 abbrev pub faults_at : List Node → List (Option ℕ) → ℕ → List Fault
@@ -48,7 +49,8 @@ open_faults nodes placed closed = if closed then [] else map Missing (missing_pa
 -- what is wrong where the segments of a message are: with each after UNH by itself, and at the end
 abbrev pub errors_of_placed : List Node → List (Option ℕ) → Bool → List StructureError
 errors_of_placed nodes placed closed =
-    flat_map (λ k. at_place k (faults_at nodes placed k)) (range_with_len 1 (length placed - 1)) ++ at_place (length placed - 1) (open_faults nodes placed closed)
+    flat_map (λ k. at_place k (faults_at nodes placed k)) (range_with_len 1 (length placed - 1))
+    ++ at_place (length placed - 1) (open_faults nodes placed closed)
 
 -- what is wrong in the structure of a message with these tags
 unfoldable pub structure_errors_of : List Node → List (Option Tag) → Bool → List StructureError

@@ -1,5 +1,5 @@
 -- The reading of a message: at which entry of a segment table each segment is, or at none.
-use Rattle.std.specs.Prelude.{◌≡◌, ◌<◌, ◌≤◌, ◌+◌, ◌⊎◌, ℕ, Bool, nat_lt, List, [], ◌∷◌, ◌++◌, length, take, filter, slice_get, slice_index_or, All, Option, Some, None, if◌then◌else◌}
+use Rattle.std.specs.Prelude.{◌≡◌, ◌<◌, ◌≤◌, ◌+◌, ◌⊎◌, ℕ, Bool, ◌==◌, ◌&&◌, nat_lt, List, [], ◌∷◌, ◌++◌, length, take, filter, find, slice_get, slice_index_or, All, Option, Some, None, if◌then◌else◌}
 use Rattle.edi_tables.specs.declared.tag.Tag.{Tag}
 use Rattle.edi_tables.specs.declared.table.Node.{Node}
 use Rattle.edi_tables.specs.Walk.{tag_at, candidates_of}
@@ -25,7 +25,7 @@ abbrev pub IsLeastOf : (ℕ → ℕ) → List ℕ → Option ℕ → Type 0
 IsLeastOf rank xs None = xs ≡ []
 IsLeastOf rank xs (Some c) = IsLeast rank xs c
 
--- where a segment with this tag is, after these: at the candidate with its tag that is least by rank and then by processing order, or at none
+-- where a segment with this tag is, after these: at the candidate with its tag and the least rank, the first of several
 abbrev pub IsMember : List Node → List (Option ℕ) → Option Tag → Option ℕ → Type 0
 IsMember nodes placed tag member = IsLeastOf (rank_of nodes placed) (tagged_candidates nodes placed tag) member
 
@@ -52,6 +52,11 @@ least_from rank best (c ∷ more) = least_from rank (better rank best c) more
 -- where a segment with this tag is, after these
 abbrev pub member_of : List Node → List (Option ℕ) → Option Tag → Option ℕ
 member_of nodes placed tag = least_from (rank_of nodes placed) None (tagged_candidates nodes placed tag)
+
+-- the first candidate with this tag that has nothing missing and isn't over
+abbrev pub first_free : List Node → List (Option ℕ) → Option Tag → Option ℕ
+first_free nodes placed tag =
+    find (λ c. has_tag nodes tag c && rank_of nodes placed c == 0) (candidates_of nodes (last_placed placed))
 
 -- these, and where each segment with one of these tags is after them
 abbrev pub reading_from : List Node → List (Option ℕ) → List (Option Tag) → List (Option ℕ)

@@ -1,4 +1,4 @@
--- One step of a reading, by the pairs of the entry placed last alone: where the next segment is, what is wrong with that, and the pairs after it.
+-- One step of a reading, by the pairs alone: where the next segment is, what is wrong with that, and the pairs after it.
 use Rattle.std.specs.Prelude.{◌≡◌, ◌<◌, ◌≤◌, ℕ, Bool, false, List, [], ◌∷◌, ◌++◌, length, drop, map, filter, reverse, All, Option, Some, None}
 use Rattle.edi_tables.specs.declared.tag.Tag.{Tag}
 use Rattle.edi_tables.specs.declared.table.Node.{Node}
@@ -17,9 +17,13 @@ pub record IsShaped (nodes : List Node) (pairs : List (ℕ × ℕ)) : Type 0 whe
 abbrev pub AreCountsUpTo : ℕ → List (ℕ × ℕ) → Type 0
 AreCountsUpTo most pairs = All (λ pair. pair.1 ≤ most) pairs
 
+-- the candidates that have this tag, in processing order
+abbrev pub tagged_in : List Node → List (ℕ × ℕ) → Option Tag → List ℕ
+tagged_in nodes pairs tag = filter (has_tag nodes tag) (candidates_of nodes (entry_in pairs))
+
 -- where a segment with this tag is
 unfoldable pub member_in : List Node → List (ℕ × ℕ) → Option Tag → Option ℕ
-member_in nodes pairs tag = least_from (rank_in nodes pairs) None (filter (has_tag nodes tag) (candidates_of nodes (entry_in pairs)))
+member_in nodes pairs tag = least_from (rank_in nodes pairs) None (tagged_in nodes pairs tag)
 
 -- the mandatory nodes that going to a member passes
 abbrev pub missing_in : List Node → List (ℕ × ℕ) → Option ℕ → List ℕ
@@ -39,7 +43,8 @@ pairs_after nodes pairs (Some c) = pairs_next nodes pairs c
 -- where segments with these tags are, one after the other
 abbrev pub members_from : List Node → List (ℕ × ℕ) → List (Option Tag) → List (Option ℕ)
 members_from nodes pairs [] = []
-members_from nodes pairs (tag ∷ tags) = member_in nodes pairs tag ∷ members_from nodes (pairs_after nodes pairs (member_in nodes pairs tag)) tags
+members_from nodes pairs (tag ∷ tags) =
+    member_in nodes pairs tag ∷ members_from nodes (pairs_after nodes pairs (member_in nodes pairs tag)) tags
 
 -- the pairs after segments with these tags
 abbrev pub pairs_from : List Node → List (ℕ × ℕ) → List (Option Tag) → List (ℕ × ℕ)
@@ -48,10 +53,12 @@ pairs_from nodes pairs (tag ∷ tags) = pairs_from nodes (pairs_after nodes pair
 
 -- two readings go on alike: after both, segments with the same tags are at the same entries
 abbrev pub GoOnAlike : List Node → List (Option ℕ) → List (Option ℕ) → Type 0
-GoOnAlike nodes one two = (tags : List (Option Tag)) → drop (length one) (reading_from nodes one tags) ≡ drop (length two) (reading_from nodes two tags)
+GoOnAlike nodes one two = (tags : List (Option Tag))
+    → drop (length one) (reading_from nodes one tags) ≡ drop (length two) (reading_from nodes two tags)
 
--- a reading goes on with one segment more: where it is, what is missing before it, whether it is one too many, and the pairs after it
-pub record GoesOn (nodes : List Node) (tags : List (Option Tag)) (placed : List (Option ℕ)) (tag : Option Tag) (member : Option ℕ) (passed : List ℕ) (too_many : Bool) (after : List (ℕ × ℕ)) : Type 0 where
+-- a reading goes on with one segment more: where it is, what is missing before it, whether it is over, and the pairs after it
+pub record GoesOn (nodes : List Node) (tags : List (Option Tag)) (placed : List (Option ℕ)) (tag : Option Tag)
+    (member : Option ℕ) (passed : List ℕ) (too_many : Bool) (after : List (ℕ × ℕ)) : Type 0 where
   pub reading : IsReading nodes (tags ++ tag ∷ []) (placed ++ member ∷ [])
   pub missing : passed ≡ missing_before nodes placed member
   pub over : too_many ≡ is_member_over nodes placed member

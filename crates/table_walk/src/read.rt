@@ -1,11 +1,11 @@
 //! The reading of a whole message by its definition: counts are looked up backwards, for each candidate anew.
-ghost use Rattle.std.specs.Prelude.{◌≡◌, ◌<◌, ◌+◌, ℕ, List, Option, Some, [], IfOk, Bool, count_by, find, length, map, take, ◌&&◌, ◌==◌};
+ghost use Rattle.std.specs.Prelude.{◌≡◌, ◌<◌, ◌+◌, ℕ, List, Option, Some, [], IfOk, Bool, count_by, length, map, take};
 ghost use Rattle.edi_tables.specs.declared.tag.Tag.{Tag};
-ghost use Rattle.edi_tables.specs.Walk.{candidates_of, max_at};
+ghost use Rattle.edi_tables.specs.Walk.{max_at};
 ghost use Rattle.edi_tables.specs.Placement.{IsDerivation, entry_count, group_count, is_at, is_over, last_placed, placed_since, rank_of};
 ghost use Rattle.edi_tables.specs.Collisions.{collisions_of};
 ghost use Rattle.edi_tables.specs.Extents.{tag_in};
-ghost use Rattle.table_walk.specs.Reading.{IsReading, has_tag, member_at, member_of, reading_of};
+ghost use Rattle.table_walk.specs.Reading.{IsReading, first_free, member_at, member_of, reading_of};
 ghost use Rattle.table_walk.specs.Errors.{faults_at, structure_errors_of};
 ghost use Rattle.table_walk.specs.Bodies.{opens_in};
 
@@ -22,15 +22,15 @@ pub fn read_tags(
     tags: &[Option<Tag>],
 ) -> Result<Vec<Option<u16>>, AllocError>
     ensures value { IfOk result (λ placed. placed.items ≡ reading_of table.now tags.now) }
-    ensures reading { IfOk result (λ placed. 0 < length tags.now → IsReading table.now tags.now placed.items) }
-    ensures only { IfOk result (λ placed. (other : List (Option ℕ)) → IsReading table.now tags.now other → other ≡ placed.items) }
+    ensures reading { 0 < length tags.now → IfOk result (λ placed. IsReading table.now tags.now placed.items) }
+    ensures only { (other : List (Option ℕ))
+        → IsReading table.now tags.now other
+        → IfOk result (λ placed. other ≡ placed.items) }
     // A segment with no error of its own is at the first candidate with its tag that has nothing missing and isn't over.
     ensures first { IfOk result
         (λ placed. (k : ℕ) → k + 1 < length placed.items
         → faults_at table.now placed.items (k + 1) ≡ []
-        → member_at placed.items (k + 1) ≡ find
-        (λ c. has_tag table.now (tag_in tags.now (k + 1)) c && rank_of table.now (take (k + 1) placed.items) c == 0)
-        (candidates_of table.now (last_placed (take (k + 1) placed.items)))) }
+        → member_at placed.items (k + 1) ≡ first_free table.now (take (k + 1) placed.items) (tag_in tags.now (k + 1))) }
     // Where the table lists no collision, a derivation is the reading of its tags, which has no structure error.
     ensures derived { IfOk result
         (λ placed. collisions_of table.now ≡ []

@@ -1,13 +1,13 @@
 //! The state of a walk: what one segment leaves to the next.
-ghost use Rattle.std.specs.Prelude.{◌≡◌, ◌+◌, ◌↔◌, ℕ, List, [], ◌∷◌, Option, Some, None, IsTrue, IfOk, filter};
+ghost use Rattle.std.specs.Prelude.{◌≡◌, ◌+◌, ◌↔◌, ℕ, List, [], ◌∷◌, Option, Some, None, IsTrue, IfOk};
 ghost use Rattle.edi_tables.specs.declared.tag.Tag.{Tag};
 ghost use Rattle.edi_tables.specs.declared.table.Node.{Node};
 ghost use Rattle.edi_tables.specs.Rows.{IsTable};
-ghost use Rattle.edi_tables.specs.Walk.{candidates_of, missing_past};
+ghost use Rattle.edi_tables.specs.Walk.{missing_past};
 ghost use Rattle.edi_tables.specs.Placement.{last_placed};
 ghost use Rattle.edi_tables.specs.Pairs.{entry_in, pairs_of};
-ghost use Rattle.table_walk.specs.Reading.{IsReading, has_tag};
-ghost use Rattle.table_walk.specs.Steps.{AreCountsUpTo, GoOnAlike, GoesOn, IsShaped, is_over_in, member_in, missing_in, pairs_after};
+ghost use Rattle.table_walk.specs.Reading.{IsReading};
+ghost use Rattle.table_walk.specs.Steps.{AreCountsUpTo, GoOnAlike, GoesOn, IsShaped, is_over_in, member_in, missing_in, pairs_after, tagged_in};
 
 use crate::position::{Pairs, Position};
 use arrayvec::ArrayVec;
@@ -85,12 +85,15 @@ impl State {
         requires few { AreCountsUpTo 4194303 self.now }
         ensures counted { placed.new ≡ placed.old + 1 }
         ensures entry { IfOk result (λ next. next.entry ≡ member_in table.now self.now tag) }
-        ensures nowhere { IfOk result (λ next. (next.entry ≡ None) ↔ (filter (has_tag table.now tag) (candidates_of table.now (entry_in self.now)) ≡ [])) }
+        ensures nowhere { IfOk result
+            (λ next. (next.entry ≡ None) ↔ (tagged_in table.now self.now tag ≡ [])) }
         ensures missing { IfOk result (λ next. next.missing.items ≡ missing_in table.now self.now next.entry) }
         ensures over { IfOk result (λ next. next.over ≡ is_over_in table.now self.now next.entry) }
         ensures state { IfOk result (λ next. next.state ≡ pairs_after table.now self.now next.entry) }
         ensures shaped { IfOk result (λ next. IsShaped table.now next.state) }
-        ensures counts { (most : ℕ) → AreCountsUpTo most self.now → IfOk result (λ next. AreCountsUpTo (most + 1) next.state) }
+        ensures counts { (most : ℕ)
+            → AreCountsUpTo most self.now
+            → IfOk result (λ next. AreCountsUpTo (most + 1) next.state) }
         ensures reading { IfOk result
             (λ next. (tags : List (Option Tag))
             (before : List (Option ℕ)) → IsReading table.now tags before

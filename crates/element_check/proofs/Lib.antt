@@ -1,0 +1,8 @@
+mod BridgeLemmas
+mod ElementLemmas
+mod ErrorsLemmas
+mod NumberLemmas
+mod RulesLemmas
+mod StreamLemmas
+mod TallyLemmas
+mod WorkedElements

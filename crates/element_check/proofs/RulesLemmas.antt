@@ -1,0 +1,103 @@
+-- The rules of segments are short.
+use Rattle.std.proofs.Common.{◌≡◌, ℕ, ◌≤◌, Bool, true, ◌&&◌, cond, List, [], ◌∷◌, Some, None, length, refl, sym, ap, subst, ◌∙◌, inl, inr, arith, lit≤}
+use Rattle.std.proofs.lemmas.Bool.{and_parts, cases_Bool}
+use Rattle.std.proofs.lemmas.Option.{same_Some}
+use Rattle.std.proofs.lemmas.Bool.Decides.{nat_tests}
+use Rattle.std.specs.Prelude.{Option, nat_le, unwrap_or}
+use Rattle.std.specs.List.{list_all}
+use Rattle.std.specs.Option.{ForSome, option_map}
+use Rattle.std.specs.Str.{bytes_eq}
+use Rattle.edi_tables.specs.declared.element.CompositeDef.{CompositeDef}
+use Rattle.edi_tables.specs.declared.element.PartDef.{PartDef}
+use Rattle.edi_tables.specs.declared.segment.ItemDef.{ItemDef}
+use Rattle.edi_tables.specs.declared.segment.SegmentDef.{SegmentDef}
+use Rattle.edi_tables.specs.Forms.{is_composite_code, is_composite_formed, is_count_formed, is_item_formed, is_part_formed, is_segment_formed}
+use Rattle.edi_tables.specs.Tag.{is_tag_of}
+use Rattle.dir_compile.specs.Compile.{composite_name, named_in, segment_name}
+use Rattle.dir_compile.specs.Directory.{IsDirectory}
+use Rattle.dir_compile.specs.declared.parts.Parts.{Parts}
+use Rattle.service_tables.specs.ServiceTables.{Named, service_composites, service_items_of, service_parts_of, service_segments, value_named}
+use Rattle.seg_lexer.specs.declared.context.Context.{Context}
+use Rattle.element_check.specs.Rules.{SegmentRules, defined_rules, parts_by, parts_of, rules_of, service_rules}
+
+-- what is found by its name passes the test that all pass
+named_in-passes : {X : Type 0} (name : X → List ℕ) (p : X → Bool) (xs : List X) (wanted : List ℕ) (x : X) → list_all p xs ≡ true → named_in name xs wanted ≡ Some x → p x ≡ true
+named_in-passes name p [] wanted x all found = absurd (cc)
+named_in-passes name p (y ∷ ys) wanted x all found =
+    let parts = and_parts (p y) (list_all p ys) all in
+    elim (cases_Bool (bytes_eq (name y) wanted)) [
+      | inl hit ↦ grind (arith, parts.0, hit, found)
+      | inr miss ↦ named_in-passes name p ys wanted x parts.1 (sym (ap (λ (b : Bool). cond b (Some y) (named_in name ys wanted)) miss) ∙ found)
+    ]
+
+value_named-passes : {X : Type 0} (p : X → Bool) (ns : List (Named X)) (name : List ℕ) (x : X) → list_all (λ n. p n.value) ns ≡ true → value_named ns name ≡ Some x → p x ≡ true
+value_named-passes p [] name x all found = absurd (cc)
+value_named-passes p (n ∷ ns) name x all found =
+    let parts = and_parts (p n.value) (list_all (λ m. p m.value) ns) all in
+    elim (cases_Bool (bytes_eq n.name name)) [
+      | inl hit ↦ grind (arith, parts.0, hit, found)
+      | inr miss ↦ value_named-passes p ns name x parts.1 (sym (ap (λ (b : Bool). cond b (Some n.value) (value_named ns name)) miss) ∙ found)
+    ]
+
+-- a segment that a directory defines has at most 99 items, and a composite at most 99 parts
+few_items : (segment : SegmentDef) → is_segment_formed segment ≡ true → length segment.items ≤ 99
+few_items segment formed =
+    let front = and_parts (is_tag_of segment.tag.octets && is_count_formed (length segment.items)) (list_all is_item_formed segment.items) formed in
+    let count = and_parts (is_tag_of segment.tag.octets) (is_count_formed (length segment.items)) front.0 in
+    let most = and_parts (nat_le 1 (length segment.items)) (nat_le (length segment.items) 99) count.1 in
+    let hit = most.1 in
+    grind (arith, nat_tests)
+
+few_parts : (composite : CompositeDef) → is_composite_formed composite ≡ true → length composite.parts ≤ 99
+few_parts composite formed =
+    let front = and_parts (is_composite_code composite.code.octets && is_count_formed (length composite.parts)) (list_all is_part_formed composite.parts) formed in
+    let count = and_parts (is_composite_code composite.code.octets) (is_count_formed (length composite.parts)) front.0 in
+    let most = and_parts (nat_le 1 (length composite.parts)) (nat_le (length composite.parts) 99) count.1 in
+    let hit = most.1 in
+    grind (arith, nat_tests)
+
+defined-few : (parts : Parts) (tag : List ℕ) (segment : SegmentDef) → IsDirectory parts → named_in segment_name parts.segments tag ≡ Some segment → length segment.items ≤ 99
+defined-few parts tag segment lawful found = few_items segment (named_in-passes segment_name is_segment_formed parts.segments tag segment lawful.forms.segments found)
+
+service-few : (tag : List ℕ) (items : List ItemDef) → service_items_of tag ≡ Some items → length items ≤ 99
+unfolding service_items_of
+service-few tag items found =
+    let most : nat_le (length items) 99 ≡ true = value_named-passes (λ xs. nat_le (length xs) 99) service_segments tag items refl found in
+    grind (arith, nat_tests)
+
+service_parts-few : (code : List ℕ) (o : Option (List PartDef)) → service_parts_of code ≡ o → length (unwrap_or o []) ≤ 99
+unfolding service_parts_of
+service_parts-few code None found = lit≤ tt
+service_parts-few code (Some parts) found =
+    let most : nat_le (length parts) 99 ≡ true = value_named-passes (λ xs. nat_le (length xs) 99) service_composites code parts refl found in
+    grind (arith, nat_tests)
+
+defined_parts-few : (parts : Parts) (code : List ℕ) (o : Option CompositeDef) → IsDirectory parts → named_in composite_name parts.composites code ≡ o
+    → length (unwrap_or (option_map (λ composite. composite.parts) o) []) ≤ 99
+defined_parts-few parts code None lawful found = lit≤ tt
+defined_parts-few parts code (Some composite) lawful found =
+    few_parts composite (named_in-passes composite_name is_composite_formed parts.composites code composite lawful.forms.composites found)
+
+parts_by-few : (directory : Option Parts) (code : List ℕ) → ForSome directory IsDirectory → length (parts_by directory code) ≤ 99
+parts_by-few None code lawful = service_parts-few code (service_parts_of code) refl
+parts_by-few (Some parts) code lawful = defined_parts-few parts code (named_in composite_name parts.composites code) (lawful parts refl) refl
+
+pub parts_of-few : (rules : SegmentRules) (code : List ℕ) (parts : List PartDef) → ForSome rules.directory IsDirectory → parts ≡ parts_of rules code → length parts ≤ 99
+unfolding parts_of
+parts_of-few rules code parts lawful is = subst (λ (ps : List PartDef). length ps ≤ 99) (sym is) (parts_by-few rules.directory code lawful)
+
+defined_rules-few : (parts : Parts) (context : Context) (tag : List ℕ) (o : Option SegmentDef) (rules : SegmentRules) → IsDirectory parts → named_in segment_name parts.segments tag ≡ o
+    → Some rules ≡ defined_rules parts context o → length rules.items ≤ 99
+defined_rules-few parts context tag None rules lawful found is = absurd (cc)
+defined_rules-few parts context tag (Some segment) rules lawful found is =
+    subst (λ (r : SegmentRules). length r.items ≤ 99) (sym (same_Some _ _ is)) (defined-few parts tag segment lawful found)
+
+service_rules-few : (parts : Parts) (context : Context) (tag : List ℕ) (o : Option (List ItemDef)) (rules : SegmentRules) → IsDirectory parts → service_items_of tag ≡ o
+    → Some rules ≡ service_rules parts context tag o → length rules.items ≤ 99
+service_rules-few parts context tag None rules lawful found is = defined_rules-few parts context tag (named_in segment_name parts.segments tag) rules lawful refl is
+service_rules-few parts context tag (Some items) rules lawful found is =
+    subst (λ (r : SegmentRules). length r.items ≤ 99) (sym (same_Some _ _ is)) (service-few tag items found)
+
+pub rules_of-few : (parts : Parts) (context : Context) (tag : List ℕ) (rules : SegmentRules) → IsDirectory parts → Some rules ≡ rules_of parts context tag → length rules.items ≤ 99
+unfolding rules_of
+rules_of-few parts context tag rules lawful is = service_rules-few parts context tag (service_items_of tag) rules lawful refl is

@@ -1,0 +1,126 @@
+-- Worked segments, each computed by hand first: the local errors that the definitions give, by a small directory.
+use Rattle.std.proofs.Common.{◌≡◌, ℕ, true, false, List, [], ◌∷◌, refl}
+use Rattle.std.specs.Prelude.{codes}
+use Rattle.edi_tables.specs.declared.element.Class.TheVariants.{N, An}
+use Rattle.error_ledger.specs.declared.kind.Kind.TheVariants.{BadTag, UnknownSegment, TooManyElements, TooManyComponents, Missing, Repertoire, WrongType, Decimal, TooLong, TooShort, Code}
+use Rattle.dir_compile.specs.declared.parts.Parts.{Parts}
+use Rattle.seg_lexer.specs.Fields.{components_of, fields_of, places_that, separators_of, stretches, value_of}
+use Rattle.seg_lexer.specs.Released.{is_released, run_before}
+use Rattle.seg_lexer.specs.Service.{default_service}
+use Rattle.seg_lexer.specs.Tag.{tag_of}
+use Rattle.seg_lexer.specs.declared.context.Level.{Level}
+use Rattle.seg_lexer.specs.declared.context.Level.TheVariants.{A, B}
+use Rattle.service_tables.specs.ServiceTables.{C, M, alone, composite, exactly, part, service_items_of, service_parts_of, up_to}
+use Rattle.element_check.specs.Local.{element_errors, elements_errors, error_at, local_errors_of}
+use Rattle.element_check.specs.Repertoire.{is_in_level_a}
+use Rattle.element_check.specs.Rules.{list_of, parts_of, rules_of}
+use Rattle.element_check.specs.Value.{is_decimal, is_mark}
+use Rattle.element_check.specs.declared.error.LocalError.{LocalError}
+
+-- a directory of three segments, two composites and one code list
+abbrev directory : Parts
+directory = record {
+  version = codes "D";
+  release = codes "96A";
+  agency = codes "UN";
+  elements = [];
+  lists = record { element = record { octets = codes "1001" }; values = codes "220" ∷ codes "380" ∷ [] } ∷ [];
+  composites =
+      record { code = record { octets = codes "C002" }; parts = part (codes "1001") An (up_to 3) C ∷ part (codes "1131") An (up_to 3) C ∷ [] }
+      ∷ record { code = record { octets = codes "C507" }; parts = part (codes "2005") An (up_to 3) M ∷ part (codes "2380") An (up_to 35) C ∷ part (codes "2379") An (exactly 3) C ∷ [] }
+      ∷ [];
+  segments =
+      record { tag = record { octets = codes "BGM" }; items = composite (codes "C002") C ∷ alone (codes "1004") An (up_to 35) C ∷ alone (codes "1225") An (up_to 3) C ∷ [] }
+      ∷ record { tag = record { octets = codes "DTM" }; items = composite (codes "C507") M ∷ [] }
+      ∷ record { tag = record { octets = codes "LIN" }; items = alone (codes "1082") N (up_to 6) C ∷ [] }
+      ∷ [];
+  messages = [];
+}
+
+-- the errors of a segment at a level
+abbrev errors_in : Level → List ℕ → List LocalError
+errors_in level segment =
+    local_errors_of directory (record { service = default_service; level = level; version = 3 }) (components_of (separators_of default_service) segment)
+
+-- neither `-` nor a mark counts in the length of a number
+errors-number : errors_in B (codes "LIN+-12,5000") ≡ []
+unfolding local_errors_of elements_errors element_errors rules_of parts_of list_of is_in_level_a is_decimal service_items_of service_parts_of tag_of fields_of value_of places_that stretches is_released run_before
+errors-number = refl
+
+-- a mark that no digit follows
+errors-open_mark : errors_in B (codes "LIN+12.") ≡ error_at 1 0 Decimal ∷ []
+unfolding local_errors_of elements_errors element_errors rules_of parts_of list_of is_in_level_a is_decimal service_items_of service_parts_of tag_of fields_of value_of places_that stretches is_released run_before
+errors-open_mark = refl
+
+-- a letter in a number: no further test of its form
+errors-letter : errors_in B (codes "LIN+1A") ≡ error_at 1 0 WrongType ∷ []
+unfolding local_errors_of elements_errors element_errors rules_of parts_of list_of is_in_level_a is_decimal service_items_of service_parts_of tag_of fields_of value_of places_that stretches is_released run_before
+errors-letter = refl
+
+-- seven digits, where six are the most
+errors-long_number : errors_in B (codes "LIN+-1234,567") ≡ error_at 1 0 TooLong ∷ []
+unfolding local_errors_of elements_errors element_errors rules_of parts_of list_of is_in_level_a is_decimal service_items_of service_parts_of tag_of fields_of value_of places_that stretches is_released run_before
+errors-long_number = refl
+
+-- four octets, where three are the most
+errors-long : errors_in B (codes "BGM+220+PO7+1234") ≡ error_at 3 0 TooLong ∷ []
+unfolding local_errors_of elements_errors element_errors rules_of parts_of list_of is_in_level_a is_decimal service_items_of service_parts_of tag_of fields_of value_of places_that stretches is_released run_before
+errors-long = refl
+
+-- a code that the list doesn't have
+errors-code : errors_in B (codes "BGM+999+1") ≡ error_at 1 1 Code ∷ []
+unfolding local_errors_of elements_errors element_errors rules_of parts_of list_of is_in_level_a is_decimal service_items_of service_parts_of tag_of fields_of value_of places_that stretches is_released run_before
+errors-code = refl
+
+-- the composite itself names a list
+errors-named_list : errors_in B (codes "BGM+999:ZZZ+1") ≡ []
+unfolding local_errors_of elements_errors element_errors rules_of parts_of list_of is_in_level_a is_decimal service_items_of service_parts_of tag_of fields_of value_of places_that stretches is_released run_before
+errors-named_list = refl
+
+-- a mandatory composite of which no component is filled
+errors-no_composite : errors_in B (codes "DTM+:") ≡ error_at 1 0 Missing ∷ []
+unfolding local_errors_of elements_errors element_errors rules_of parts_of list_of is_in_level_a is_decimal service_items_of service_parts_of tag_of fields_of value_of places_that stretches is_released run_before
+errors-no_composite = refl
+
+-- a mandatory component is empty, and another is filled
+errors-no_component : errors_in B (codes "DTM+:1996:1") ≡ error_at 1 1 Missing ∷ error_at 1 3 TooShort ∷ []
+unfolding local_errors_of elements_errors element_errors rules_of parts_of list_of is_in_level_a is_decimal service_items_of service_parts_of tag_of fields_of value_of places_that stretches is_released run_before
+errors-no_component = refl
+
+-- of two components past the last one, the filled one; and an element past the last one
+errors-surplus : errors_in B (codes "DTM+2:1:102::X++Y") ≡ error_at 1 5 TooManyComponents ∷ error_at 3 0 TooManyElements ∷ []
+unfolding local_errors_of elements_errors element_errors rules_of parts_of list_of is_in_level_a is_decimal service_items_of service_parts_of tag_of fields_of value_of places_that stretches is_released run_before
+errors-surplus = refl
+
+-- level A has no small letters
+errors-letters_a : errors_in A (codes "BGM++a") ≡ error_at 2 0 Repertoire ∷ []
+unfolding local_errors_of elements_errors element_errors rules_of parts_of list_of is_in_level_a is_decimal service_items_of service_parts_of tag_of fields_of value_of places_that stretches is_released run_before
+errors-letters_a = refl
+
+-- level B has them
+errors-letters_b : errors_in B (codes "BGM++a") ≡ []
+unfolding local_errors_of elements_errors element_errors rules_of parts_of list_of is_in_level_a is_decimal service_items_of service_parts_of tag_of fields_of value_of places_that stretches is_released run_before
+errors-letters_b = refl
+
+-- a service segment has no code lists: its elements are tested all the same
+errors-service : errors_in B (codes "UNT+x+") ≡ error_at 1 0 WrongType ∷ error_at 2 0 Missing ∷ []
+unfolding local_errors_of elements_errors element_errors rules_of parts_of list_of is_in_level_a is_decimal service_items_of service_parts_of tag_of fields_of value_of places_that stretches is_released run_before
+errors-service = refl
+
+-- no tag
+errors-tag : errors_in B (codes "bgm+1") ≡ error_at 0 0 BadTag ∷ []
+unfolding local_errors_of elements_errors element_errors rules_of parts_of list_of is_in_level_a is_decimal service_items_of service_parts_of tag_of fields_of value_of places_that stretches is_released run_before
+errors-tag = refl
+
+-- a tag that nothing defines
+errors-unknown : errors_in B (codes "XYZ+1") ≡ error_at 0 0 UnknownSegment ∷ []
+unfolding local_errors_of elements_errors element_errors rules_of parts_of list_of is_in_level_a is_decimal service_items_of service_parts_of tag_of fields_of value_of places_that stretches is_released run_before
+errors-unknown = refl
+
+-- a mark that is a separator too is no mark
+mark-separator : is_mark (record default_service { mark = 58 }) 58 ≡ false
+mark-separator = refl
+
+-- any other octet may be one
+mark-letter : is_mark (record default_service { mark = 65 }) 65 ≡ true
+mark-letter = refl

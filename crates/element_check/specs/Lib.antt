@@ -1,0 +1,6 @@
+pub mod Local
+pub mod Repertoire
+pub mod Rules
+pub mod Streams
+pub mod Tally
+pub mod Value

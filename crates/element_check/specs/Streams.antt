@@ -1,0 +1,103 @@
+-- For bodies and their invariants: the errors of a segment as one way through its components finds them.
+use Rattle.std.specs.Prelude.{ℕ, ◌+◌, Bool, false, ◌&&◌, ◌==◌, nat_lt, List, [], ◌∷◌, ◌++◌, map, Option, None, if◌then◌else◌}
+use Rattle.std.specs.List.{list_any}
+use Rattle.edi_octets.specs.declared.octets.Octets.{Ghosts}
+use Rattle.edi_tables.specs.Rows.{when}
+use Rattle.edi_tables.specs.declared.element.CodeList.{CodeList}
+use Rattle.edi_tables.specs.declared.element.PartDef.{PartDef}
+use Rattle.edi_tables.specs.declared.element.Repr.{Repr}
+use Rattle.edi_tables.specs.declared.segment.ItemDef.{ItemDef}
+use Rattle.edi_tables.specs.declared.segment.ItemDef.TheVariants.{Alone, Composite}
+use Rattle.error_ledger.specs.declared.kind.Kind.{Kind}
+use Rattle.error_ledger.specs.declared.kind.Kind.TheVariants.{TooManyElements, TooManyComponents, Missing}
+use Rattle.seg_lexer.specs.Fields.{Component}
+use Rattle.seg_lexer.specs.Left.{components_left}
+use Rattle.seg_lexer.specs.declared.context.Context.{Context}
+use Rattle.element_check.specs.Local.{error_at, is_filled, is_list_named, value_kinds}
+use Rattle.element_check.specs.Rules.{SegmentRules, list_of, parts_of}
+use Rattle.element_check.specs.Value.{fails}
+use Rattle.element_check.specs.declared.error.LocalError.{LocalError}
+use Rattle.element_check.specs.declared.values.ElementValues.{ElementValues}
+
+-- the values of the components at the front that belong to an element
+abbrev pub front_values : ℕ → List Component → List (List ℕ)
+front_values element [] = []
+front_values element (x ∷ xs) = if x.element == element then x.octets ∷ front_values element xs else []
+
+-- the components after those
+abbrev pub after_front : ℕ → List Component → List Component
+after_front element [] = []
+after_front element (x ∷ xs) = if x.element == element then after_front element xs else x ∷ xs
+
+-- the values of an element that are left
+unfoldable pub values_left : {O : Type 0} {o : Ghosts O} → ElementValues O o → List (List ℕ)
+values_left v = front_values v.element (components_left v.rest)
+
+-- the first value, or an empty one
+abbrev pub first_value : List (List ℕ) → List ℕ
+first_value [] = []
+first_value (v ∷ vs) = v
+
+abbrev pub later_values : List (List ℕ) → List (List ℕ)
+later_values [] = []
+later_values (v ∷ vs) = vs
+
+-- the kinds that are told of a component
+abbrev pub told_errors : ℕ → ℕ → List (Kind × Bool) → List LocalError
+told_errors element component [] = []
+told_errors element component (p ∷ ps) = when p.1 (error_at element component p.0) ++ told_errors element component ps
+
+-- which tests a value fails
+abbrev pub test_results : Context → Repr → Option CodeList → List ℕ → List (Kind × Bool)
+test_results context repr list value = map (λ kind. (kind, fails context repr list value kind)) value_kinds
+
+-- the errors of a value that may be empty
+abbrev pub part_errors : SegmentRules → ℕ → ℕ → PartDef → Bool → List ℕ → List LocalError
+part_errors rules element component part named value =
+    if is_filled value
+    then told_errors element component
+    (test_results rules.context part.repr (if named then None else list_of rules part.code.octets) value)
+    else when part.must (error_at element component Missing)
+
+-- the errors of components past the last one that is defined, numbered from c
+abbrev pub surplus_components : ℕ → ℕ → List (List ℕ) → List LocalError
+surplus_components element c [] = []
+surplus_components element c (v ∷ vs) =
+    when (is_filled v) (error_at element c TooManyComponents) ++ surplus_components element (c + 1) vs
+
+-- the errors of these parts and of what is left after them, numbered from c
+abbrev pub parts_errors : SegmentRules → ℕ → ℕ → Bool → List PartDef → List (List ℕ) → List LocalError
+parts_errors rules element c named [] values = surplus_components element c values
+parts_errors rules element c named (part ∷ parts) values =
+    part_errors rules element c part named (first_value values)
+    ++ parts_errors rules element (c + 1) named parts (later_values values)
+
+abbrev pub composite_errors : SegmentRules → ℕ → Bool → List PartDef → List (List ℕ) → List LocalError
+composite_errors rules element must parts values =
+    if list_any is_filled values then parts_errors rules element 1 (is_list_named parts values) parts values
+    else when must (error_at element 0 Missing)
+
+abbrev pub alone_errors : SegmentRules → ℕ → PartDef → List (List ℕ) → List LocalError
+alone_errors rules element part values =
+    part_errors rules element 0 part false (first_value values) ++ surplus_components element 2 (later_values values)
+
+-- the errors of an element that has an item
+abbrev pub item_errors : SegmentRules → ℕ → ItemDef → List (List ℕ) → List LocalError
+item_errors rules element (Alone part) values = alone_errors rules element part values
+item_errors rules element (Composite code must) values =
+    composite_errors rules element must (parts_of rules code.octets) values
+
+-- the errors of the elements past the one of this number
+abbrev pub surplus_elements : ℕ → List Component → List LocalError
+surplus_elements n [] = []
+surplus_elements n (x ∷ xs) =
+    if nat_lt n x.element && is_filled x.octets
+    then error_at x.element 0 TooManyElements ∷ surplus_elements x.element xs
+    else surplus_elements n xs
+
+-- the errors of the elements past the one of this number, of which the next ones have these items
+abbrev pub items_errors : SegmentRules → ℕ → List ItemDef → List Component → List LocalError
+items_errors rules n [] components = surplus_elements n components
+items_errors rules n (item ∷ items) components =
+    item_errors rules (n + 1) item (front_values (n + 1) components)
+    ++ items_errors rules (n + 1) items (after_front (n + 1) components)

@@ -1,0 +1,205 @@
+//! The errors of one element.
+ghost use Rattle.std.specs.Prelude.{[], ◌≡◌, ◌+◌, ◌++◌, ◌<◌, ◌^◌, length, unwrap_or, OnOk, OnErr};
+ghost use Rattle.std.specs.List.{list_any};
+ghost use Rattle.std.specs.Option.{option_map};
+ghost use Rattle.seg_lexer.specs.Value.{octets_of};
+ghost use Rattle.element_check.specs.Local.{is_filled as is_filled_of, is_list_named as is_list_named_of};
+ghost use Rattle.element_check.specs.Streams.{alone_errors, composite_errors, item_errors, part_errors, parts_errors, surplus_components, values_left};
+
+use crate::error::Errors;
+use crate::rules::Rules;
+use crate::value::{put_failed, test_value};
+use crate::values::ElementValues;
+use edi_octets::Octets;
+use edi_tables::{ItemDef, PartDef};
+use error_ledger::Kind;
+use seg_lexer::Value;
+use std::alloc::AllocError;
+
+/// Puts the errors of an element that has this item, of which these are all values.
+pub(crate) fn check_item<O: Octets>(
+    rules: &Rules<'_>,
+    item: &ItemDef,
+    values: ElementValues<'_, O>,
+    errors: &mut Errors,
+) -> Result<(), AllocError>
+    requires few { length (values_left values) < 2 ^ 31 }
+    ensures ok { OnOk result (errors.new
+        ≡ errors.old ++ item_errors rules.now values.entry.element item.now (values_left values.entry)) }
+    ensures full { OnErr result (4
+        < length errors.old + length (item_errors rules.now values.entry.element item.now (values_left values.entry))) }
+{
+    match item {
+        ItemDef::Alone { part } => check_alone(rules, part, values, errors),
+        ItemDef::Composite { code, must } => {
+            check_composite(rules, rules.parts(*code), *must, values, errors)
+        }
+    }
+}
+
+/// Puts the errors of a stand-alone data element.
+fn check_alone<O: Octets>(
+    rules: &Rules<'_>,
+    part: &PartDef,
+    values: ElementValues<'_, O>,
+    errors: &mut Errors,
+) -> Result<(), AllocError>
+    requires few { length (values_left values) < 2 ^ 31 }
+    ensures ok { OnOk result (errors.new
+        ≡ errors.old ++ alone_errors rules.now values.entry.element part.now (values_left values.entry)) }
+    ensures full { OnErr result (4
+        < length errors.old + length (alone_errors rules.now values.entry.element part.now (values_left values.entry))) }
+{
+    let mut later = values;
+    let first = later.next();
+    check_part(rules, part, false, first, values.element, 0, errors)?;
+    check_surplus(values.element, later, 2, errors)
+}
+
+/// Puts the errors of a composite.
+fn check_composite<O: Octets>(
+    rules: &Rules<'_>,
+    parts: &[PartDef],
+    must: bool,
+    values: ElementValues<'_, O>,
+    errors: &mut Errors,
+) -> Result<(), AllocError>
+    requires few { length (values_left values) < 2 ^ 31 }
+    requires short { length parts.now < 2 ^ 31 }
+    ensures ok { OnOk result (errors.new
+        ≡ errors.old ++ composite_errors rules.now values.entry.element must parts.now (values_left values.entry)) }
+    ensures full { OnErr result (4
+        < length errors.old + length (composite_errors rules.now values.entry.element must parts.now (values_left values.entry))) }
+{
+    if is_any_filled(values) {
+        check_parts(rules, parts, is_list_named(parts, values), values, errors)
+    } else {
+        errors.put_if(must, values.element, 0, Kind::Missing)
+    }
+}
+
+fn is_any_filled<O: Octets>(values: ElementValues<'_, O>) -> bool
+    ensures { result ≡ list_any is_filled_of (values_left values.entry) }
+{
+    for value in values {
+        if !value.is_empty() {
+            return true;
+        }
+    }
+    false
+}
+
+/// The data element that says which list the codes of its composite are from.
+const LIST_NAME: [u8; 4] = *b"1131";
+
+/// Whether a composite itself names the list that its codes are from.
+fn is_list_named<O: Octets>(parts: &[PartDef], values: ElementValues<'_, O>) -> bool
+    ensures { result ≡ is_list_named_of parts.now (values_left values.entry) }
+{
+    let mut values = values;
+    for part in parts {
+        let Some(value) = values.next() else {
+            return false;
+        };
+        if part.code.octets == LIST_NAME && !value.is_empty() {
+            return true;
+        }
+    }
+    false
+}
+
+/// Puts the errors of the parts of a composite, and of the components past them.
+fn check_parts<O: Octets>(
+    rules: &Rules<'_>,
+    parts: &[PartDef],
+    named: bool,
+    values: ElementValues<'_, O>,
+    errors: &mut Errors,
+) -> Result<(), AllocError>
+    requires few { length (values_left values) < 2 ^ 31 }
+    requires short { length parts.now < 2 ^ 31 }
+    ensures ok { OnOk result (errors.new
+        ≡ errors.old ++ parts_errors rules.now values.entry.element 1 named parts.now (values_left values.entry)) }
+    ensures full { OnErr result (4
+        < length errors.old + length (parts_errors rules.now values.entry.element 1 named parts.now (values_left values.entry))) }
+{
+    let mut rest = values;
+    let mut component = 1;
+    for part in parts {
+        let value = rest.next();
+        check_part(rules, part, named, value, values.element, component, errors)?;
+        component += 1;
+    }
+    check_surplus(values.element, rest, component, errors)
+}
+
+/// Puts the errors of one data element, by its value: it must have one, or the value must pass its tests. Where the
+/// composite names a list, the data element's own list isn't looked at.
+fn check_part<O: Octets>(
+    rules: &Rules<'_>,
+    part: &PartDef,
+    named: bool,
+    value: Option<Value<'_, O>>,
+    element: u32,
+    component: u32,
+    errors: &mut Errors,
+) -> Result<(), AllocError>
+    ensures ok { OnOk result (errors.new
+        ≡ errors.old ++ part_errors rules.now element component part.now named (unwrap_or (option_map octets_of value.entry) [])) }
+    ensures full { OnErr result (4
+        < length errors.old + length (part_errors rules.now element component part.now named (unwrap_or (option_map octets_of value.entry) []))) }
+{
+    match value {
+        Some(value) => check_value(rules, part, named, &value, element, component, errors),
+        None => errors.put_if(part.must, element, component, Kind::Missing),
+    }
+}
+
+/// The same where the component is written: its value may be empty.
+fn check_value<O: Octets>(
+    rules: &Rules<'_>,
+    part: &PartDef,
+    named: bool,
+    value: &Value<'_, O>,
+    element: u32,
+    component: u32,
+    errors: &mut Errors,
+) -> Result<(), AllocError>
+    ensures ok { OnOk result (errors.new
+        ≡ errors.old ++ part_errors rules.now element component part.now named (octets_of value.now)) }
+    ensures full { OnErr result (4
+        < length errors.old + length (part_errors rules.now element component part.now named (octets_of value.now))) }
+{
+    if value.is_empty() {
+        return errors.put_if(part.must, element, component, Kind::Missing);
+    }
+    let list = rules.list_unless(named, part.code);
+    let results = test_value(rules.context, part.repr, list, value);
+    put_failed(errors, element, component, &results)
+}
+
+/// Puts the errors of the components past the last one that is defined, of which the first has this number.
+fn check_surplus<O: Octets>(
+    element: u32,
+    values: ElementValues<'_, O>,
+    first: u32,
+    errors: &mut Errors,
+) -> Result<(), AllocError>
+    requires few { first + length (values_left values) < 2 ^ 32 }
+    ensures ok { OnOk result (errors.new
+        ≡ errors.old ++ surplus_components element first (values_left values.entry)) }
+    ensures full { OnErr result (4
+        < length errors.old + length (surplus_components element first (values_left values.entry))) }
+{
+    let mut component = first;
+    for value in values {
+        errors.put_if(
+            !value.is_empty(),
+            element,
+            component,
+            Kind::TooManyComponents,
+        )?;
+        component += 1;
+    }
+    Ok(())
+}

@@ -1,0 +1,85 @@
+//! Local errors, and the list that they are gathered in.
+ghost use Rattle.std.specs.Prelude.{[], ◌≡◌, ◌+◌, ◌++◌, ◌<◌, length, OnOk, OnErr};
+ghost use Rattle.edi_tables.specs.Rows.{when};
+ghost use Rattle.element_check.specs.Local.{error_at};
+
+use error_ledger::Kind;
+use smallvec::SmallVec;
+use std::alloc::{AllocError, Global};
+use std::marker::Model;
+
+/// What is wrong at an element or a component of a segment: component 0 is the element as a whole, and element 0 the
+/// segment.
+#[derive(Clone, Copy, Debug, PartialEq, Eq)]
+pub struct LocalError {
+    pub element: u32,
+    pub component: u32,
+    pub kind: Kind,
+}
+
+/// What the unused places of a list hold.
+impl Default for LocalError {
+    fn default() -> LocalError {
+        LocalError {
+            element: 0,
+            component: 0,
+            kind: Kind::BadTag,
+        }
+    }
+}
+
+/// The errors that were found so far, seen as their list. The first four take no memory.
+#[derive(Drop)]
+pub(crate) struct Errors {
+    list: SmallVec<LocalError, 4>,
+}
+
+impl Model for Errors {
+    ghost use Rattle.std.specs.Prelude.{List, ◌≤◌};
+    ghost use Rattle.element_check.specs.declared.error.LocalError.{LocalError};
+
+    ghost Value = { List LocalError };
+
+    ghost view = { λ e. e.list.items };
+
+    ghost invariant = { λ e. 4 ≤ e.list.capacity };
+}
+
+impl Errors {
+    /// No error.
+    pub(crate) fn new(alloc: Global) -> Errors
+        ensures { result ≡ [] }
+    {
+        Errors {
+            list: SmallVec::new(alloc),
+        }
+    }
+
+    /// Puts an error at the end, if there is one.
+    pub(crate) fn put_if(
+        &mut self,
+        broken: bool,
+        element: u32,
+        component: u32,
+        kind: Kind,
+    ) -> Result<(), AllocError>
+        ensures ok { OnOk result (self.new ≡ self.old ++ when broken (error_at element component kind)) }
+        ensures full { OnErr result (4 < length self.old + length (when broken (error_at element component kind))) }
+    {
+        if broken {
+            self.list.push(LocalError {
+                element,
+                component,
+                kind,
+            })?;
+        }
+        Ok(())
+    }
+
+    /// The list of them.
+    pub(crate) fn into_list(self) -> SmallVec<LocalError, 4>
+        ensures { result.items ≡ self }
+    {
+        self.list
+    }
+}

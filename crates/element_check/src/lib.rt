@@ -1,0 +1,16 @@
+//! The local errors of a segment: what is wrong in it by itself, against a directory.
+#![tactic(auto)]
+
+mod check;
+mod element;
+mod error;
+mod repertoire;
+mod rules;
+mod tally;
+#[cfg(test)]
+mod tests;
+mod value;
+mod values;
+
+pub use check::check_segment;
+pub use error::LocalError;

@@ -1,0 +1,154 @@
+//! What one scan of a value finds.
+ghost use Rattle.std.specs.Prelude.{◌≡◌, ◌+◌, ◌<◌, ◌^◌, ◌&&◌, not, if◌then◌else◌};
+ghost use Rattle.seg_lexer.specs.Value.{octets_of};
+ghost use Rattle.element_check.specs.Tally.{form_after, is_foreign_sort, is_number, is_uncounted_sort, nothing_found, sort_of as sort_of_octet, tally_over};
+ghost use Rattle.element_check.specs.Value.{is_mark as is_mark_of, is_numeric, is_service_character as is_service_character_of};
+
+use crate::repertoire::admits;
+use edi_octets::Octets;
+use edi_tables::Class;
+use seg_lexer::{Context, Service, Value};
+
+/// What an octet is in a number.
+#[derive(Clone, Copy)]
+pub(crate) enum Sort {
+    Digit,
+    Hyphen,
+    Point,
+    Other,
+}
+
+/// How far the octets of a value are a number: nothing yet, a `-`, digits before a mark, a mark, digits after it, or
+/// none of these.
+#[derive(Clone, Copy)]
+pub(crate) enum Form {
+    Start,
+    Minus,
+    Whole,
+    Mark,
+    Fraction,
+    Broken,
+}
+
+/// What a scan found.
+#[derive(Clone, Copy)]
+pub(crate) struct Tally {
+    /// An octet that the level doesn't admit.
+    pub refused: bool,
+    /// An octet that the class doesn't admit.
+    pub foreign: bool,
+    /// How many octets the length counts.
+    pub counted: usize,
+    pub form: Form,
+}
+
+const NOTHING: Tally = Tally {
+    refused: false,
+    foreign: false,
+    counted: 0,
+    form: Form::Start,
+};
+
+impl Form {
+    /// How far it is after one more octet.
+    fn after(self, sort: Sort) -> Form
+        ensures { result ≡ form_after self sort }
+    {
+        match (self, sort) {
+            (Form::Start, Sort::Hyphen) => Form::Minus,
+            (Form::Start | Form::Minus | Form::Whole, Sort::Digit) => Form::Whole,
+            (Form::Whole, Sort::Point) => Form::Mark,
+            (Form::Mark | Form::Fraction, Sort::Digit) => Form::Fraction,
+            _ => Form::Broken,
+        }
+    }
+
+    /// Whether the octets so far are a number.
+    fn is_number(self) -> bool
+        ensures { result ≡ is_number self }
+    {
+        matches!(self, Form::Whole | Form::Fraction)
+    }
+}
+
+impl Tally {
+    /// Whether a value of a class must be a number, has its octets, and isn't one.
+    pub(crate) fn is_no_number(&self, class: Class) -> bool
+        ensures { result ≡ (is_numeric class && not self.now.foreign && not (is_number self.now.form)) }
+    {
+        match class {
+            Class::N => !self.foreign && !self.form.is_number(),
+            Class::A | Class::An => false,
+        }
+    }
+}
+
+/// Scans a value for the tests of its class.
+pub(crate) fn scan<O: Octets>(context: &Context, class: Class, value: &Value<'_, O>) -> Tally
+    ensures { result ≡ tally_over context.now class nothing_found (octets_of value.now) }
+{
+    let mut found = NOTHING;
+    for octet in value.octets() {
+        let sort = sort_of(&context.service, octet);
+        found = Tally {
+            refused: found.refused || !admits(context.level, octet),
+            foreign: found.foreign || is_foreign(class, sort),
+            counted: count_after(class, sort, found.counted),
+            form: found.form.after(sort),
+        };
+    }
+    found
+}
+
+/// Whether a class doesn't admit an octet of that sort.
+fn is_foreign(class: Class, sort: Sort) -> bool
+    ensures { result ≡ is_foreign_sort class sort }
+{
+    matches!(
+        (class, sort),
+        (Class::A, Sort::Digit) | (Class::N, Sort::Other)
+    )
+}
+
+/// How many octets are counted, after one of that sort: the length of a number leaves `-` and marks out.
+fn count_after(class: Class, sort: Sort, counted: usize) -> usize
+    requires { counted + 1 < 2 ^ 64 }
+    ensures { result ≡ (if is_uncounted_sort class sort then counted else counted + 1) }
+{
+    match (class, sort) {
+        (Class::N, Sort::Hyphen | Sort::Point) => counted,
+        _ => counted + 1,
+    }
+}
+
+#[tactic(auto, unfolding(crate::specs::Tally::sort_of))]
+fn sort_of(service: &Service, octet: u8) -> Sort
+    ensures { result ≡ sort_of_octet service.now octet }
+{
+    match octet {
+        b'0'..=b'9' => Sort::Digit,
+        b'-' => Sort::Hyphen,
+        _ if is_mark(service, octet) => Sort::Point,
+        _ => Sort::Other,
+    }
+}
+
+/// Whether an octet is a decimal mark: `.`, `,` or the mark of the service characters, but none of the other service
+/// characters, no digit and no `-`.
+fn is_mark(service: &Service, octet: u8) -> bool
+    ensures { result ≡ is_mark_of service.now octet }
+{
+    (octet == b'.' || octet == b',' || octet == service.mark)
+        && !is_service_character(service, octet)
+        && !octet.is_ascii_digit()
+        && octet != b'-'
+}
+
+fn is_service_character(service: &Service, octet: u8) -> bool
+    ensures { result ≡ is_service_character_of service.now octet }
+{
+    octet == service.component
+        || octet == service.element
+        || octet == service.terminator
+        || service.release.is_some_and(|release| octet == release)
+}

@@ -1,0 +1,81 @@
+//! The tests of a value.
+ghost use Rattle.std.specs.Prelude.{◌≡◌, ◌+◌, ◌++◌, ◌<◌, ◌&&◌, nat_lt, length, OnOk, OnErr};
+ghost use Rattle.std.specs.List.{list_any};
+ghost use Rattle.std.specs.Option.{option_copied};
+ghost use Rattle.std.specs.Str.{bytes_eq};
+ghost use Rattle.seg_lexer.specs.Value.{octets_of};
+ghost use Rattle.element_check.specs.Streams.{test_results, told_errors};
+ghost use Rattle.element_check.specs.Value.{is_unlisted as is_unlisted_of};
+
+use crate::error::Errors;
+use crate::tally::scan;
+use edi_octets::Octets;
+use edi_tables::{CodeList, Repr};
+use error_ledger::Kind;
+use seg_lexer::{Context, Value};
+use std::alloc::AllocError;
+
+/// How many tests a value has.
+const TESTS: usize = 6;
+
+/// Which tests a value fails, by its representation and the code list that it must be in.
+pub(crate) fn test_value<O: Octets>(
+    context: &Context,
+    repr: Repr,
+    list: Option<&CodeList>,
+    value: &Value<'_, O>,
+) -> [(Kind, bool); TESTS]
+    ensures { result ≡ test_results context.now repr (option_copied list.entry) (octets_of value.now) }
+{
+    let found = scan(context, repr.class, value);
+    [
+        (Kind::Repertoire, found.refused),
+        (Kind::WrongType, found.foreign),
+        (Kind::Decimal, found.is_no_number(repr.class)),
+        (Kind::TooLong, found.counted > usize::from(repr.max)),
+        (Kind::TooShort, is_too_short(repr, found.counted)),
+        (Kind::Code, is_unlisted(list, value)),
+    ]
+}
+
+/// Whether a value of so many counted octets is below an exact length.
+fn is_too_short(repr: Repr, counted: usize) -> bool
+    ensures { result ≡ (repr.exact && nat_lt counted repr.max) }
+{
+    repr.exact && counted < usize::from(repr.max)
+}
+
+/// Whether a value isn't in the code list that it must be in, if there is one.
+fn is_unlisted<O: Octets>(list: Option<&CodeList>, value: &Value<'_, O>) -> bool
+    ensures { result ≡ is_unlisted_of (option_copied list.entry) (octets_of value.now) }
+{
+    match list {
+        Some(list) => !is_listed(list, value),
+        None => false,
+    }
+}
+
+fn is_listed<O: Octets>(list: &CodeList, value: &Value<'_, O>) -> bool
+    ensures { result ≡ list_any (λ code. bytes_eq code (octets_of value.now)) list.now.values }
+{
+    list.values
+        .items()
+        .iter()
+        .any(|code| value.is(code.octets()))
+}
+
+/// Puts the kinds of the tests that were failed.
+pub(crate) fn put_failed(
+    errors: &mut Errors,
+    element: u32,
+    component: u32,
+    results: &[(Kind, bool)],
+) -> Result<(), AllocError>
+    ensures ok { OnOk result (errors.new ≡ errors.old ++ told_errors element component results.now) }
+    ensures full { OnErr result (4 < length errors.old + length (told_errors element component results.now)) }
+{
+    for &(kind, failed) in results {
+        errors.put_if(failed, element, component, kind)?;
+    }
+    Ok(())
+}

@@ -1,10 +1,16 @@
-//! Edits in each of their branches, what views read over the seams of pieces, and that typing leaves few pieces.
+//! Edits in each of their branches, what views and the lexer read over the seams of pieces, and that typing leaves few pieces.
 
-use crate::Text;
+ghost use Rattle.std.specs.Prelude.{◌≡◌, ◌<◌, ◌≤◌, length};
+
+use crate::{Text, View};
 use edi_octets::Octets;
+use seg_lexer::{Lexed, fields, next_segment, read_service};
 use std::alloc::{AllocError, Global};
+use std::marker::Brand;
 use std::process::Abort;
+use std::sync::ledger::{Blank, Ledger};
 use std::test::Fail;
+use step_counter::Steps;
 
 /// The text is these octets, copied, by place and by slices; how many slices it has is answered.
 fn expect(
@@ -117,6 +123,54 @@ fn a_value_over_three_pieces(rt: HostRuntime) -> Result<(), Fail> {
     assert_eq!(rt; view.slice_at(0), b"A".as_slice());
     assert_eq!(rt; view.slice_at(1), [b'B'; 600].as_slice());
     assert_eq!(rt; view.slice_at(601), b"A".as_slice());
+    Ok(())
+}
+
+/// What is found where the body of a text begins.
+fn first_lexed<L: Ledger>(text: &View<'_>, blank: Blank) -> Lexed
+    requires name { blank.name ≡ L.name }
+    requires parts { blank.parts ≡ L.parts }
+    requires some { 0 < blank.parts }
+    requires short { length text.now ≤ 4194304 }
+{
+    let mut lexed = Steps::<L>::start(blank);
+    let service = read_service(text);
+    next_segment(text, &service, service.body, &mut lexed)
+}
+
+/// `FTX+`, 600 octets `A` and a release character in one piece; a terminator, 600 octets `B` and a terminator in the next.
+fn released_over_a_seam(rt: &impl Abort, alloc: Global) -> Result<Text, AllocError> {
+    let mut front = b"FTX+".to_vec(alloc)?;
+    front.extend_from_slice(&[b'A'; 600])?;
+    front.push(b'?')?;
+    let mut back = b"'".to_vec(alloc)?;
+    back.extend_from_slice(&[b'B'; 600])?;
+    back.push(b'\'')?;
+    assert!(rt; front.len() == 605 && back.len() == 602);
+    let text = Text::of_bytes(alloc, &front)?;
+    let text = replaced(rt, alloc, &text, (605, 0, &back))?;
+    assert_eq!(rt; expect(rt, alloc, &text, [&front, &back, &[]])?, 605);
+    Ok(text)
+}
+
+#[test]
+fn a_terminator_released_over_a_seam(rt: HostRuntime) -> Result<(), Fail> {
+    let text = released_over_a_seam(&rt, rt.alloc())?;
+    let view = text.view(0, text.len());
+    assert!(rt; view.len() == 1207);
+    assert_eq!(rt;
+        first_lexed::<Brand>(&view, Blank::new(1)),
+        Lexed::Ended {
+            start: 0,
+            end: 1206
+        }
+    );
+    let components = fields(&view, &read_service(&view), 0, 1206);
+    let value = components.value_at(1, 1).ok_or("no value")?;
+    assert_eq!(rt; value.span(), (4, 1206));
+    assert_eq!(rt; value.len(), 1201);
+    let copy = value.copy(rt.alloc())?;
+    assert_eq!(rt; copy.octets().get(599..602), Some(b"A'B".as_slice()));
     Ok(())
 }
 

@@ -34,11 +34,11 @@ same_rest false x xs ys same = same
 
 -- no later member is below an earlier one, member by member
 module _ {X : Type 0} (below : X → X → Bool) where
-  abbrev NoneBelow : X → List X → Type 0
+  abbrev pub NoneBelow : X → List X → Type 0
   NoneBelow x [] = Unit {0}
   NoneBelow x (y ∷ ys) = (below y x ≡ false) × NoneBelow x ys
 
-  abbrev Rises : List X → Type 0
+  abbrev pub Rises : List X → Type 0
   Rises [] = Unit {0}
   Rises (x ∷ xs) = NoneBelow x xs × Rises xs
 

@@ -2,3 +2,4 @@ pub mod Ascending
 pub mod ErrorOrder
 pub mod KindLemmas
 pub mod PrintLemmas
+pub mod Sorting

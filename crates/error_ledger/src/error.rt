@@ -1,7 +1,7 @@
 //! Errors and their order.
 ghost use Rattle.std.specs.Prelude.{◌≡◌, ◌↔◌, IsTrue, IsOk, OnOk, OnErr};
 ghost use Rattle.std.specs.List.Sorted.{IsPermutation};
-ghost use Rattle.error_ledger.specs.Order.{key_of, IsAscending, KeepsTies};
+ghost use Rattle.error_ledger.specs.Order.{key_of, in_order, IsAscending, KeepsTies};
 
 use crate::kind::Kind;
 use edi_tables::Tag;
@@ -44,6 +44,7 @@ impl ErrorLine {
 pub fn order_errors(list: &mut Vec<ErrorLine>) -> Result<(), AllocError>
     ensures same { IsPermutation list.old.items list.new.items }
     ensures ascending { OnOk result (IsAscending list.new.items) }
+    ensures ordered { OnOk result (list.new.items ≡ in_order list.old.items) }
     ensures ties { KeepsTies list.old.items list.new.items }
     ensures err { OnErr result (list.new.items ≡ list.old.items) }
     ensures ready { IsAscending list.old.items → IsOk result }

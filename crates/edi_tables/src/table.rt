@@ -107,6 +107,7 @@ impl Table {
         ensures value { result ≡ length self.now }
         ensures some { 2 ≤ result }
         ensures small { result ≤ 2000 }
+        ensures lawful { IsTable self.now }
     {
         self.nodes.len()
     }
@@ -148,7 +149,8 @@ impl Table {
     #[inline]
     pub fn parent(&self, i: usize) -> Option<u16>
         requires { i < length self.now }
-        ensures { result ≡ parent_at self.now i }
+        ensures value { result ≡ parent_at self.now i }
+        ensures lawful { IsTable self.now }
     {
         levels::parent_at(&self.nodes, i)
     }
@@ -205,7 +207,9 @@ impl Table {
         ensures value { result ≡ candidates_of self.now entry }
         ensures within { All (λ c. c < length self.now) result }
         // So once a candidate misses a node, each later one does.
-        ensures rising { AllPairs (λ c d. reached_node self.now entry c ≤ reached_node self.now entry d) result }
+        ensures rising { AllPairs
+            (λ c d. reached_node self.now entry c ≤ reached_node self.now entry d)
+            result }
     {
         let at = usize::from(entry);
         let first = if self.is_trigger(at) {

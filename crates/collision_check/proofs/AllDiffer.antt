@@ -10,7 +10,7 @@ use Rattle.edi_tables.specs.declared.tag.Tag.{Tag}
 use Rattle.edi_tables.specs.declared.table.Node.{Node}
 use Rattle.edi_tables.specs.Rows.{IsTable}
 use Rattle.edi_tables.specs.Walk.{tag_at, is_group_at, candidates_of}
-use Rattle.edi_tables.specs.Collisions.{are_same_tag, have_same_tag, is_follower, followers_of, pair_with, pair_at, shared_pairs, collision_of, collisions_behind, collisions_of}
+use Rattle.edi_tables.specs.Collisions.{are_same_tag, have_same_tag, is_follower, followers_of, pair_with, pair_at, shared_pairs, collision_of, collisions_after, collisions_of}
 use Rattle.edi_tables.proofs.Distinct.{apart_take, followers_apart}
 use Rattle.edi_tables.proofs.Within.{candidates_within}
 use Rattle.collision_check.specs.Marks.{is_own, number_of, number_at, numbers_of}
@@ -82,8 +82,8 @@ module _ (nodes : List Node) (table : IsTable nodes) (numbers : List (Option ℕ
     no_pairs = none_made (pair_at nodes (followers_of nodes f)) (length (followers_of nodes f)) 0 (λ j from below. no_pair j (omega arith))
 
     none_at : (group : Bool) → is_group_at nodes f ≡ group → collisions_at nodes f ≡ []
-    none_at true at = ap (λ b. if b then [] else collisions_behind nodes f) at
-    none_at false at = ap (λ b. if b then [] else collisions_behind nodes f) at ∙ ap (map (λ pair. collision_of nodes f pair.0 pair.1)) no_pairs
+    none_at true at = ap (λ b. if b then [] else collisions_after nodes f) at
+    none_at false at = ap (λ b. if b then [] else collisions_after nodes f) at ∙ ap (map (λ pair. collision_of nodes f pair.0 pair.1)) no_pairs
 
   pub no_collisions : collisions_of nodes ≡ []
   unfolding collisions_of

@@ -8,11 +8,11 @@ use Rattle.std.proofs.lemmas.Slice.Eq.{bytes_eq-Decides}
 use Rattle.edi_tables.specs.declared.tag.Tag.{Tag}
 use Rattle.edi_tables.specs.declared.table.Node.{Node}
 use Rattle.edi_tables.specs.Walk.{tag_at, is_group_at}
-use Rattle.edi_tables.specs.Collisions.{are_same_tag, have_same_tag, followers_of, pair_with, pair_at, shared_pairs, collisions_behind, collisions_of}
+use Rattle.edi_tables.specs.Collisions.{are_same_tag, have_same_tag, followers_of, pair_with, pair_at, shared_pairs, collisions_after, collisions_of}
 use Rattle.collision_check.specs.Listed.{collisions_at}
 use Rattle.collision_check.specs.Marks.{has_octets}
 use Rattle.collision_check.proofs.Pairs.{same_tag_is}
-use Rattle.collision_check.proofs.Made.{of_pair, behind_by_pairs}
+use Rattle.collision_check.proofs.Made.{of_pair, after_by_pairs}
 
 -- a place that passes, and none before it does
 abbrev First : (ℕ → Bool) → List ℕ → Type 0
@@ -83,7 +83,7 @@ module _ (nodes : List Node) (none : collisions_of nodes ≡ []) (f : ℕ) (with
   unfolding collisions_of
   no_pairs =
       map_none (of_pair nodes f) (shared_pairs nodes (followers_of nodes f))
-      (sym (behind_by_pairs nodes f) ∙ sym (ap (λ b. if b then [] else collisions_behind nodes f) entry)
+      (sym (after_by_pairs nodes f) ∙ sym (ap (λ b. if b then [] else collisions_after nodes f) entry)
       ∙ flat_none (collisions_at nodes) (length nodes) 0 f none (omega arith) (omega arith))
 
   no_pair : (j : ℕ) → j < length (followers_of nodes f) → pair_at nodes (followers_of nodes f) j ≡ []

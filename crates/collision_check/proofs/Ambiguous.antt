@@ -10,9 +10,9 @@ use Rattle.edi_tables.specs.declared.table.Node.{Node}
 use Rattle.edi_tables.specs.Rows.{IsTable}
 use Rattle.edi_tables.specs.Walk.{tag_at, is_group_at, candidates_of}
 use Rattle.edi_tables.specs.Placement.{IsPlacement}
-use Rattle.edi_tables.specs.Collisions.{front_of, is_follower, followers_of, have_same_tag, pair_with, pair_at, shared_pairs, collisions_behind, collisions_of}
+use Rattle.edi_tables.specs.Collisions.{front_of, is_follower, followers_of, have_same_tag, pair_with, pair_at, shared_pairs, collisions_after, collisions_of}
 use Rattle.collision_check.specs.Listed.{collisions_at, IsAmbiguous}
-use Rattle.collision_check.proofs.Made.{of_pair, behind_by_pairs}
+use Rattle.collision_check.proofs.Made.{of_pair, after_by_pairs}
 use Rattle.edi_tables.proofs.Distinct.{apart_take, followers_apart}
 use Rattle.collision_check.proofs.Placed.{same_tags, IsFollower, placement}
 
@@ -107,17 +107,17 @@ module _ (nodes : List Node) (table : IsTable nodes) where
           differ = pair_differs pair.0 pair.1 is.3;
         }
 
-    -- the collisions behind f
-    behind_ambiguous : All (IsAmbiguous nodes) (collisions_behind nodes f)
-    behind_ambiguous =
+    -- the collisions after f
+    after_ambiguous : All (IsAmbiguous nodes) (collisions_after nodes f)
+    after_ambiguous =
         let pairs : List (ℕ × ℕ) = shared_pairs nodes (followers_of nodes f) in
-        All-same (IsAmbiguous nodes) (collisions_behind nodes f) (map (of_pair nodes f) pairs) (behind_by_pairs nodes f)
+        All-same (IsAmbiguous nodes) (collisions_after nodes f) (map (of_pair nodes f) pairs) (after_by_pairs nodes f)
         (All-map (IsAmbiguous nodes) (of_pair nodes f) pairs (All-weaker IsPair (λ pair. IsAmbiguous nodes (of_pair nodes f pair)) pair_ambiguous pairs pairs_are))
 
   -- and those at any node
   at_ambiguous : (f : ℕ) → f < length nodes → All (IsAmbiguous nodes) (collisions_at nodes f)
   at_ambiguous f within =
-      cond_both (is_group_at nodes f) [] (collisions_behind nodes f) (All (IsAmbiguous nodes)) (λ _. All-nil (IsAmbiguous nodes)) (λ entry. behind_ambiguous f within entry)
+      cond_both (is_group_at nodes f) [] (collisions_after nodes f) (All (IsAmbiguous nodes)) (λ _. All-nil (IsAmbiguous nodes)) (λ entry. after_ambiguous f within entry)
 
   -- a table can place the tags of each of its collisions in two ways
   pub collisions_ambiguous : All (IsAmbiguous nodes) (collisions_of nodes)

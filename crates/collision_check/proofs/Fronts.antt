@@ -1,4 +1,4 @@
--- Neighbours in the front of an entry: the later one is a candidate behind the earlier one, and nothing is missing between them.
+-- Neighbours in the front of an entry: the later one is a candidate after the earlier one, and nothing is missing between them.
 use Rattle.std.proofs.Common.{◌≡◌, ℕ, ◌+◌, ◌-◌, ◌<◌, ◌≤◌, Bool, true, false, List, [], ◌∷◌, Some, length, refl, sym, ap, subst, ◌∙◌, ⊎_elim, arith}
 use Rattle.std.specs.Prelude.{nat_eq, nat_lt, not, ◌&&◌, ◌||◌, ◌==◌, filter, Contains, if◌then◌else◌}
 use Rattle.std.specs.List.{All, list_any, list_all}
@@ -110,7 +110,7 @@ module _ (nodes : List Node) (table : IsTable nodes) (f : ℕ) where
           let trigger : fronted (h + 1) ≡ true =
           trigger_in_front h (laws.parent_is_group n h up) (way h (place.outer h here)) (λ g round. way g (place.outer g (holds g round))) in
           let low : h + 1 ≤ e = not_between (h + 1) trigger (place.inner h up) in
-          let high : e < n = place.behind e (front_entry e sides.this) sides.less in
+          let high : e < n = place.later e (front_entry e sides.this) sides.less in
           inside_round nodes table h e (omega arith) (omega (arith, laws.before_parent_end n h up))
 
       -- going to the later one reaches its node
@@ -139,15 +139,15 @@ module _ (nodes : List Node) (table : IsTable nodes) (f : ℕ) where
           (All-weaker (Passes level (e + 1) (e + 1 + count)) (λ j. (is_must_at nodes j && nat_lt j (reached_node nodes e next)) ≡ false)
           (λ j here. none_passed j (omega (arith, here.0)) here.2) (later_nodes nodes e) (passing_each level count (e + 1) (e + 1 + count) refl))
 
-      -- the later one is a candidate behind the earlier one
+      -- the later one is a candidate after the earlier one
       next_candidate : n < length nodes → Contains (candidates_of nodes e) next
       unfolding candidates_of
       next_candidate within =
           Contains-append_right (if is_trigger_at nodes e then [] else e ∷ []) (outward nodes e (groups_round nodes e)) next
           (subst (Contains (outward nodes e (groups_round nodes e))) place.entered
-          (in_outward nodes table (groups_round nodes e) e n refl (place.behind e (front_entry e sides.this) sides.less) within holder_round))
+          (in_outward nodes table (groups_round nodes e) e n refl (place.later e (front_entry e sides.this) sides.less) within holder_round))
 
-    -- the later one of two neighbours is a candidate behind the earlier one, none of a repeat, and nothing is missing
+    -- the later one of two neighbours is a candidate after the earlier one, none of a repeat, and nothing is missing
     pub record IsNextCandidate : Type 0 where
       pub candidate : Contains (candidates_of nodes e) next
       pub repeats : is_repeat nodes e next ≡ false

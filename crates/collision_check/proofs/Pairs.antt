@@ -29,7 +29,7 @@ met_of [] = None
 met_of (first ∷ []) = Some (Once first)
 met_of (first ∷ next ∷ more) = Some Twice
 
--- what is known of each tag behind the first followers
+-- what is known of each tag after the first followers
 abbrev pub IsKnown : List Node → List ℕ → ℕ → (List ℕ → Option Met) → Type 0
 IsKnown nodes followers n known =
     (octets : List ℕ) → known octets ≡ met_of (filter (λ entry. has_octets octets (tag_at nodes entry)) (take n followers))
@@ -159,7 +159,7 @@ pub failing_place : (p : ℕ → Bool) (n : ℕ) (passes : Bool) (old new : List
 failing_place p n passes old new is fails same made =
     same ∙ made ∙ sym (append-nil _) ∙ ap (λ b. filter p (range_with_len 0 n) ++ cond b (n ∷ []) []) (sym (sym is ∙ fails)) ∙ sym (filter_push p n)
 
--- the pairs behind one follower more
+-- the pairs after one follower more
 pub pairs_step : (nodes : List Node) (followers : List ℕ) (j : ℕ) (within : j < length followers) (first found : Option ℕ) (old new : List (ℕ × ℕ)) → first ≡ found
     → pair_at nodes followers j ≡ first_pair first (slice_index followers j) → old ≡ flat_map (pair_at nodes followers) (range_with_len 0 j)
     → new ≡ old ++ first_pair found (slice_index followers j) → new ≡ flat_map (pair_at nodes followers) (range_with_len 0 (j + 1))

@@ -1,4 +1,4 @@
--- The front of an entry and a follower behind it are a placement of their tags.
+-- The front of an entry and a follower after it are a placement of their tags.
 use Rattle.std.proofs.Common.{◌≡◌, ℕ, zero, suc, ◌+◌, ◌-◌, ◌<◌, ◌≤◌, Bool, true, false, cond, List, [], ◌∷◌, ◌++◌, Option, Some, None, map, length, take, drop, get_or, refl, sym, ap, subst, ◌∙◌, inl, inr, arith}
 use Rattle.std.specs.Prelude.{nat_le, not, ◌&&◌, ◌==◌, filter, slice_get, count_by, codes, Contains, if◌then◌else◌}
 use Rattle.std.specs.List.{All, filter_map, range_with_len}
@@ -12,7 +12,7 @@ use Rattle.edi_tables.specs.declared.tag.Tag.{Tag}
 use Rattle.edi_tables.specs.declared.table.Node.{Node}
 use Rattle.edi_tables.specs.Rows.{has_name, IsTable}
 use Rattle.edi_tables.specs.Walk.{tag_at, parent_at, max_at, is_group_at, is_repeat, candidates_of, missing_between}
-use Rattle.edi_tables.specs.Placement.{is_at, placed_since, placed_behind, entry_count, group_count, last_placed, is_over, is_filled, rank_of, IsPlacement}
+use Rattle.edi_tables.specs.Placement.{is_at, placed_since, placed_after, entry_count, group_count, last_placed, is_over, is_filled, rank_of, IsPlacement}
 use Rattle.edi_tables.specs.Collisions.{is_in_front, front_of, is_follower, are_same_tag}
 use Rattle.edi_tables.proofs.NodeReads.{tag_at_is, is_group_at_is}
 use Rattle.edi_tables.proofs.TableLaws.{HasTableLaws, table_laws}
@@ -90,7 +90,7 @@ module _ (nodes : List Node) (placed : List (Option ℕ)) (e c : ℕ) (last : la
       ∙ and_left (c == last_placed placed) (nat_le (max_at nodes c) (entry_count nodes placed c)) (ap (λ (x : ℕ). c == x) last ∙ differs))
       (ap is_filled missing)
 
-  -- nor is a follower behind entries that stand once each
+  -- nor is a follower after entries that stand once each
   rank_of_follower : is_follower nodes e c ≡ true → group_count nodes placed (c - 1) ≤ 1 → entry_count nodes placed c ≤ 1 → rank_of nodes placed c ≡ 0
   unfolding is_over
   rank_of_follower follows group entry =
@@ -101,7 +101,7 @@ module _ (nodes : List Node) (placed : List (Option ℕ)) (e c : ℕ) (last : la
       (λ same. ap (max_at nodes) (sym (eqb-true c e same))))
       (not-true (is_filled (missing_between nodes e c)) parts.0)
 
--- behind the first few none is placed twice either
+-- after the first few none is placed twice either
 drop_once : (q : Option ℕ → Bool) (n : ℕ) (placed : List (Option ℕ)) → count_by q placed ≤ 1 → count_by q (drop n placed) ≤ 1
 drop_once q n placed once = omega (arith, count_drop q n placed)
 
@@ -111,10 +111,10 @@ module _ (nodes : List Node) (placed : List (Option ℕ)) (once : (x : ℕ) → 
   since_once None x = once x
   since_once (Some g) x = drop_once (is_at x) _ placed (once x)
 
-  -- nor behind it
-  behind_once : (found : Option ℕ) (x : ℕ) → count_by (is_at x) (placed_behind found placed) ≤ 1
-  behind_once None x = once x
-  behind_once (Some g) x = drop_once (is_at x) _ placed (once x)
+  -- nor after it
+  after_once : (found : Option ℕ) (x : ℕ) → count_by (is_at x) (placed_after found placed) ≤ 1
+  after_once None x = once x
+  after_once (Some g) x = drop_once (is_at x) _ placed (once x)
 
   -- the count of an entry is 1 at most
   entry_once : (c : ℕ) → entry_count nodes placed c ≤ 1
@@ -124,7 +124,7 @@ module _ (nodes : List Node) (placed : List (Option ℕ)) (once : (x : ℕ) → 
   -- the count of a group is 1 at most
   group_once : (g : ℕ) → group_count nodes placed g ≤ 1
   unfolding group_count
-  group_once g = behind_once (parent_at nodes g) (g + 1)
+  group_once g = after_once (parent_at nodes g) (g + 1)
 
 module _ (nodes : List Node) (table : IsTable nodes) where
   laws : HasTableLaws nodes
@@ -179,12 +179,12 @@ module _ (nodes : List Node) (table : IsTable nodes) where
         All-weaker (Passes (is_in_front nodes f) 0 (f + 1)) (HasTag (tag_at nodes))
         (λ x here. entry_tagged x (omega (arith, here.1)) (front_entry nodes table f x here.2)) (front_of nodes f) front_each
 
-    -- a candidate behind f that is a follower
+    -- a candidate after f that is a follower
     abbrev pub IsFollower : ℕ → Type 0
     IsFollower c = Contains (candidates_of nodes f) c × (is_follower nodes f c ≡ true)
 
     module _ (c : ℕ) (follows : IsFollower c) (has : HasTag (tag_at nodes) c) where
-      -- the front, and a follower behind it
+      -- the front, and a follower after it
       abbrev entries : List ℕ
       entries = front_of nodes f ++ c ∷ []
 
@@ -198,7 +198,7 @@ module _ (nodes : List Node) (table : IsTable nodes) where
           sym (slice_get-get_or (filter_map (tag_at nodes) entries) k blank (omega (arith, length_tags (tag_at nodes) entries entries_tagged))
           ∙ tags_at (tag_at nodes) entries entries_tagged k blank below)
 
-      -- the step to the entry behind the one at k
+      -- the step to the entry after the one at k
       abbrev Goes : ℕ → Type 0
       Goes k = Contains (candidates_of nodes (get_or entries k 0)) (get_or entries (k + 1) 0) × (rank_of nodes (map Some (take (k + 1) entries)) (get_or entries (k + 1) 0) ≡ 0)
 
@@ -245,7 +245,7 @@ module _ (nodes : List Node) (table : IsTable nodes) where
             | inr past ↦ goes_last k (omega arith)
           ]
 
-      -- the front and a follower behind it are a placement of their tags
+      -- the front and a follower after it are a placement of their tags
       pub placement : IsPlacement nodes (filter_map (tag_at nodes) entries) entries
       placement =
           let starts : entries ≡ 0 ∷ (front_first.0 ++ c ∷ []) = ap (λ (xs : List ℕ). xs ++ c ∷ []) front_first.1 in

@@ -1,4 +1,4 @@
--- A table whose date may stand before the reference or behind it: what the definitions come to on it.
+-- A table whose date may stand before the reference or after it: what the definitions come to on it.
 use Rattle.std.proofs.Common.{◌≡◌, ℕ, Bool, true, false, List, [], ◌∷◌, Some, None, refl}
 use Rattle.std.specs.Prelude.{codes}
 use Rattle.edi_tables.specs.declared.tag.Tag.{Tag}
@@ -17,7 +17,7 @@ two_dates =
     segment (codes "UNH") true 1 1 ∷ segment (codes "BGM") true 1 2 ∷ segment (codes "DTM") false 5 3
     ∷ segment (codes "RFF") false 1 4 ∷ segment (codes "DTM") false 1 5 ∷ segment (codes "UNT") true 1 6 ∷ []
 
--- behind the first date: itself again, the reference, the other date, UNT
+-- after the first date: itself again, the reference, the other date, UNT
 followers_of_date : followers_of two_dates 2 ≡ 2 ∷ 3 ∷ 4 ∷ 5 ∷ []
 unfolding two_dates followers_of candidates_of later_siblings groups_round missing_between later_nodes
 followers_of_date = refl
@@ -25,7 +25,7 @@ followers_of_date = refl
 abbrev collision : List Tag → List ℕ → List ℕ → Collision
 collision tags first second = record { tags = tags; first = first; second = second }
 
--- both dates may stand behind BGM, and both behind the first date
+-- both dates may stand after BGM, and both after the first date
 collisions_of_two_dates : collisions_of two_dates
     ≡ collision (tag (codes "UNH") ∷ tag (codes "BGM") ∷ tag (codes "DTM") ∷ []) (0 ∷ 1 ∷ 2 ∷ []) (0 ∷ 1 ∷ 4 ∷ [])
     ∷ collision (tag (codes "UNH") ∷ tag (codes "BGM") ∷ tag (codes "DTM") ∷ tag (codes "DTM") ∷ []) (0 ∷ 1 ∷ 2 ∷ 2 ∷ []) (0 ∷ 1 ∷ 2 ∷ 4 ∷ []) ∷ []

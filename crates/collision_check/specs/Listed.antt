@@ -11,7 +11,7 @@ use Rattle.collision_check.specs.declared.list.Collision.{Collision}
 abbrev pub collision_seen : Collision → definition.Collision
 collision_seen c = record { tags = c.front; first = c.first; second = c.second }
 
--- the collision of two followers with one tag behind this front
+-- the collision of two followers with one tag after this front
 abbrev pub with_followers : List Node → List ℕ → ℕ → ℕ → definition.Collision
 with_followers nodes front first second = record {
   tags = filter_map (tag_at nodes) (front ++ first ∷ []);
@@ -19,9 +19,9 @@ with_followers nodes front first second = record {
   second = front ++ second ∷ [];
 }
 
--- the collisions behind a node; a group stands for none
+-- the collisions after a node; a group stands for none
 abbrev pub collisions_at : List Node → ℕ → List definition.Collision
-collisions_at nodes f = if is_group_at nodes f then [] else definition.collisions_behind nodes f
+collisions_at nodes f = if is_group_at nodes f then [] else definition.collisions_after nodes f
 
 -- a list of tags that a segment table can place in two ways
 pub record IsAmbiguous (nodes : List Node) (c : definition.Collision) : Type 0 where

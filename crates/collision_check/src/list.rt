@@ -16,7 +16,7 @@ use std::alloc::{AllocError, Global};
 
 /// A list of tags, and two lists of entries that a message with these tags may stand at.
 ///
-/// `front` holds the tags of the front, and behind them the tag that both last entries have.
+/// `front` holds the tags of the front, and after them the tag that both last entries have.
 #[derive(Debug, Drop)]
 pub struct Collision {
     pub front: List<Tag>,
@@ -56,7 +56,7 @@ fn unmarked(alloc: Global, count: usize) -> Result<Vec<Option<Mark>>, AllocError
     (0..count).map(|_| None).collect(alloc)
 }
 
-/// Appends the collisions behind an entry; a group stands for none.
+/// Appends the collisions after an entry; a group stands for none.
 fn push_collisions(
     alloc: Global,
     table: &Table,
@@ -138,7 +138,7 @@ fn tag_at(table: &Table, i: u16) -> Option<Tag>
     }
 }
 
-/// These entries, and one more behind them.
+/// These entries, and one more after them.
 fn with_last(alloc: Global, entries: &[u16], last: u16) -> Result<Vec<u16>, AllocError>
     ensures { IfOk result (λ longer. longer.items ≡ entries.now ++ last ∷ []) }
 {

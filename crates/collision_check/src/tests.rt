@@ -40,7 +40,7 @@ fn assert_collision(
 }
 
 #[test]
-fn a_date_may_stand_before_the_reference_or_behind_it(rt: HostRuntime) -> Result<(), Fail> {
+fn a_date_may_stand_before_the_reference_or_after_it(rt: HostRuntime) -> Result<(), Fail> {
     let rows = [
         segment(b"UNH", true, 1, 0),
         segment(b"BGM", true, 1, 0),
@@ -127,7 +127,7 @@ fn dates(alloc: Global, count: u16) -> Result<Vec<TableRow>, AllocError> {
 }
 
 #[test]
-fn the_longest_table_of_dates_has_one_behind_each_entry_that_two_follow(
+fn the_longest_table_of_dates_has_one_after_each_entry_that_two_follow(
     rt: HostRuntime,
 ) -> Result<(), Fail> {
     let found = list_collisions(

@@ -8,19 +8,19 @@ use Rattle.edi_tables.specs.declared.tag.Tag.{Tag}
 use Rattle.edi_tables.specs.declared.table.Node.{Node}
 use Rattle.edi_tables.specs.Rows.{IsTable}
 use Rattle.edi_tables.specs.Walk.{tag_at, parent_at, end_at, is_group_at, is_trigger_at, groups_round, outward, itself, candidates_of}
-use Rattle.edi_tables.specs.Placement.{is_at, placed_behind, last_placed}
+use Rattle.edi_tables.specs.Placement.{is_at, placed_after, last_placed}
 use Rattle.edi_tables.proofs.TableLaws.{HasTableLaws, table_laws}
 use Rattle.edi_tables.proofs.Stepping.{is_round, Steps, round_none, round_some, parent_of_round, candidates_step_so}
 use Rattle.edi_tables.proofs.Reaching.{round_ends, inner_round}
 use Rattle.edi_tables.proofs.Distinct.{IsLater, level, level_later}
 use Rattle.edi_tables.proofs.Counting.{count_push}
 use Rattle.edi_tables.proofs.Placements.{tagged}
-use Rattle.edi_tables.proofs.Pushing.{behind_yes, behind_no, last_push, last_none}
+use Rattle.edi_tables.proofs.Pushing.{after_yes, after_no, last_push, last_none}
 
 -- a node that is later than f, in no group or in one round f, has not been placed since the last trigger of its group
 abbrev pub Ahead : List Node → List (Option ℕ) → ℕ → Type 0
 Ahead nodes placed f = (j x : ℕ) → f < j → j ≤ x → ((h : ℕ) → parent_at nodes j ≡ Some h → is_round nodes f h ≡ true)
-    → count_by (is_at x) (placed_behind (parent_at nodes j) placed) ≡ 0
+    → count_by (is_at x) (placed_after (parent_at nodes j) placed) ≡ 0
 
 -- f is an entry of the table, it was placed last, and nothing is ahead of it
 pub record IsSound (nodes : List Node) (placed : List (Option ℕ)) (f : ℕ) : Type 0 where
@@ -74,11 +74,11 @@ module _ (nodes : List Node) (table : IsTable nodes) where
 
     goes_outward : (groups : List ℕ) (i : ℕ) → groups ≡ groups_round nodes i → (end_at nodes f ≤ end_at nodes i) → f < length nodes → ((g : ℕ) → is_round nodes i g ≡ true → is_round nodes f g ≡ true) → All Goes (outward nodes i groups)
     goes_outward [] i is ends within outer =
-        All-weaker (IsLater nodes table i) Goes (λ x later. inr (inl (omega (arith, later.0), omega (arith, later.0, laws.end_behind f within)))) (level nodes table i) (level_later nodes table i)
+        All-weaker (IsLater nodes table i) Goes (λ x later. inr (inl (omega (arith, later.0), omega (arith, later.0, laws.end_after f within)))) (level nodes table i) (level_later nodes table i)
     goes_outward (g ∷ groups) i is ends within outer =
         let up = parent_of_round nodes table i g groups (parent_at nodes i) refl is in
         All-append Goes (level nodes table i) ((g + 1) ∷ outward nodes g groups)
-        (All-weaker (IsLater nodes table i) Goes (λ x later. inr (inl (omega (arith, later.0), omega (arith, later.0, laws.end_behind f within)))) (level nodes table i) (level_later nodes table i))
+        (All-weaker (IsLater nodes table i) Goes (λ x later. inr (inl (omega (arith, later.0), omega (arith, later.0, laws.end_after f within)))) (level nodes table i) (level_later nodes table i))
         (All-cons Goes (g + 1) (outward nodes g groups) (inr (inr (g, refl, outer g (own_round i g up.0))))
         (goes_outward groups g up.1 (omega (arith, laws.end_in_parent i g up.0)) within (λ h round. outer h (inner_round nodes table i g h (own_round i g up.0) round))))
 
@@ -103,7 +103,7 @@ module _ (nodes : List Node) (table : IsTable nodes) where
     later_than j past outer (inr (inr (k, is, round))) = ⊎_elim (λ after. after) (λ before. absurd (between before outer)) (cases_lt f j)
       where
         inside : j ≤ f → (h : ℕ) × (k ≤ h) × (parent_at nodes j ≡ Some h)
-        inside before = laws.held_inside k j (omega (arith, is)) (omega (arith, (round_ends nodes table f k round).1, laws.end_behind f sound.within))
+        inside before = laws.held_inside k j (omega (arith, is)) (omega (arith, (round_ends nodes table f k round).1, laws.end_after f sound.within))
 
         between : j ≤ f → (parent_at nodes j ≡ None) ⊎ ((h : ℕ) × (parent_at nodes j ≡ Some h) × (is_round nodes c h ≡ true) × (c ≡ h + 1 → ⊥)) → ⊥
         between before (inl none) = none_some (inside before).0 (sym none ∙ (inside before).2)
@@ -113,23 +113,23 @@ module _ (nodes : List Node) (table : IsTable nodes) where
             not_own (omega (arith, (round_ends nodes table c h round_c).0, held.1, same, is))
 
     ahead_by : (j x : ℕ) (found : Option ℕ) → parent_at nodes j ≡ found → c < j → j ≤ x → ((h : ℕ) → parent_at nodes j ≡ Some h → is_round nodes c h ≡ true)
-        → count_by (is_at x) (placed_behind found (placed ++ Some c ∷ [])) ≡ 0
+        → count_by (is_at x) (placed_after found (placed ++ Some c ∷ [])) ≡ 0
     ahead_by j x None is past low outer =
         let after : f < j = later_than j past (inl is) (goes f sound.within c found) in
-        let before : count_by (is_at x) (placed_behind None placed) ≡ 0 =
-        sym (ap (λ (o : Option ℕ). count_by (is_at x) (placed_behind o placed)) is) ∙ sound.ahead j x after low (λ h up. absurd (none_some h (sym is ∙ up))) in
+        let before : count_by (is_at x) (placed_after None placed) ≡ 0 =
+        sym (ap (λ (o : Option ℕ). count_by (is_at x) (placed_after o placed)) is) ∙ sound.ahead j x after low (λ h up. absurd (none_some h (sym is ∙ up))) in
         count_push (is_at x) placed (Some c) ∙ ap (λ b. count_by (is_at x) placed + cond b 1 0) (not_at x c (λ same. omega arith)) ∙ add_none _ ∙ before
     ahead_by j x (Some h) is past low outer = elim (cases_eq c (h + 1)) [
-      | inl own ↦ ap (count_by (is_at x)) (behind_yes (is_at (h + 1)) placed (Some c) (eq-eqb c (h + 1) own))
+      | inl own ↦ ap (count_by (is_at x)) (after_yes (is_at (h + 1)) placed (Some c) (eq-eqb c (h + 1) own))
       | inr differ ↦
           let round : is_round nodes f h ≡ true = ⊎_elim (λ kept. kept) (λ own. absurd (differ own)) (steps f c found h (outer h is)) in
           let after : f < j = later_than j past (inr (h, is, outer h is, differ)) (goes f sound.within c found) in
-          let before : count_by (is_at x) (placed_behind (Some h) placed) ≡ 0 =
-          sym (ap (λ (o : Option ℕ). count_by (is_at x) (placed_behind o placed)) is)
+          let before : count_by (is_at x) (placed_after (Some h) placed) ≡ 0 =
+          sym (ap (λ (o : Option ℕ). count_by (is_at x) (placed_after o placed)) is)
           ∙ sound.ahead j x after low (λ g up. subst (λ (n : ℕ). is_round nodes f n ≡ true) (some_same h g (sym is ∙ up)) round) in
-          ap (count_by (is_at x)) (behind_no (is_at (h + 1)) placed (Some c) (ne_eqb c (h + 1) differ))
-          ∙ count_push (is_at x) (placed_behind (Some h) placed) (Some c)
-          ∙ ap (λ b. count_by (is_at x) (placed_behind (Some h) placed) + cond b 1 0) (not_at x c (λ same. omega arith)) ∙ add_none _ ∙ before
+          ap (count_by (is_at x)) (after_no (is_at (h + 1)) placed (Some c) (ne_eqb c (h + 1) differ))
+          ∙ count_push (is_at x) (placed_after (Some h) placed) (Some c)
+          ∙ ap (λ b. count_by (is_at x) (placed_after (Some h) placed) + cond b 1 0) (not_at x c (λ same. omega arith)) ∙ add_none _ ∙ before
     ]
 
     -- nothing is ahead after a step
@@ -143,17 +143,17 @@ module _ (nodes : List Node) (table : IsTable nodes) where
         record { last = last_push placed c; within = entry.1; entry = entry.0; ahead = ahead_next }
 
   -- so does a segment that fits nowhere
-  none_behind : (x : ℕ) (found : Option ℕ) (placed : List (Option ℕ)) → count_by (is_at x) (placed_behind found (placed ++ None ∷ [])) ≡ count_by (is_at x) (placed_behind found placed)
-  none_behind x None placed = count_push (is_at x) placed None ∙ add_none _
-  none_behind x (Some h) placed =
-      ap (count_by (is_at x)) (behind_no (is_at (h + 1)) placed None refl) ∙ count_push (is_at x) (placed_behind (Some h) placed) None ∙ add_none _
+  none_after : (x : ℕ) (found : Option ℕ) (placed : List (Option ℕ)) → count_by (is_at x) (placed_after found (placed ++ None ∷ [])) ≡ count_by (is_at x) (placed_after found placed)
+  none_after x None placed = count_push (is_at x) placed None ∙ add_none _
+  none_after x (Some h) placed =
+      ap (count_by (is_at x)) (after_no (is_at (h + 1)) placed None refl) ∙ count_push (is_at x) (placed_after (Some h) placed) None ∙ add_none _
 
   pub sound_none : (placed : List (Option ℕ)) (f : ℕ) → IsSound nodes placed f → IsSound nodes (placed ++ None ∷ []) f
   sound_none placed f sound = record {
     last = last_none placed ∙ sound.last;
     within = sound.within;
     entry = sound.entry;
-    ahead = λ j x past low outer. none_behind x (parent_at nodes j) placed ∙ sound.ahead j x past low outer;
+    ahead = λ j x past low outer. none_after x (parent_at nodes j) placed ∙ sound.ahead j x past low outer;
   }
 
   -- UNH placed alone is sound
@@ -167,6 +167,6 @@ module _ (nodes : List Node) (table : IsTable nodes) where
         ahead = λ j x past low outer. alone j x (parent_at nodes j) refl past low outer;
       }
     where
-      alone : (j x : ℕ) (found : Option ℕ) → parent_at nodes j ≡ found → 0 < j → j ≤ x → ((h : ℕ) → parent_at nodes j ≡ Some h → is_round nodes 0 h ≡ true) → count_by (is_at x) (placed_behind found (Some 0 ∷ [])) ≡ 0
+      alone : (j x : ℕ) (found : Option ℕ) → parent_at nodes j ≡ found → 0 < j → j ≤ x → ((h : ℕ) → parent_at nodes j ≡ Some h → is_round nodes 0 h ≡ true) → count_by (is_at x) (placed_after found (Some 0 ∷ [])) ≡ 0
       alone j x None is past low outer = count_push (is_at x) [] (Some 0) ∙ ap (λ b. 0 + cond b 1 0) (not_at x 0 (λ same. omega arith))
       alone j x (Some h) is past low outer = absurd (omega (arith, (round_ends nodes table 0 h (outer h is)).0))

@@ -1,13 +1,11 @@
 -- Strictly ascending lists: there is one with given members.
-use Rattle.std.proofs.Common.{◌≡◌, ℕ, zero, suc, ◌⊎◌, inl, inr, true, false, List, [], ◌∷◌, get_or, sym, ap, ◌∙◌, refl, Ordering, IsPermutation, Contains, arith, true≢false}
-use Rattle.std.specs.Prelude.{AllPairs}
-use Rattle.std.specs.List.Sorted.{IsSortedBy}
+use Rattle.std.proofs.Common.{◌≡◌, ℕ, zero, suc, ◌⊎◌, inl, inr, true, false, List, [], ◌∷◌, sym, ap, ◌∙◌, refl, Ordering, IsPermutation, Contains, arith, true≢false}
 use Rattle.std.specs.declared.cmp.Ordering.TheVariants.{Less, Equal, Greater}
 use Rattle.std.specs.Cmp.Lexicographic.{slice_cmp, texts_ties}
 use Rattle.std.specs.Ordering.{nat_cmp, is_lt, is_eq, ordering_reverse}
 use Rattle.std.specs.Str.{bytes_eq}
 use Rattle.std.proofs.lemmas.Cmp.{nat_list_cmp_total, tied_itself}
-use Rattle.std.proofs.lemmas.List.Sorted.{Contains-permutation, IsPermutation-sym, sorted_far, ranks_by}
+use Rattle.std.proofs.lemmas.List.Sorted.{Contains-permutation, IsPermutation-sym}
 use Rattle.edi_tables.specs.Ascending.{is_before, IsAscendingBy}
 
 -- a name doesn't come before itself, nor before one that comes before it, and coming before goes on
@@ -90,12 +88,3 @@ module _ {A : Type 0} (name : A → List ℕ) where
   ascending-permutation xs ys one two moved =
       ascending-once xs ys one two (λ x found. Contains-permutation xs ys x moved found)
       (λ x found. Contains-permutation ys xs x (IsPermutation-sym xs ys moved) found)
-
-  -- names that come in ascending order differ
-  pub ascending-apart : (xs : List A) → IsAscendingBy name xs → AllPairs (λ x y. bytes_eq (name x) (name y) ≡ false) xs
-  ascending-apart xs order i j d less within = differ-from-before (name (get_or xs i d)) (name (get_or xs j d)) (order i j d less within)
-
-  -- a sorted list whose names differ is ascending
-  pub ascending-sorted : (xs : List A) → IsSortedBy (λ x y. is_before (name x) (name y)) xs → AllPairs (λ x y. bytes_eq (name x) (name y) ≡ false) xs → IsAscendingBy name xs
-  ascending-sorted xs sorted apart i j d less within =
-      before-from-differ (name (get_or xs i d)) (name (get_or xs j d)) (sorted_far _ (ranks_by nat_list_cmp_total name) xs sorted i j d (omega arith) within) (apart i j d less within)

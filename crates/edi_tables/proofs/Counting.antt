@@ -1,4 +1,4 @@
--- Counts behind one placed entry more, and what they say of a candidate of rank 0.
+-- Counts after one placed entry more, and what they say of a candidate of rank 0.
 use Rattle.std.proofs.Common.{◌≡◌, ℕ, ◌+◌, ◌-◌, ◌≤◌, Bool, true, false, cond, List, [], ◌∷◌, ◌++◌, Option, Some, None, length, drop, refl, sym, ap, ◌∙◌, ◌⊎◌, ⊎_elim, arith}
 use Rattle.std.specs.Prelude.{reverse, count_by, nat_le, not, ◌&&◌, ◌==◌, if◌then◌else◌}
 use Rattle.std.specs.List.{after_last, suffix_len, prefix_len}
@@ -7,7 +7,7 @@ use Rattle.std.proofs.lemmas.List.{reverse-append, drop-append-le, length-append
 use Rattle.std.proofs.lemmas.List.Sums.{sum_by-append}
 use Rattle.edi_tables.specs.declared.table.Node.{Node}
 use Rattle.edi_tables.specs.Walk.{parent_at, max_at, is_repeat, missing_between}
-use Rattle.edi_tables.specs.Placement.{is_at, from_last, placed_since, placed_behind, entry_count, group_count, last_placed, is_over, is_filled, rank_of}
+use Rattle.edi_tables.specs.Placement.{is_at, from_last, placed_since, placed_after, entry_count, group_count, last_placed, is_over, is_filled, rank_of}
 use Rattle.edi_tables.specs.Collisions.{is_follower}
 
 -- a test as a number
@@ -23,7 +23,7 @@ count_push p xs x = sum_by-append (λ y. cond (p y) 1 0) xs (x ∷ []) ∙ ap (�
 pub suffix_push : (r : Option ℕ → Bool) (xs : List (Option ℕ)) (x : Option ℕ) → r x ≡ true → suffix_len r (xs ++ x ∷ []) ≡ 1 + suffix_len r xs
 suffix_push r xs x passes = ap (prefix_len r) (reverse-append xs (x ∷ [])) ∙ ap (λ b. cond b (1 + prefix_len r (reverse xs)) 0) passes
 
--- what stands behind the last that passes, one behind it more
+-- what stands after the last that passes, one after it more
 pub after_push : (q : Option ℕ → Bool) (xs : List (Option ℕ)) (x : Option ℕ) → q x ≡ false → after_last q (xs ++ x ∷ []) ≡ after_last q xs ++ x ∷ []
 after_push q xs x fails =
     let suffix = suffix_push (λ y. not (q y)) xs x (ap not fails) in
@@ -43,23 +43,23 @@ at_itself c = eq-eqb c c refl
 
 module _ (nodes : List Node) where
   grows_in : (placed : List (Option ℕ)) (c g : ℕ) (found : Option ℕ) → ((h : ℕ) → found ≡ Some h → h + 1 ≡ c → ⊥)
-      → (1 ≤ count_by (is_at (g + 1)) (placed_behind found placed)) ⊎ (c ≡ g + 1) → 1 ≤ count_by (is_at (g + 1)) (placed_behind found placed ++ Some c ∷ [])
+      → (1 ≤ count_by (is_at (g + 1)) (placed_after found placed)) ⊎ (c ≡ g + 1) → 1 ≤ count_by (is_at (g + 1)) (placed_after found placed ++ Some c ∷ [])
   grows_in placed c g found apart counted =
-      let more = count_push (is_at (g + 1)) (placed_behind found placed) (Some c) in
+      let more = count_push (is_at (g + 1)) (placed_after found placed) (Some c) in
       ⊎_elim (λ some. omega (arith, more, some))
       (λ same. omega (arith, more, ap one_if (eq-eqb c (g + 1) same))) counted
 
-  behind_push : (placed : List (Option ℕ)) (c : ℕ) (found : Option ℕ) → ((h : ℕ) → found ≡ Some h → h + 1 ≡ c → ⊥) → placed_behind found (placed ++ Some c ∷ []) ≡ placed_behind found placed ++ Some c ∷ []
-  behind_push placed c None apart = refl
-  behind_push placed c (Some h) apart = after_push (is_at (h + 1)) placed (Some c) (ne_eqb c (h + 1) (λ same. apart h refl (sym same)))
+  placed_after_push : (placed : List (Option ℕ)) (c : ℕ) (found : Option ℕ) → ((h : ℕ) → found ≡ Some h → h + 1 ≡ c → ⊥) → placed_after found (placed ++ Some c ∷ []) ≡ placed_after found placed ++ Some c ∷ []
+  placed_after_push placed c None apart = refl
+  placed_after_push placed c (Some h) apart = after_push (is_at (h + 1)) placed (Some c) (ne_eqb c (h + 1) (λ same. apart h refl (sym same)))
 
-  -- the count of a group behind a placed entry more: it stays, and its trigger adds one
+  -- the count of a group after a placed entry more: it stays, and its trigger adds one
   pub group_counted : (placed : List (Option ℕ)) (c g : ℕ) → ((h : ℕ) → parent_at nodes g ≡ Some h → h + 1 ≡ c → ⊥)
       → (1 ≤ group_count nodes placed g) ⊎ (c ≡ g + 1) → 1 ≤ group_count nodes (placed ++ Some c ∷ []) g
   unfolding group_count
   group_counted placed c g apart counted =
       let grown = grows_in placed c g (parent_at nodes g) apart counted in
-      omega (arith, grown, ap (count_by (is_at (g + 1))) (behind_push placed c (parent_at nodes g) apart))
+      omega (arith, grown, ap (count_by (is_at (g + 1))) (placed_after_push placed c (parent_at nodes g) apart))
 
   since_push : (front : List (Option ℕ)) (f : ℕ) (found : Option ℕ) → 1 ≤ count_by (is_at f) (placed_since found (front ++ Some f ∷ []))
   since_push front f None = omega (arith, count_push (is_at f) front (Some f), ap one_if (at_itself f))

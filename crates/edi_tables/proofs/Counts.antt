@@ -5,22 +5,22 @@ use Rattle.std.proofs.lemmas.Bool.{cases_eq, eq-eqb, ne_eqb, eqb-true, false≢t
 use Rattle.edi_tables.specs.declared.table.Node.{Node}
 use Rattle.edi_tables.specs.Rows.{IsTable}
 use Rattle.edi_tables.specs.Walk.{parent_at, is_group_at, is_trigger_of, is_trigger_at, candidates_of}
-use Rattle.edi_tables.specs.Placement.{is_at, placed_since, placed_behind, entry_count, group_count}
+use Rattle.edi_tables.specs.Placement.{is_at, placed_since, placed_after, entry_count, group_count}
 use Rattle.edi_tables.proofs.TableLaws.{HasTableLaws, table_laws}
 use Rattle.edi_tables.proofs.Stepping.{is_round}
 use Rattle.edi_tables.proofs.Reaching.{trigger_is, round_ends}
 use Rattle.edi_tables.proofs.Counting.{one_if, count_push, at_itself}
-use Rattle.edi_tables.proofs.Pushing.{behind_no, since_yes, since_no, since_behind}
+use Rattle.edi_tables.proofs.Pushing.{after_no, since_yes, since_no, since_after}
 use Rattle.edi_tables.proofs.Ahead.{IsSound, Goes, goes, steps, round_group, outer_round, own_round}
 
 module _ (nodes : List Node) (table : IsTable nodes) where
   laws : HasTableLaws nodes
   laws = table_laws nodes table
 
-  pushed_at : (x c : ℕ) (found : Option ℕ) (placed : List (Option ℕ)) → ((h : ℕ) → found ≡ Some h → c ≡ h + 1 → ⊥) → count_by (is_at x) (placed_behind found (placed ++ Some c ∷ [])) ≡ count_by (is_at x) (placed_behind found placed) + one_if (c == x)
+  pushed_at : (x c : ℕ) (found : Option ℕ) (placed : List (Option ℕ)) → ((h : ℕ) → found ≡ Some h → c ≡ h + 1 → ⊥) → count_by (is_at x) (placed_after found (placed ++ Some c ∷ [])) ≡ count_by (is_at x) (placed_after found placed) + one_if (c == x)
   pushed_at x c None placed apart = count_push (is_at x) placed (Some c)
   pushed_at x c (Some h) placed apart =
-      ap (count_by (is_at x)) (behind_no (is_at (h + 1)) placed (Some c) (ne_eqb c (h + 1) (apart h refl))) ∙ count_push (is_at x) (placed_behind (Some h) placed) (Some c)
+      ap (count_by (is_at x)) (after_no (is_at (h + 1)) placed (Some c) (ne_eqb c (h + 1) (apart h refl))) ∙ count_push (is_at x) (placed_after (Some h) placed) (Some c)
 
   -- the count of a group round c: one more where c is its trigger
   pub group_grows : (placed : List (Option ℕ)) (c g : ℕ) → is_round nodes c g ≡ true → group_count nodes (placed ++ Some c ∷ []) g ≡ group_count nodes placed g + one_if (c == g + 1)
@@ -79,9 +79,9 @@ module _ (nodes : List Node) (table : IsTable nodes) where
     plain_later plain differ (inr (inr (k, is, round))) =
         absurd (false≢true (sym plain ∙ ap (is_trigger_at nodes) is ∙ trigger_is nodes table k (round_group nodes table f k round)))
 
-    since_none : (parent : Option ℕ) → parent_at nodes c ≡ parent → is_trigger_of parent c ≡ false → count_by (is_at c) (placed_behind parent placed) ≡ 0 → count_by (is_at c) (placed_since parent placed) ≡ 0
+    since_none : (parent : Option ℕ) → parent_at nodes c ≡ parent → is_trigger_of parent c ≡ false → count_by (is_at c) (placed_after parent placed) ≡ 0 → count_by (is_at c) (placed_since parent placed) ≡ 0
     since_none None up plain none = none
-    since_none (Some h) up plain none = since_behind (is_at c) (is_at (h + 1)) (λ x at. apart x at) placed ∙ none
+    since_none (Some h) up plain none = since_after (is_at c) (is_at (h + 1)) (λ x at. apart x at) placed ∙ none
       where
         apart : (x : Option ℕ) → is_at (h + 1) x ≡ true → is_at c x ≡ false
         apart None at = refl

@@ -22,7 +22,7 @@ depth_at_past rows j past = rw (depth_at, slice_get_past rows j past)
 
 -- e ends the row at i: all rows between are deeper, and the row at e is not
 pub record IsEnd (rows : List TableRow) (i e : ℕ) : Type 0 where
-  pub behind : i < e
+  pub later : i < e
   pub within : e ≤ length rows
   pub inside : (k : ℕ) → i < k → k < e → depth_at rows i < depth_at rows k
   pub stops : e < length rows → depth_at rows e ≤ depth_at rows i
@@ -32,7 +32,7 @@ no_deeper rows i j = nat_le (depth_at rows j) (depth_at rows i)
 
 first_from_end : (rows : List TableRow) (i e : ℕ) → IsEnd rows i e → IsFirstFrom (no_deeper rows i) (i + 1) (length rows) e
 first_from_end rows i e end = record {
-  low = omega (arith, end.behind);
+  low = omega (arith, end.later);
   high = end.within;
   passes = λ h. le-leb _ _ (end.stops h);
   before = λ k from below. lt-leb _ _ (end.inside k (omega arith) below);
@@ -40,7 +40,7 @@ first_from_end rows i e end = record {
 
 end_from_first : (rows : List TableRow) (i e : ℕ) → IsFirstFrom (no_deeper rows i) (i + 1) (length rows) e → IsEnd rows i e
 end_from_first rows i e first = record {
-  behind = omega (arith, first.low);
+  later = omega (arith, first.low);
   within = first.high;
   inside = λ k past below. leb-false _ _ (first.before k (omega arith) below);
   stops = λ h. leb-true _ _ (first.passes h);
@@ -80,9 +80,9 @@ module _ (rows : List TableRow) (i depth : ℕ) (d : TableRow) (in_rows : i < le
       let same = depth_behind (prefix_len is_deeper rest) (i + 1 + prefix_len is_deeper rest) refl h in
       omega arith
 
-  -- the row at i ends behind the rows that follow it and are deeper
+  -- the row at i ends after the rows that follow it and are deeper
   pub deeper_end : IsEnd rows i (i + 1 + prefix_len is_deeper rest)
-  deeper_end = record { behind = omega arith; within = rest_bound; inside = deeper_inside; stops = deeper_stops }
+  deeper_end = record { later = omega arith; within = rest_bound; inside = deeper_inside; stops = deeper_stops }
 
 -- so it ends where they have been counted
 pub end_of_counted : (rows : List TableRow) (i depth inside : ℕ) → i < length rows → depth ≡ depth_at rows i
@@ -161,7 +161,7 @@ held_not_past rows i g e parent end past =
     let stops = end.stops (omega arith) in
     elim (cases_eq e i) [
       | inl same ↦ omega (arith, stops, parent.shallower, ap (depth_at rows) same)
-      | inr differ ↦ omega (arith, stops, parent.shallower, parent.between e end.behind (omega arith))
+      | inr differ ↦ omega (arith, stops, parent.shallower, parent.between e end.later (omega arith))
     ]
 
 pub held_before_end : (rows : List TableRow) (i g e : ℕ) → IsParent rows i g → IsEnd rows g e → i < e
@@ -198,12 +198,12 @@ sibling_between rows i g m k one parent inner stops past before = elim (cases_or
 ]
 
 -- what follows a row in its group is held by that group
-pub sibling_behind : (rows : List TableRow) (i g m e : ℕ) → depth_at rows i ≡ depth_at rows g + 1 → IsParent rows i g → IsEnd rows i m → IsEnd rows g e → m < e → IsParent rows m g
-sibling_behind rows i g m e one parent inner end below =
+pub sibling_after : (rows : List TableRow) (i g m e : ℕ) → depth_at rows i ≡ depth_at rows g + 1 → IsParent rows i g → IsEnd rows i m → IsEnd rows g e → m < e → IsParent rows m g
+sibling_after rows i g m e one parent inner end below =
     let stops = inner.stops (omega (arith, end.within)) in
-    let deeper = end.inside m (omega (arith, parent.before, inner.behind)) below in
+    let deeper = end.inside m (omega (arith, parent.before, inner.later)) below in
     record {
-      before = omega (arith, parent.before, inner.behind);
+      before = omega (arith, parent.before, inner.later);
       shallower = deeper;
       between = λ k past before. sibling_between rows i g m k one parent inner stops past before;
     }

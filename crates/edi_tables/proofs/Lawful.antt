@@ -18,11 +18,11 @@ depth_kept : (rows : List TableRow) (i : ℕ) (before row : TableRow) → slice_
 depth_kept rows i before row at kept =
     ltb-false _ _ (subst (λ (found : Option TableRow). nat_lt (depth_behind found) row.depth ≡ false) (row_before_next rows i ∙ at) kept)
 
-behind_group : (row : TableRow) → is_group_row row ≡ true → depth_behind (Some row) ≡ row.depth + 1
-behind_group row group = rw group refl
+after_group : (row : TableRow) → is_group_row row ≡ true → depth_behind (Some row) ≡ row.depth + 1
+after_group row group = rw group refl
 
-behind_entry : (row : TableRow) → is_group_row row ≡ false → depth_behind (Some row) ≡ row.depth
-behind_entry row entry = rw entry refl
+after_entry : (row : TableRow) → is_group_row row ≡ false → depth_behind (Some row) ≡ row.depth
+after_entry row entry = rw entry refl
 
 -- the next row is the trigger of a group that keeps its rule
 trigger_kept : (rows : List TableRow) (i : ℕ) (row : TableRow) → is_group_row row ≡ true → breaks_trigger rows i row ≡ false → is_trigger_row row.depth (slice_get rows (i + 1)) ≡ true
@@ -123,19 +123,19 @@ module _ (rows : List TableRow) (lawful : table_faults rows ≡ []) where
   pub depth_first : depth_at rows 0 ≡ 0
   depth_first = depth_row rows 0 (some_rows rows lawful) ∙ first_frame.outside
 
-  -- a row behind a group is no more than one deeper, and behind an entry no deeper
-  pub behind_group_row : (i : ℕ) → i + 1 < length rows → is_group_row (row_at rows i) ≡ true → depth_at rows (i + 1) ≤ depth_at rows i + 1
-  behind_group_row i within group =
+  -- a row after a group is no more than one deeper, and after an entry no deeper
+  pub after_group_row : (i : ℕ) → i + 1 < length rows → is_group_row (row_at rows i) ≡ true → depth_at rows (i + 1) ≤ depth_at rows i + 1
+  after_group_row i within group =
       let kept = depth_kept rows i (row_at rows i) (row_at rows (i + 1)) (at_row rows i (omega arith)) (keeps (i + 1) within).depth in
-      omega (arith, kept, behind_group (row_at rows i) group, depth_row rows i (omega arith), depth_row rows (i + 1) within)
+      omega (arith, kept, after_group (row_at rows i) group, depth_row rows i (omega arith), depth_row rows (i + 1) within)
 
-  pub behind_entry_row : (i : ℕ) → i + 1 < length rows → is_group_row (row_at rows i) ≡ false → depth_at rows (i + 1) ≤ depth_at rows i
-  behind_entry_row i within entry =
+  pub after_entry_row : (i : ℕ) → i + 1 < length rows → is_group_row (row_at rows i) ≡ false → depth_at rows (i + 1) ≤ depth_at rows i
+  after_entry_row i within entry =
       let kept = depth_kept rows i (row_at rows i) (row_at rows (i + 1)) (at_row rows i (omega arith)) (keeps (i + 1) within).depth in
-      omega (arith, kept, behind_entry (row_at rows i) entry, depth_row rows i (omega arith), depth_row rows (i + 1) within)
+      omega (arith, kept, after_entry (row_at rows i) entry, depth_row rows i (omega arith), depth_row rows (i + 1) within)
 
-  row_behind_parent : (i g : ℕ) → IsParent rows i g → depth_at rows i ≤ depth_at rows (g + 1)
-  row_behind_parent i g parent = elim (cases_eq (g + 1) i) [
+  row_after_parent : (i g : ℕ) → IsParent rows i g → depth_at rows i ≤ depth_at rows (g + 1)
+  row_after_parent i g parent = elim (cases_eq (g + 1) i) [
     | inl same ↦ omega (arith, ap (depth_at rows) same)
     | inr differ ↦ parent.between (g + 1) (omega arith) (omega (arith, parent.before))
   ]
@@ -144,10 +144,10 @@ module _ (rows : List TableRow) (lawful : table_faults rows ≡ []) where
   pub parent_group : (i g : ℕ) → IsParent rows i g → (is_group_row (row_at rows g) ≡ true) × (depth_at rows i ≡ depth_at rows g + 1)
   parent_group i g parent =
       let within = held_in_rows rows i g parent in
-      let deeper = row_behind_parent i g parent in
+      let deeper = row_after_parent i g parent in
       ⊎_elim
-      (λ group. (group, omega (arith, deeper, parent.shallower, behind_group_row g (omega (arith, parent.before)) group)))
-      (λ entry. absurd (omega (arith, deeper, parent.shallower, behind_entry_row g (omega (arith, parent.before)) entry)))
+      (λ group. (group, omega (arith, deeper, parent.shallower, after_group_row g (omega (arith, parent.before)) group)))
+      (λ entry. absurd (omega (arith, deeper, parent.shallower, after_entry_row g (omega (arith, parent.before)) entry)))
       (cases_Bool (is_group_row (row_at rows g)))
 
   -- a row without a parent stands outside all groups
@@ -157,7 +157,7 @@ module _ (rows : List TableRow) (lawful : table_faults rows ≡ []) where
     | inr later ↦ omega (arith, none 0 (omega arith), depth_first)
   ]
 
-  -- directly behind a group stands its trigger
+  -- directly after a group stands its trigger
   pub trigger_row : (g : ℕ) → g < length rows → is_group_row (row_at rows g) ≡ true → (g + 1 < length rows) × IsTrigger (depth_at rows g) (row_at rows (g + 1))
   trigger_row g within group =
       let found = trigger_found (row_at rows g).depth (slice_get rows (g + 1)) (trigger_kept rows g (row_at rows g) group (keeps g within).trigger) in (
@@ -165,13 +165,13 @@ module _ (rows : List TableRow) (lawful : table_faults rows ≡ []) where
         rw (depth_row rows g within) (subst (IsTrigger (row_at rows g).depth) (sym (get_or_from_slice_get rows (g + 1) found.0 blank_row found.1)) found.2),
       )
 
-  -- an entry ends directly behind it
+  -- an entry ends directly after it
   pub entry_row_end : (i : ℕ) → i < length rows → is_group_row (row_at rows i) ≡ false → IsEnd rows i (i + 1)
   entry_row_end i within entry = record {
-    behind = omega arith;
+    later = omega arith;
     within = omega arith;
     inside = λ k past below. absurd (omega arith);
-    stops = λ more. behind_entry_row i more entry;
+    stops = λ more. after_entry_row i more entry;
   }
 
   -- a greatest count is from 1 to 999,999

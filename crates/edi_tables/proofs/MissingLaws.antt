@@ -32,7 +32,7 @@ filled_is : (p q : ℕ → Bool) (bound n a : ℕ) → is_filled (filter (λ j. 
 filled_is p q bound zero a = refl
 filled_is p q bound (suc n) a = filled_by p q bound n a (q a) (p a) refl refl (filled_is p q bound n (a + 1))
 
--- going to a candidate passes a mandatory node exactly where the first one behind the entry is passed
+-- going to a candidate passes a mandatory node exactly where the first one after the entry is passed
 pub passes_must : (nodes : List Node) (f c : ℕ) → is_filled (missing_between nodes f c) ≡ lies_before (find (is_must_at nodes) (later_nodes nodes f)) (reached_node nodes f c)
 unfolding missing_between later_nodes
 passes_must nodes f c = filled_is (is_must_at nodes) _ (reached_node nodes f c) (length nodes - (f + 1)) (f + 1)

@@ -2,7 +2,7 @@
 use Rattle.std.proofs.Common.{◌≡◌, ℕ, true, false, List, Some, None, refl}
 use Rattle.std.specs.Prelude.{slice_get}
 use Rattle.edi_tables.specs.declared.table.Node.{Node}
-use Rattle.edi_tables.specs.Walk.{read_node, tag_at, parent_at, is_must_at, max_at, end_at, is_group_at}
+use Rattle.edi_tables.specs.Walk.{read_node, tag_at, is_must_at, is_group_at}
 
 pub read_node_is : {A : Type 0} (default : A) (read : Node → A) → (nodes : List Node) (i : ℕ) (node : Node) → slice_get nodes i ≡ Some node → read_node default read nodes i ≡ read node
 read_node_is default read nodes i node at = rw (read_node, at) refl
@@ -11,17 +11,8 @@ module _ (nodes : List Node) (i : ℕ) (node : Node) (at : slice_get nodes i ≡
   pub tag_at_is : tag_at nodes i ≡ node.tag
   tag_at_is = read_node_is None (λ n. n.tag) nodes i node at
 
-  pub parent_at_is : parent_at nodes i ≡ node.parent
-  parent_at_is = read_node_is None (λ n. n.parent) nodes i node at
-
   pub is_must_at_is : is_must_at nodes i ≡ node.must
   is_must_at_is = read_node_is false (λ n. n.must) nodes i node at
-
-  pub max_at_is : max_at nodes i ≡ node.max
-  max_at_is = read_node_is 0 (λ n. n.max) nodes i node at
-
-  pub end_at_is : end_at nodes i ≡ node.end
-  end_at_is = read_node_is 0 (λ n. n.end) nodes i node at
 
   pub is_group_at_is : is_group_at nodes i ≡ (elim node.tag [ None ↦ true | Some tag ↦ false ])
   is_group_at_is = read_node_is false (λ n. elim n.tag [ None ↦ true | Some tag ↦ false ]) nodes i node at

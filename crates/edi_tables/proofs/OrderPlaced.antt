@@ -7,7 +7,7 @@ use Rattle.edi_tables.specs.Placement.{entry_count, group_count, last_placed, is
 use Rattle.edi_tables.specs.Collisions.{followers_of, front_of, shared_pairs, collisions_of}
 use Rattle.edi_tables.proofs.TestOrder.{test_order}
 
--- two lines, the first with a quantity, a price and its date, the second with a price; a segment behind BGM fits nowhere
+-- two lines, the first with a quantity, a price and its date, the second with a price; a segment after BGM fits nowhere
 two_lines : List (Option ℕ)
 two_lines = Some 0 ∷ Some 1 ∷ None ∷ Some 2 ∷ Some 7 ∷ Some 8 ∷ Some 10 ∷ Some 11 ∷ Some 7 ∷ Some 10 ∷ []
 
@@ -46,11 +46,11 @@ trailer_without_control : rank_of test_order two_lines 14 ≡ 2
 unfolding test_order two_lines rank_of is_over missing_between later_nodes groups_round
 trailer_without_control = refl
 
-control_behind_price : rank_of test_order two_lines 12 ≡ 0
+control_after_price : rank_of test_order two_lines 12 ≡ 0
 unfolding test_order two_lines rank_of is_over missing_between later_nodes groups_round
-control_behind_price = refl
+control_after_price = refl
 
--- behind the date of a price: another price, another line, UNS; a second date is too many, and MOA and UNT miss UNS
+-- after the date of a price: another price, another line, UNS; a second date is too many, and MOA and UNT miss UNS
 followers_of_price_date : followers_of test_order 11 ≡ 10 ∷ 7 ∷ 12 ∷ []
 unfolding test_order followers_of candidates_of later_siblings groups_round missing_between later_nodes
 followers_of_price_date = refl
@@ -105,7 +105,7 @@ is_placement : IsPlacement test_order tags entries
 unfolding tags entries
 is_placement = record { long = refl; first = refl; opens = refl; candidate = each_candidate; tag = each_tag; rank = each_rank }
 
--- it ends with UNT, so nothing is missing behind it
+-- it ends with UNT, so nothing is missing after it
 is_derivation : IsDerivation test_order tags entries
 unfolding test_order entries missing_past later_nodes groups_round
 is_derivation = record { placement = is_placement; complete = refl }

@@ -79,7 +79,7 @@ module _ (nodes : List Node) (table : IsTable nodes) where
   )
 
   module _ (tags : List Tag) (entries : List ℕ) (placement : IsPlacement nodes tags entries) where
-    -- each group round the entry at k has been counted behind its placement
+    -- each group round the entry at k has been counted after its placement
     abbrev pub Counted : ℕ → Type 0
     Counted k = (g : ℕ) → is_round nodes (slice_index entries k) g ≡ true → 1 ≤ group_count nodes (map Some (take (k + 1) entries)) g
 

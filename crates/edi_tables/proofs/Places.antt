@@ -33,7 +33,7 @@ pub record AreNeighbours (p : ℕ → Bool) (e next : ℕ) : Type 0 where
   pub other : p next ≡ true
   pub between : (m : ℕ) → e < m → m < next → p m ≡ false
 
--- where a place fails, the first one stands behind it
+-- where a place fails, the first one stands after it
 first_later : (p : ℕ → Bool) (a first : ℕ) → p a ≡ false → IsFirst p (a + 1) first → IsFirst p a first
 first_later p a first fails later = record {
   from = omega (arith, later.from);
@@ -110,7 +110,7 @@ count_once p x (suc n) a =
     (λ _. subst (λ count. count ≤ 1) (sym (count_cons x a (filter p (range_with_len (a + 1) n))))
     (one_and_rest (is_at x (Some a)) (count_by (is_at x) (map Some (filter p (range_with_len (a + 1) n)))) rest (λ same. count_past p x n (a + 1) (omega (arith, eqb-true a x same))))) (λ _. rest)
 
--- nor behind the first few
+-- nor after the first few
 pub count_drop : (q : Option ℕ → Bool) (n : ℕ) (xs : List (Option ℕ)) → count_by q (drop n xs) ≤ count_by q xs
 count_drop q n xs = omega (arith, sum_by-take-drop (λ y. cond (q y) 1 0) xs n)
 

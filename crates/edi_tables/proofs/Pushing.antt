@@ -32,8 +32,8 @@ drop_all [] = refl
 drop_all (x ∷ xs) = drop_all xs
 
 -- after one that passes nothing is left, and from it on it alone
-pub behind_yes : (q : Option ℕ → Bool) (xs : List (Option ℕ)) (x : Option ℕ) → q x ≡ true → after_last q (xs ++ x ∷ []) ≡ []
-behind_yes q xs x passes =
+pub after_yes : (q : Option ℕ → Bool) (xs : List (Option ℕ)) (x : Option ℕ) → q x ≡ true → after_last q (xs ++ x ∷ []) ≡ []
+after_yes q xs x passes =
     let whole : length (xs ++ x ∷ []) - passed q (xs ++ x ∷ []) ≡ length (xs ++ x ∷ []) = omega (arith, none_passed q xs x passes) in
     ap (λ (n : ℕ). drop n (xs ++ x ∷ [])) whole ∙ drop_all (xs ++ x ∷ [])
 
@@ -50,21 +50,21 @@ since_no q xs x fails =
     let from : length (xs ++ x ∷ []) - passed q (xs ++ x ∷ []) - 1 ≡ length xs - passed q xs - 1 = omega (arith, suffix, long) in
     ap (λ (n : ℕ). drop n (xs ++ x ∷ [])) from ∙ drop-append-le (length xs - passed q xs - 1) xs (x ∷ []) (omega arith)
 
-pub behind_no : (q : Option ℕ → Bool) (xs : List (Option ℕ)) (x : Option ℕ) → q x ≡ false → after_last q (xs ++ x ∷ []) ≡ after_last q xs ++ x ∷ []
-behind_no q xs x fails =
+pub after_no : (q : Option ℕ → Bool) (xs : List (Option ℕ)) (x : Option ℕ) → q x ≡ false → after_last q (xs ++ x ∷ []) ≡ after_last q xs ++ x ∷ []
+after_no q xs x fails =
     let suffix = suffix_push (λ y. not (q y)) xs x (ap not fails) in
     let long = one_longer xs x in
     let from : length (xs ++ x ∷ []) - passed q (xs ++ x ∷ []) ≡ length xs - passed q xs = omega (arith, suffix, long) in
     ap (λ (n : ℕ). drop n (xs ++ x ∷ [])) from ∙ drop-append-le (length xs - passed q xs) xs (x ∷ []) (omega arith)
 
 -- since the last that passes and after it, the same count of what does not pass
-pub since_behind : (p q : Option ℕ → Bool) → ((x : Option ℕ) → q x ≡ true → p x ≡ false) → (xs : List (Option ℕ)) → count_by p (from_last q xs) ≡ count_by p (after_last q xs)
-since_behind p q apart xs =
+pub since_after : (p q : Option ℕ → Bool) → ((x : Option ℕ) → q x ≡ true → p x ≡ false) → (xs : List (Option ℕ)) → count_by p (from_last q xs) ≡ count_by p (after_last q xs)
+since_after p q apart xs =
     by_last (λ ys. count_by p (from_last q ys) ≡ count_by p (after_last q ys)) refl
     (λ ys x same. elim (cases_Bool (q x)) [
-      | inl passes ↦ ap (count_by p) (since_yes q ys x passes) ∙ count_push p [] x ∙ ap (λ b. 0 + cond b 1 0) (apart x passes) ∙ sym (ap (count_by p) (behind_yes q ys x passes))
+      | inl passes ↦ ap (count_by p) (since_yes q ys x passes) ∙ count_push p [] x ∙ ap (λ b. 0 + cond b 1 0) (apart x passes) ∙ sym (ap (count_by p) (after_yes q ys x passes))
       | inr fails ↦ ap (count_by p) (since_no q ys x fails) ∙ count_push p (from_last q ys) x ∙ ap (λ (n : ℕ). n + cond (p x) 1 0) same
-          ∙ sym (ap (count_by p) (behind_no q ys x fails) ∙ count_push p (after_last q ys) x)
+          ∙ sym (ap (count_by p) (after_no q ys x fails) ∙ count_push p (after_last q ys) x)
     ]) xs
 
 -- the entry placed last

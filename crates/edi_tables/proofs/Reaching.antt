@@ -26,7 +26,7 @@ in_range a n k low high =
 in_map : (made : ℕ → ℕ) (xs : List ℕ) (x : ℕ) → Contains xs x → Contains (map made xs) (made x)
 in_map made xs x found = (found.0, omega (arith, found.1, length-map xs made), get_or-map made xs found.0 x (made x) found.1 ∙ ap made found.2)
 
--- a member stays one behind a new head
+-- a member stays one after a new head
 in_tail : (x y : ℕ) (xs : List ℕ) → Contains xs y → Contains (x ∷ xs) y
 in_tail x y xs found = (suc found.0, omega (arith, found.1), found.2)
 
@@ -83,12 +83,12 @@ module _ (nodes : List Node) (table : IsTable nodes) where
       let one = round_ends i k outer in
       let two = round_ends k g inner in
       let low : g < i = omega arith in
-      inside_round g i low (omega (arith, laws.end_behind i (round_within i k (parent_at nodes i) refl outer)))
+      inside_round g i low (omega (arith, laws.end_after i (round_within i k (parent_at nodes i) refl outer)))
 
   -- so a group is round a node exactly where it comes before it and ends after it
   pub round_not : (i k : ℕ) → i < length nodes → (k < i → i < end_at nodes k → ⊥) → is_round nodes i k ≡ false
   round_not i k within none = elim (cases_Bool (is_round nodes i k)) [
-    | inl round ↦ absurd (none (round_ends i k round).0 (omega (arith, (round_ends i k round).1, laws.end_behind i within)))
+    | inl round ↦ absurd (none (round_ends i k round).0 (omega (arith, (round_ends i k round).1, laws.end_after i within)))
     | inr not ↦ not
   ]
 
@@ -101,7 +101,7 @@ module _ (nodes : List Node) (table : IsTable nodes) where
   pub round_past : (i k : ℕ) → i < length nodes → i ≤ k → nat_lt k i ≡ is_round nodes i k
   round_past i k within past = le-ltb k i past ∙ sym (round_not i k within (λ before _. omega arith))
 
-  -- the node behind a group is a trigger
+  -- the node after a group is a trigger
   pub trigger_is : (g : ℕ) → is_group_at nodes g ≡ true → is_trigger_at nodes (g + 1) ≡ true
   trigger_is g group = ap (λ found. is_trigger_of found (g + 1)) (laws.trigger_parent g group) ∙ eq-eqb (g + 1) (g + 1) refl
 
@@ -112,10 +112,10 @@ module _ (nodes : List Node) (table : IsTable nodes) where
     pub low : n ≤ entry
     pub outer : (g : ℕ) → is_round nodes n g ≡ true → is_round nodes entry g ≡ true
     pub inner : (h : ℕ) → parent_at nodes n ≡ Some h → h + 1 < entry
-    pub behind : (e : ℕ) → is_group_at nodes e ≡ false → e < entry → e < n
+    pub later : (e : ℕ) → is_group_at nodes e ≡ false → e < entry → e < n
     pub before : (j : ℕ) → j < n → entry_for nodes j < entry
 
-  -- an entry that is no trigger does not stand directly behind its group
+  -- an entry that is no trigger does not stand directly after its group
   plain_parent : (e h : ℕ) → is_trigger_at nodes e ≡ false → parent_at nodes e ≡ Some h → h + 1 ≡ e → ⊥
   plain_parent e h plain up same = false≢true (sym plain ∙ ap (λ found. is_trigger_of found e) up ∙ eq-eqb (h + 1) e same)
 
@@ -130,7 +130,7 @@ module _ (nodes : List Node) (table : IsTable nodes) where
       | inl same ↦ absurd (plain_parent e h plain up same)
       | inr differ ↦ omega (arith, laws.parent_before e h up)
     ];
-    behind = λ k is less. less;
+    later = λ k is less. less;
     before = λ j less. cond_both (is_group_at nodes j) (j + 1) j (λ x. x < e)
         (λ group. elim (cases_eq (j + 1) e) [
           | inl same ↦ absurd (plain_parent e j plain (ap (parent_at nodes) (sym same) ∙ laws.trigger_parent j group) same)
@@ -147,7 +147,7 @@ module _ (nodes : List Node) (table : IsTable nodes) where
     low = omega arith;
     outer = λ h round. round_some nodes table (g + 1) g h (laws.trigger_parent g group) ∙ or_right (nat_eq h g) (is_round nodes g h) round;
     inner = λ h up. omega (arith, laws.parent_before g h up);
-    behind = λ e is less. elim (cases_eq e g) [
+    later = λ e is less. elim (cases_eq e g) [
       | inl same ↦ absurd (false≢true (sym is ∙ ap (is_group_at nodes) same ∙ group))
       | inr differ ↦ omega arith
     ];

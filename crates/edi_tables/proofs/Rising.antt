@@ -56,11 +56,11 @@ rising_made rank made p low is (suc n) a from =
     ))
     (λ _. rising_made rank made p low is n (a + 1) (omega arith))
 
-any_behind : (g : ℕ) (groups : List ℕ) → list_any (nat_eq g) groups ≡ true → list_any (λ h. h + 1 == g + 1) groups ≡ true
-any_behind g [] some = absurd (false≢true some)
-any_behind g (h ∷ groups) some = elim (cases_eq g h) [
+any_after : (g : ℕ) (groups : List ℕ) → list_any (nat_eq g) groups ≡ true → list_any (λ h. h + 1 == g + 1) groups ≡ true
+any_after g [] some = absurd (false≢true some)
+any_after g (h ∷ groups) some = elim (cases_eq g h) [
   | inl same ↦ or_left (h + 1 == g + 1) _ (eq-eqb (h + 1) (g + 1) (omega arith))
-  | inr differ ↦ or_right (h + 1 == g + 1) _ (any_behind g groups (sym (ap (λ b. b || list_any (nat_eq g) groups) (ne_eqb g h differ)) ∙ some))
+  | inr differ ↦ or_right (h + 1 == g + 1) _ (any_after g groups (sym (ap (λ b. b || list_any (nat_eq g) groups) (ne_eqb g h differ)) ∙ some))
 ]
 
 module _ (nodes : List Node) (table : IsTable nodes) (f : ℕ) (within : f < length nodes) where
@@ -107,7 +107,7 @@ module _ (nodes : List Node) (table : IsTable nodes) (f : ℕ) (within : f < len
   -- the trigger of a group round f reaches its end
   repeat_reached : (g : ℕ) → is_group_at nodes g ≡ true → is_round nodes f g ≡ true → reached (g + 1) ≡ end_at nodes g
   repeat_reached g group round =
-      let repeat : is_repeat nodes f (g + 1) ≡ true = both (is_trigger_at nodes (g + 1)) _ (trigger_is nodes table g group) (any_behind g (groups_round nodes f) round) in
+      let repeat : is_repeat nodes f (g + 1) ≡ true = both (is_trigger_at nodes (g + 1)) _ (trigger_is nodes table g group) (any_after g (groups_round nodes f) round) in
       ap (λ b. if b then end_at nodes ((g + 1) - 1) else (if (g + 1) == f then 0 else (if is_trigger_at nodes (g + 1) then (g + 1) - 1 else g + 1))) repeat
       ∙ (let back : (g + 1) - 1 ≡ g = omega arith in ap (end_at nodes) back)
     where
@@ -120,15 +120,11 @@ module _ (nodes : List Node) (table : IsTable nodes) (f : ℕ) (within : f < len
   IsLevel i = (i ≡ f) ⊎ (is_round nodes f i ≡ true)
 
   past_level : (i : ℕ) → IsLevel i → f < end_at nodes i
-  past_level i (inl same) = omega (arith, laws.end_behind f within, ap (end_at nodes) same)
-  past_level i (inr round) = omega (arith, (round_ends nodes table f i round).1, laws.end_behind f within)
+  past_level i (inl same) = omega (arith, laws.end_after f within, ap (end_at nodes) same)
+  past_level i (inr round) = omega (arith, (round_ends nodes table f i round).1, laws.end_after f within)
 
   abbrev level : ℕ → List ℕ
   level i = map (entry_for nodes) (later_siblings nodes i)
-
-  low_level : (i : ℕ) → IsLevel i → i ≤ f
-  low_level i (inl same) = omega arith
-  low_level i (inr round) = omega (arith, round_below nodes table f i round)
 
   later_end : (i j : ℕ) → i < j → are_siblings nodes i j ≡ true → end_at nodes i ≤ j
   later_end i j past siblings = not_inside nodes table i j past (same_parent (parent_at nodes i) (parent_at nodes j) siblings)

@@ -1,4 +1,4 @@
--- From an entry to a candidate behind it: which groups stand round the candidate.
+-- From an entry to a candidate after it: which groups stand round the candidate.
 use Rattle.std.proofs.Common.{◌≡◌, ℕ, ◌+◌, ◌-◌, Bool, true, false, List, [], ◌∷◌, Option, Some, None, map, length, refl, sym, ap, ◌∙◌, ◌⊎◌, inl, inr, ⊎_elim}
 use Rattle.std.specs.Prelude.{nat_eq, ◌||◌, if◌then◌else◌}
 use Rattle.std.specs.List.{All, list_any, range_with_len}
@@ -85,7 +85,7 @@ module _ (nodes : List Node) (table : IsTable nodes) where
         All-append (Steps nodes f) (map (entry_for nodes) (later_siblings nodes i)) ((g + 1) ∷ outward nodes g groups) (as_siblings i outer)
         (All-cons (Steps nodes f) (g + 1) (outward nodes g groups) (as_trigger g (laws.parent_is_group i g up.0) inner) (as_outward groups g up.1 inner))
 
-    -- each candidate behind f steps so
+    -- each candidate after f steps so
     pub candidates_step_so : All (Steps nodes f) (candidates_of nodes f)
     unfolding candidates_of
     candidates_step_so =

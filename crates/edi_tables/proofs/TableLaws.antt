@@ -6,7 +6,7 @@ use Rattle.edi_tables.specs.declared.segment.TableRow.{TableRow}
 use Rattle.edi_tables.specs.declared.table.Node.{Node}
 use Rattle.edi_tables.specs.Rows.{has_name, is_group_row, depth_at, table_faults, nodes_of, rows_of, IsTable}
 use Rattle.edi_tables.specs.Walk.{tag_at, parent_at, is_must_at, max_at, end_at, is_group_at, level_end}
-use Rattle.edi_tables.proofs.Depths.{some_or_none, IsEnd, end_of_found, end_of_is, IsParent, parent_of_some, parent_of_at_none, parent_of_is, parent_of_none, held_in_rows, held_before_end, ends_nested, held_between, sibling_behind}
+use Rattle.edi_tables.proofs.Depths.{some_or_none, IsEnd, end_of_found, end_of_is, IsParent, parent_of_some, parent_of_at_none, parent_of_is, parent_of_none, held_in_rows, held_before_end, ends_nested, held_between, sibling_after}
 use Rattle.edi_tables.proofs.Faults.{few_rows}
 use Rattle.edi_tables.proofs.Lawful.{row_at, depth_row, named_is, first_frame, last_frame, two_rows, parent_group, outside_rows, IsTrigger, trigger_row, entry_row_end, max_row, only_first, only_last}
 use Rattle.edi_tables.proofs.Made.{length-nodes_of, tag_at-nodes_of, is_must_at-nodes_of, max_at-nodes_of, is_group_at-nodes_of, end_at-nodes_of, parent_at-nodes_of, tag_at_past, max_at_past, is_group_at_past, end_at_past}
@@ -40,14 +40,14 @@ pub record HasTableLaws (nodes : List Node) : Type 0 where
   pub parent_before : (i g : ℕ) → parent_at nodes i ≡ Some g → g < i
   pub parent_is_group : (i g : ℕ) → parent_at nodes i ≡ Some g → is_group_at nodes g ≡ true
   pub held_within : (i g : ℕ) → parent_at nodes i ≡ Some g → i < length nodes
-  -- directly behind a group stands its trigger, a mandatory entry that stands once
+  -- directly after a group stands its trigger, a mandatory entry that stands once
   pub trigger_within : (g : ℕ) → is_group_at nodes g ≡ true → g + 1 < length nodes
   pub trigger_is_entry : (g : ℕ) → is_group_at nodes g ≡ true → is_group_at nodes (g + 1) ≡ false
   pub trigger_must : (g : ℕ) → is_group_at nodes g ≡ true → is_must_at nodes (g + 1) ≡ true
   pub trigger_max : (g : ℕ) → is_group_at nodes g ≡ true → max_at nodes (g + 1) ≡ 1
   pub trigger_parent : (g : ℕ) → is_group_at nodes g ≡ true → parent_at nodes (g + 1) ≡ Some g
-  -- a node ends behind itself and within the table, an entry directly behind itself
-  pub end_behind : (i : ℕ) → i < length nodes → i < end_at nodes i
+  -- a node ends after itself and within the table, an entry directly after itself
+  pub end_after : (i : ℕ) → i < length nodes → i < end_at nodes i
   pub end_within : (i : ℕ) → end_at nodes i ≤ length nodes
   pub entry_end : (i : ℕ) → i < length nodes → is_group_at nodes i ≡ false → end_at nodes i ≡ i + 1
   -- what a group holds begins and ends before its end
@@ -136,7 +136,7 @@ module _ (rows : List TableRow) (lawful : table_faults rows ≡ []) where
   sibling_in_group : (i g : ℕ) → i < length rows → parent_at made i ≡ Some g → end_at made i < end_at made g → parent_at made (end_at made i) ≡ Some g
   sibling_in_group i g within is below =
       let parent = parent_row i g is in
-      parent_made _ g (sibling_behind rows i g _ _ (parent_group rows lawful i g parent).1 parent (end_row i within) (end_row g (omega (arith, parent.before))) below)
+      parent_made _ g (sibling_after rows i g _ _ (parent_group rows lawful i g parent).1 parent (end_row i within) (end_row g (omega (arith, parent.before))) below)
 
   sibling_outside : (i : ℕ) → i < length rows → parent_at made i ≡ None → end_at made i < length made → parent_at made (end_at made i) ≡ None
   sibling_outside i within is below =
@@ -144,8 +144,8 @@ module _ (rows : List TableRow) (lawful : table_faults rows ≡ []) where
       let stops = (end_row i within).stops (in_rows _ below) in
       parent_at-nodes_of rows _ ∙ parent_of_none rows _ (λ k before. omega arith)
 
-  sibling_behind_end : (i : ℕ) → i < length rows → end_at made i < level_end made i → parent_at made (end_at made i) ≡ parent_at made i
-  sibling_behind_end i within below = elim (some_or_none (parent_at made i)) [
+  sibling_after_end : (i : ℕ) → i < length rows → end_at made i < level_end made i → parent_at made (end_at made i) ≡ parent_at made i
+  sibling_after_end i within below = elim (some_or_none (parent_at made i)) [
     | inl none ↦ sibling_outside i within none (omega (arith, level_end_none made i none)) ∙ sym none
     | inr some ↦ sibling_in_group i some.0 within some.1 (omega (arith, level_end_some made i some.0 some.1)) ∙ sym some.1
   ]
@@ -203,14 +203,14 @@ module _ (rows : List TableRow) (lawful : table_faults rows ≡ []) where
     trigger_must = λ g group. is_must_at-nodes_of rows (g + 1) (trigger_of_row g group).0 ∙ (trigger_of_row g group).1.must;
     trigger_max = λ g group. max_at-nodes_of rows (g + 1) (trigger_of_row g group).0 ∙ (trigger_of_row g group).1.once;
     trigger_parent = λ g group. parent_made (g + 1) g (trigger_held g group);
-    end_behind = λ i within. (end_row i (in_rows i within)).behind;
+    end_after = λ i within. (end_row i (in_rows i within)).later;
     end_within = end_bound;
     entry_end = λ i within entry. entry_ends i (in_rows i within) entry;
     before_parent_end = held_before;
     end_in_parent = ends_held;
     ends_inside = inner_ends;
     held_inside = held_in;
-    sibling_at_end = λ i within below. sibling_behind_end i (in_rows i within) below;
+    sibling_at_end = λ i within below. sibling_after_end i (in_rows i within) below;
   }
 
 -- the laws hold in each table

@@ -67,7 +67,7 @@ end_of_lines : end_at test_order 6 ≡ 12
 unfolding test_order
 end_of_lines = refl
 
--- behind QTY stands the group of prices, in the group of lines
+-- after QTY stands the group of prices, in the group of lines
 siblings_of_quantity : later_siblings test_order 8 ≡ 9 ∷ []
 unfolding test_order later_siblings
 siblings_of_quantity = refl
@@ -76,26 +76,26 @@ groups_round_price : groups_round test_order 10 ≡ 9 ∷ 6 ∷ []
 unfolding test_order groups_round
 groups_round_price = refl
 
--- behind the DTM of the head: itself, a party, a line, UNS, MOA, UNT
-candidates_behind_date : candidates_of test_order 2 ≡ 2 ∷ 4 ∷ 7 ∷ 12 ∷ 13 ∷ 14 ∷ []
+-- after the DTM of the head: itself, a party, a line, UNS, MOA, UNT
+candidates_after_date : candidates_of test_order 2 ≡ 2 ∷ 4 ∷ 7 ∷ 12 ∷ 13 ∷ 14 ∷ []
 unfolding test_order candidates_of later_siblings groups_round
-candidates_behind_date = refl
+candidates_after_date = refl
 
--- behind the DTM of a price: itself, another price, another line, UNS, MOA, UNT
-candidates_behind_price_date : candidates_of test_order 11 ≡ 11 ∷ 10 ∷ 7 ∷ 12 ∷ 13 ∷ 14 ∷ []
+-- after the DTM of a price: itself, another price, another line, UNS, MOA, UNT
+candidates_after_price_date : candidates_of test_order 11 ≡ 11 ∷ 10 ∷ 7 ∷ 12 ∷ 13 ∷ 14 ∷ []
 unfolding test_order candidates_of later_siblings groups_round
-candidates_behind_price_date = refl
+candidates_after_price_date = refl
 
 -- from the DTM of the head to UNT the UNS is passed, from QTY to UNS nothing mandatory
 missing_before_trailer : missing_between test_order 2 14 ≡ 12 ∷ []
 unfolding test_order missing_between later_nodes groups_round
 missing_before_trailer = refl
 
-missing_behind_quantity : missing_between test_order 8 12 ≡ []
+missing_after_quantity : missing_between test_order 8 12 ≡ []
 unfolding test_order missing_between later_nodes groups_round
-missing_behind_quantity = refl
+missing_after_quantity = refl
 
--- a message that stops behind the DTM of the head lacks UNS and UNT, one that stops behind MOA lacks UNT
+-- a message that stops after the DTM of the head lacks UNS and UNT, one that stops after MOA lacks UNT
 missing_past_date : missing_past test_order 2 ≡ 12 ∷ 14 ∷ []
 unfolding test_order missing_past later_nodes groups_round
 missing_past_date = refl

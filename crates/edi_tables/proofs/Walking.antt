@@ -1,4 +1,4 @@
--- Later siblings, the groups round a node and the nodes behind it, by going from end to end.
+-- Later siblings, the groups round a node and the nodes after it, by going from end to end.
 use Rattle.std.proofs.Common.{◌≡◌, ℕ, ◌+◌, ◌<◌, ◌≤◌, Bool, true, false, List, [], ◌∷◌, ◌++◌, Option, Some, None, length, refl, sym, ap, subst, ◌∙◌, inl, inr, ⊎_elim, arith}
 use Rattle.std.specs.Prelude.{nat_eq, nat_lt, ◌&&◌, ◌||◌}
 use Rattle.std.specs.List.{list_any}
@@ -35,9 +35,9 @@ or-false : (b : Bool) → (b || false) ≡ b
 or-false true = refl
 or-false false = refl
 
--- whether a node stands behind another of one of these levels
-abbrev stands_behind : List Node → List ℕ → ℕ → Bool
-stands_behind nodes levels j = list_any (λ i. nat_lt i j && are_siblings nodes i j) levels
+-- whether a node stands after another of one of these levels
+abbrev comes_after : List Node → List ℕ → ℕ → Bool
+comes_after nodes levels j = list_any (λ i. nat_lt i j && are_siblings nodes i j) levels
 
 module _ (nodes : List Node) (table : IsTable nodes) where
   laws : HasTableLaws nodes
@@ -49,14 +49,14 @@ module _ (nodes : List Node) (table : IsTable nodes) where
       let held = laws.held_inside i k past below in
       siblings_differ nodes i k (λ same. absurd (omega (arith, held.1, laws.parent_before i held.0 (same ∙ held.2))))
 
-  -- nor behind the end of their level
-  none_behind : (i k : ℕ) → level_end nodes i ≤ k → k < length nodes → are_siblings nodes i k ≡ false
-  none_behind i k past below = siblings_differ nodes i k (λ same. elim (some_or_none (parent_at nodes i)) [
+  -- nor after the end of their level
+  none_after : (i k : ℕ) → level_end nodes i ≤ k → k < length nodes → are_siblings nodes i k ≡ false
+  none_after i k past below = siblings_differ nodes i k (λ same. elim (some_or_none (parent_at nodes i)) [
     | inl none ↦ absurd (omega (arith, level_end_none nodes i none))
     | inr some ↦ absurd (omega (arith, level_end_some nodes i some.0 some.1, laws.before_parent_end k some.0 (sym same ∙ some.1)))
   ])
 
-  -- a level ends within the table, and behind each of its nodes
+  -- a level ends within the table, and after each of its nodes
   pub level_end_within : (i : ℕ) → level_end nodes i ≤ length nodes
   level_end_within i = elim (some_or_none (parent_at nodes i)) [
     | inl none ↦ omega (arith, level_end_none nodes i none)
@@ -73,7 +73,7 @@ module _ (nodes : List Node) (table : IsTable nodes) where
   pub later_siblings_none : (i : ℕ) → i < length nodes → end_at nodes i ≡ level_end nodes i → later_siblings nodes i ≡ []
   unfolding later_siblings
   later_siblings_none i within last =
-      passing_none (are_siblings nodes i) (i + 1) (length nodes) (λ k from below. ⊎_elim (λ inside. none_inside i k (omega arith) inside) (λ behind. none_behind i k (omega arith) below) (cases_lt k (end_at nodes i)))
+      passing_none (are_siblings nodes i) (i + 1) (length nodes) (λ k from below. ⊎_elim (λ inside. none_inside i k (omega arith) inside) (λ later. none_after i k (omega arith) below) (cases_lt k (end_at nodes i)))
 
   -- another has the one that stands at its end first, and then that one's
   pub later_siblings_next : (i : ℕ) → i < length nodes → end_at nodes i < level_end nodes i → later_siblings nodes i ≡ end_at nodes i ∷ later_siblings nodes (end_at nodes i)
@@ -81,7 +81,7 @@ module _ (nodes : List Node) (table : IsTable nodes) where
   later_siblings_next i within more =
       let same = laws.sibling_at_end i within more in
       let here : end_at nodes i < length nodes = omega (arith, level_end_within i) in
-      passing_skip (are_siblings nodes i) (i + 1) (end_at nodes i) (length nodes) (omega (arith, laws.end_behind i within)) (omega arith) (λ k from below. none_inside i k (omega arith) below)
+      passing_skip (are_siblings nodes i) (i + 1) (end_at nodes i) (length nodes) (omega (arith, laws.end_after i within)) (omega arith) (λ k from below. none_inside i k (omega arith) below)
       ∙ passing_yes (are_siblings nodes i) (end_at nodes i) (length nodes) here (siblings_same nodes i (end_at nodes i) (sym same))
       ∙ ap (λ more. end_at nodes i ∷ more) (passing_same (are_siblings nodes i) (are_siblings nodes (end_at nodes i)) (end_at nodes i + 1) (length nodes)
       (λ k from below. ap (λ found. option_eq nat_eq found (parent_at nodes k)) (sym same)))
@@ -109,59 +109,59 @@ module _ (nodes : List Node) (table : IsTable nodes) where
       let held = laws.held_inside g k past below in
       siblings_differ nodes i k (λ same. absurd (omega (arith, held.1, laws.parent_before i held.0 (same ∙ held.2))))
 
-  levels_fail : (g k : ℕ) → g < k → k < end_at nodes g → stands_behind nodes (g ∷ groups_round nodes g) k ≡ false
+  levels_fail : (g k : ℕ) → g < k → k < end_at nodes g → comes_after nodes (g ∷ groups_round nodes g) k ≡ false
   levels_fail g k past below =
       let fails : (i : ℕ) → i ≤ g → (nat_lt i k && are_siblings nodes i k) ≡ false = λ i up. and_right _ _ (none_above g k i past below up) in
       or_from _ _ (fails g (omega arith)) (groups.groups_fail nodes laws (λ i. nat_lt i k && are_siblings nodes i k) g (λ h before. fails h (omega arith)))
 
-  first_level : (levels : List ℕ) (f k : ℕ) → f < k → stands_behind nodes (f ∷ levels) k ≡ (are_siblings nodes f k || stands_behind nodes levels k)
+  first_level : (levels : List ℕ) (f k : ℕ) → f < k → comes_after nodes (f ∷ levels) k ≡ (are_siblings nodes f k || comes_after nodes levels k)
   first_level levels f k past = rw (lt-ltb f k past) refl
 
-  later_nodes_passing : (f : ℕ) → later_nodes nodes f ≡ passing (stands_behind nodes (f ∷ groups_round nodes f)) (f + 1) (length nodes)
+  later_nodes_passing : (f : ℕ) → later_nodes nodes f ≡ passing (comes_after nodes (f ∷ groups_round nodes f)) (f + 1) (length nodes)
   unfolding later_nodes
   later_nodes_passing f = refl
 
-  -- behind a node outside all groups stand its later siblings
+  -- after a node outside all groups stand its later siblings
   pub later_nodes_none : (f : ℕ) → parent_at nodes f ≡ None → later_nodes nodes f ≡ later_siblings nodes f
   unfolding later_nodes later_siblings
   later_nodes_none f is =
-      passing_same (stands_behind nodes (f ∷ groups_round nodes f)) (are_siblings nodes f) (f + 1) (length nodes)
-      (λ k from below. ap (λ levels. stands_behind nodes (f ∷ levels) k) (groups_round_none f is) ∙ first_level [] f k (omega arith) ∙ or-false _)
+      passing_same (comes_after nodes (f ∷ groups_round nodes f)) (are_siblings nodes f) (f + 1) (length nodes)
+      (λ k from below. ap (λ levels. comes_after nodes (f ∷ levels) k) (groups_round_none f is) ∙ first_level [] f k (omega arith) ∙ or-false _)
 
-  two_levels : (f g k : ℕ) → parent_at nodes f ≡ Some g → f < k → stands_behind nodes (f ∷ groups_round nodes f) k ≡ (are_siblings nodes f k || stands_behind nodes (g ∷ groups_round nodes g) k)
+  two_levels : (f g k : ℕ) → parent_at nodes f ≡ Some g → f < k → comes_after nodes (f ∷ groups_round nodes f) k ≡ (are_siblings nodes f k || comes_after nodes (g ∷ groups_round nodes g) k)
   two_levels f g k is past =
-      ap (λ levels. stands_behind nodes (f ∷ levels) k) (groups_round_some f g is) ∙ first_level (g ∷ groups_round nodes g) f k past
+      ap (λ levels. comes_after nodes (f ∷ levels) k) (groups_round_some f g is) ∙ first_level (g ∷ groups_round nodes g) f k past
 
-  in_group : (f g k : ℕ) → parent_at nodes f ≡ Some g → f < k → k < end_at nodes g → stands_behind nodes (f ∷ groups_round nodes f) k ≡ are_siblings nodes f k
+  in_group : (f g k : ℕ) → parent_at nodes f ≡ Some g → f < k → k < end_at nodes g → comes_after nodes (f ∷ groups_round nodes f) k ≡ are_siblings nodes f k
   in_group f g k is past below =
       two_levels f g k is past ∙ ap (λ found. are_siblings nodes f k || found) (levels_fail g k (omega (arith, laws.parent_before f g is)) below) ∙ or-false _
 
-  behind_group : (f g k : ℕ) → parent_at nodes f ≡ Some g → end_at nodes g ≤ k → k < length nodes → stands_behind nodes (f ∷ groups_round nodes f) k ≡ stands_behind nodes (g ∷ groups_round nodes g) k
-  behind_group f g k is past below =
+  after_group : (f g k : ℕ) → parent_at nodes f ≡ Some g → end_at nodes g ≤ k → k < length nodes → comes_after nodes (f ∷ groups_round nodes f) k ≡ comes_after nodes (g ∷ groups_round nodes g) k
+  after_group f g k is past below =
       two_levels f g k is (omega (arith, laws.before_parent_end f g is))
-      ∙ ap (λ found. found || stands_behind nodes (g ∷ groups_round nodes g) k) (none_behind f k (omega (arith, level_end_some nodes f g is)) below)
+      ∙ ap (λ found. found || comes_after nodes (g ∷ groups_round nodes g) k) (none_after f k (omega (arith, level_end_some nodes f g is)) below)
 
-  in_group_all : (f g : ℕ) → parent_at nodes f ≡ Some g → passing (stands_behind nodes (f ∷ groups_round nodes f)) (f + 1) (end_at nodes g) ≡ later_siblings nodes f
+  in_group_all : (f g : ℕ) → parent_at nodes f ≡ Some g → passing (comes_after nodes (f ∷ groups_round nodes f)) (f + 1) (end_at nodes g) ≡ later_siblings nodes f
   unfolding later_siblings
   in_group_all f g is =
       let low : f + 1 ≤ end_at nodes g = omega (arith, laws.before_parent_end f g is) in
       passing_same _ (are_siblings nodes f) (f + 1) (end_at nodes g) (λ k from below. in_group f g k is (omega arith) below)
       ∙ sym (passing_split (are_siblings nodes f) (f + 1) (end_at nodes g) (length nodes) low (laws.end_within g)
       ∙ ap (λ back. passing (are_siblings nodes f) (f + 1) (end_at nodes g) ++ back)
-      (passing_none (are_siblings nodes f) (end_at nodes g) (length nodes) (λ k from below. none_behind f k (omega (arith, level_end_some nodes f g is)) below))
+      (passing_none (are_siblings nodes f) (end_at nodes g) (length nodes) (λ k from below. none_after f k (omega (arith, level_end_some nodes f g is)) below))
       ∙ append-nil _)
 
-  behind_group_all : (f g : ℕ) → parent_at nodes f ≡ Some g → passing (stands_behind nodes (f ∷ groups_round nodes f)) (end_at nodes g) (length nodes) ≡ later_nodes nodes g
+  after_group_all : (f g : ℕ) → parent_at nodes f ≡ Some g → passing (comes_after nodes (f ∷ groups_round nodes f)) (end_at nodes g) (length nodes) ≡ later_nodes nodes g
   unfolding later_nodes
-  behind_group_all f g is =
+  after_group_all f g is =
       let low : g + 1 ≤ end_at nodes g = omega (arith, laws.before_parent_end f g is, laws.parent_before f g is) in
-      passing_same _ (stands_behind nodes (g ∷ groups_round nodes g)) (end_at nodes g) (length nodes) (λ k from below. behind_group f g k is from below)
-      ∙ sym (passing_skip (stands_behind nodes (g ∷ groups_round nodes g)) (g + 1) (end_at nodes g) (length nodes) low (laws.end_within g) (λ k from below. levels_fail g k (omega arith) below))
+      passing_same _ (comes_after nodes (g ∷ groups_round nodes g)) (end_at nodes g) (length nodes) (λ k from below. after_group f g k is from below)
+      ∙ sym (passing_skip (comes_after nodes (g ∷ groups_round nodes g)) (g + 1) (end_at nodes g) (length nodes) low (laws.end_within g) (λ k from below. levels_fail g k (omega arith) below))
 
-  -- behind another its later siblings, and then what stands behind its group
+  -- after another its later siblings, and then what stands after its group
   pub later_nodes_some : (f g : ℕ) → parent_at nodes f ≡ Some g → later_nodes nodes f ≡ later_siblings nodes f ++ later_nodes nodes g
   later_nodes_some f g is =
       let low : f + 1 ≤ end_at nodes g = omega (arith, laws.before_parent_end f g is) in
-      later_nodes_passing f ∙ passing_split (stands_behind nodes (f ∷ groups_round nodes f)) (f + 1) (end_at nodes g) (length nodes) low (laws.end_within g)
-      ∙ ap (λ front. front ++ passing (stands_behind nodes (f ∷ groups_round nodes f)) (end_at nodes g) (length nodes)) (in_group_all f g is)
-      ∙ ap (λ back. later_siblings nodes f ++ back) (behind_group_all f g is)
+      later_nodes_passing f ∙ passing_split (comes_after nodes (f ∷ groups_round nodes f)) (f + 1) (end_at nodes g) (length nodes) low (laws.end_within g)
+      ∙ ap (λ front. front ++ passing (comes_after nodes (f ∷ groups_round nodes f)) (end_at nodes g) (length nodes)) (in_group_all f g is)
+      ∙ ap (λ back. later_siblings nodes f ++ back) (after_group_all f g is)

@@ -69,11 +69,11 @@ unfoldable pub shared_pairs : List Node → List ℕ → List (ℕ × ℕ)
 shared_pairs nodes followers = flat_map (pair_at nodes followers) (range_with_len 0 (length followers))
 
 -- the collisions after f, one for each tag that two followers share
-abbrev pub collisions_behind : List Node → ℕ → List Collision
-collisions_behind nodes f =
+abbrev pub collisions_after : List Node → ℕ → List Collision
+collisions_after nodes f =
     map (λ pair. collision_of nodes f pair.0 pair.1) (shared_pairs nodes (followers_of nodes f))
 
 -- the collisions of a table, by entry in table order
 unfoldable pub collisions_of : List Node → List Collision
 collisions_of nodes =
-    flat_map (λ f. if is_group_at nodes f then [] else collisions_behind nodes f) (range_with_len 0 (length nodes))
+    flat_map (λ f. if is_group_at nodes f then [] else collisions_after nodes f) (range_with_len 0 (length nodes))

@@ -41,7 +41,7 @@ breaks_envelope rows i row =
 abbrev pub breaks_max : TableRow → Bool
 breaks_max row = row.max == 0 || nat_lt 999999 row.max
 
--- how deep the row behind this one may be
+-- how deep the row after this one may be
 abbrev pub depth_behind : Option TableRow → ℕ
 depth_behind None = 0
 depth_behind (Some row) = if is_group_row row then row.depth + 1 else row.depth
@@ -59,7 +59,7 @@ abbrev pub is_trigger_row : ℕ → Option TableRow → Bool
 is_trigger_row depth None = false
 is_trigger_row depth (Some row) = not (is_group_row row) && row.must && row.max == 1 && row.depth == depth + 1
 
--- directly behind a group stands its trigger
+-- directly after a group stands its trigger
 abbrev pub breaks_trigger : List TableRow → ℕ → TableRow → Bool
 breaks_trigger rows i row = is_group_row row && not (is_trigger_row row.depth (slice_get rows (i + 1)))
 
@@ -90,7 +90,7 @@ depth_at rows i = elim (slice_get rows i) [ None ↦ 0 | Some row ↦ row.depth 
 unfoldable pub parent_of : List TableRow → ℕ → Option ℕ
 parent_of rows i = find (λ j. nat_lt (depth_at rows j) (depth_at rows i)) (reverse (range_with_len 0 i))
 
--- the first row behind i that is no deeper: one past its last descendant
+-- the first row after i that is no deeper: one past its last descendant
 unfoldable pub end_of : List TableRow → ℕ → ℕ
 end_of rows i =
     unwrap_or (find (λ j. nat_le (depth_at rows j) (depth_at rows i)) (range_with_len (i + 1) (length rows - (i + 1)))) (length rows)

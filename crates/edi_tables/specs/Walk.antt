@@ -1,4 +1,4 @@
--- Where a segment may stand behind another: candidates in a segment table, and what going to one passes.
+-- Where a segment may stand after another: candidates in a segment table, and what going to one passes.
 use Rattle.std.specs.Prelude.{◌-◌, ◌+◌, ℕ, Bool, true, false, ◌==◌, ◌&&◌, nat_eq, nat_lt, List, [], ◌∷◌, ◌++◌, length, map, filter, reverse, slice_get, Option, Some, None, if◌then◌else◌}
 use Rattle.std.specs.List.{range_with_len, list_any}
 use Rattle.std.specs.Option.{option_eq}
@@ -28,7 +28,7 @@ end_at nodes i = read_node 0 (λ n. n.end) nodes i
 abbrev pub is_group_at : List Node → ℕ → Bool
 is_group_at nodes i = read_node false (λ n. elim n.tag [ None ↦ true | Some tag ↦ false ]) nodes i
 
--- the trigger of a group is its first child, the node directly behind it; a group stands for its trigger
+-- the trigger of a group is its first child, the node directly after it; a group stands for its trigger
 abbrev pub entry_for : List Node → ℕ → ℕ
 entry_for nodes i = if is_group_at nodes i then i + 1 else i
 
@@ -70,7 +70,7 @@ itself nodes f = if is_trigger_at nodes f then [] else f ∷ []
 unfoldable pub candidates_of : List Node → ℕ → List ℕ
 candidates_of nodes f = itself nodes f ++ outward nodes f (groups_round nodes f)
 
--- the nodes behind an entry up to the table's end, each level that is left with its later siblings, ascending
+-- the nodes after an entry up to the table's end, each level that is left with its later siblings, ascending
 unfoldable pub later_nodes : List Node → ℕ → List ℕ
 later_nodes nodes f =
     filter (λ j. list_any (λ i. nat_lt i j && are_siblings nodes i j) (f ∷ groups_round nodes f)) (range_with_len (f + 1) (length nodes - (f + 1)))

@@ -83,7 +83,8 @@ fn is_frame_row(name: &[u8], row: &TableRow) -> bool
     has_name(row.tag, name) && row.must && row.max == 1 && row.depth == 0
 }
 
-/// Whether a service segment stands where none may: UNH behind the first row, UNT before the last, UNB, UNG, UNE and UNZ anywhere.
+/// Whether a service segment stands where none may: UNH after the first row, UNT before the last,
+/// UNB, UNG, UNE and UNZ anywhere.
 fn breaks_envelope(rows: &[TableRow], i: usize, row: &TableRow) -> bool
     requires { i < length rows.now }
     ensures { result ≡ breaks_envelope rows.now i row.now }
@@ -119,7 +120,7 @@ fn breaks_depth(rows: &[TableRow], i: usize, row: &TableRow) -> bool
     u16::from(row.depth) > allowed
 }
 
-/// How deep the row behind this one may be.
+/// How deep the row after this one may be.
 fn depth_behind(row: &TableRow) -> u16
     ensures { result ≡ depth_behind (Some row.now) }
 {
@@ -127,7 +128,8 @@ fn depth_behind(row: &TableRow) -> u16
     if row.tag.is_none() { depth + 1 } else { depth }
 }
 
-/// Whether a group has no trigger: the row behind it is no mandatory segment that stands once, one deeper.
+/// Whether a group has no trigger: the row after it is no mandatory segment that stands once, one
+/// deeper.
 fn breaks_trigger(rows: &[TableRow], i: usize, row: &TableRow) -> bool
     requires { i < length rows.now }
     ensures { result ≡ breaks_trigger rows.now i row.now }
@@ -172,12 +174,14 @@ pub fn nodes_of(alloc: Global, rows: &[TableRow]) -> Result<Vec<Node>, AllocErro
 /// Lets this row hold each row of a greater depth that comes next.
 fn hold_deeper(parents: &mut [Option<u16>], depth: usize, row: u16)
     requires { depth < length parents.old }
-    ensures { parents.new ≡ take (depth + 1) parents.old ++ replicate (length parents.old - (depth + 1)) (Some row) }
+    ensures { parents.new ≡ take (depth + 1) parents.old
+        ++ replicate (length parents.old - (depth + 1)) (Some row) }
 {
     parents[depth + 1..].fill(Some(row));
 }
 
-/// One past the last row that the row at this place holds: the first row behind it that is no deeper.
+/// One past the last row that the row at this place holds: the first row after it that is no
+/// deeper.
 fn end_of(rows: &[TableRow], i: usize) -> u16
     requires within { i < length rows.now }
     requires few { length rows.now ≤ 2000 }

@@ -12,7 +12,8 @@ pub struct Code {
 impl Code {
     /// The code that four octets are; no other octets are one.
     pub fn read(part: &[u8]) -> Option<Code>
-        ensures { result ≡ (if length part.now == 4 then Some (record { octets = part.now }) else None) }
+        ensures { result
+            ≡ (if length part.now == 4 then Some (record { octets = part.now }) else None) }
     {
         match part {
             [first, second, third, fourth] => Some(Code {

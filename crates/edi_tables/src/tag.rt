@@ -13,7 +13,8 @@ impl Tag {
 
     /// The tag that these octets are, if they are one.
     pub fn read(part: &[u8]) -> Option<Tag>
-        ensures { result ≡ (if is_tag_of part.now then Some (record { octets = part.now }) else None) }
+        ensures { result
+            ≡ (if is_tag_of part.now then Some (record { octets = part.now }) else None) }
     {
         match part {
             [first, second, third] if is_tag(part) => Some(Tag {

@@ -5,8 +5,8 @@ use Rattle.std.proofs.lemmas.Bool.{ne_eqb, eqb-true}
 use Rattle.edi_tables.specs.declared.table.Node.{Node}
 use Rattle.edi_tables.specs.Rows.{IsTable}
 use Rattle.edi_tables.specs.Walk.{parent_at}
-use Rattle.edi_tables.specs.Placement.{is_at, placed_since, placed_behind, group_count, last_placed}
-use Rattle.edi_tables.proofs.Pushing.{since_behind, last_push, last_none}
+use Rattle.edi_tables.specs.Placement.{is_at, placed_since, placed_after, group_count, last_placed}
+use Rattle.edi_tables.proofs.Pushing.{since_after, last_push, last_none}
 use Rattle.edi_tables.proofs.TableLaws.{table_laws}
 
 -- the entry placed last, after one segment more
@@ -14,9 +14,9 @@ pub last_step : (placed : List (Option ℕ)) (member : Option ℕ) → last_plac
 last_step placed None = last_none placed
 last_step placed (Some c) = last_push placed c
 
-since_is : (g : ℕ) (parent : Option ℕ) → ((h : ℕ) → parent ≡ Some h → h < g) → (placed : List (Option ℕ)) → count_by (is_at (g + 1)) (placed_since parent placed) ≡ count_by (is_at (g + 1)) (placed_behind parent placed)
+since_is : (g : ℕ) (parent : Option ℕ) → ((h : ℕ) → parent ≡ Some h → h < g) → (placed : List (Option ℕ)) → count_by (is_at (g + 1)) (placed_since parent placed) ≡ count_by (is_at (g + 1)) (placed_after parent placed)
 since_is g None before placed = refl
-since_is g (Some h) before placed = since_behind (is_at (g + 1)) (is_at (h + 1)) apart placed
+since_is g (Some h) before placed = since_after (is_at (g + 1)) (is_at (h + 1)) apart placed
   where
     apart : (x : Option ℕ) → is_at (h + 1) x ≡ true → is_at (g + 1) x ≡ false
     apart None at = refl

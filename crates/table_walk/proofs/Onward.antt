@@ -6,10 +6,10 @@ use Rattle.edi_tables.specs.declared.tag.Tag.{Tag}
 use Rattle.edi_tables.specs.declared.table.Node.{Node}
 use Rattle.edi_tables.specs.Rows.{IsTable}
 use Rattle.edi_tables.specs.Walk.{is_group_at, groups_round, candidates_of, missing_between}
-use Rattle.edi_tables.specs.Placement.{is_at, placed_since, placed_behind, entry_count, group_count, last_placed, rank_of}
+use Rattle.edi_tables.specs.Placement.{is_at, placed_since, placed_after, entry_count, group_count, last_placed, rank_of}
 use Rattle.edi_tables.specs.Pairs.{pairs_with, pairs_of, pairs_next, entry_in, rank_in}
 use Rattle.edi_tables.proofs.Counting.{count_push}
-use Rattle.edi_tables.proofs.Pushing.{behind_no, since_no, last_none}
+use Rattle.edi_tables.proofs.Pushing.{after_no, since_no, last_none}
 use Rattle.edi_tables.proofs.Next.{entry_last, entry_known, over_is, rank_is, pairs_step}
 use Rattle.table_walk.specs.Reading.{has_tag, tagged_candidates, least_from, IsMember, IsReading, member_of, reading_from}
 use Rattle.table_walk.specs.Errors.{missing_before, is_member_over}
@@ -21,10 +21,10 @@ use Rattle.table_walk.proofs.Sound.{Sound, member_fits, sound_member, sound_read
 add_none : (n : ℕ) → n + 0 ≡ n
 add_none n = omega arith
 
-behind_none : (x : ℕ) (found : Option ℕ) (placed : List (Option ℕ)) → count_by (is_at x) (placed_behind found (placed ++ None ∷ [])) ≡ count_by (is_at x) (placed_behind found placed)
-behind_none x None placed = count_push (is_at x) placed None ∙ add_none _
-behind_none x (Some h) placed =
-    ap (count_by (is_at x)) (behind_no (is_at (h + 1)) placed None refl) ∙ count_push (is_at x) (placed_behind (Some h) placed) None ∙ add_none _
+after_none : (x : ℕ) (found : Option ℕ) (placed : List (Option ℕ)) → count_by (is_at x) (placed_after found (placed ++ None ∷ [])) ≡ count_by (is_at x) (placed_after found placed)
+after_none x None placed = count_push (is_at x) placed None ∙ add_none _
+after_none x (Some h) placed =
+    ap (count_by (is_at x)) (after_no (is_at (h + 1)) placed None refl) ∙ count_push (is_at x) (placed_after (Some h) placed) None ∙ add_none _
 
 since_none : (x : ℕ) (found : Option ℕ) (placed : List (Option ℕ)) → count_by (is_at x) (placed_since found (placed ++ None ∷ [])) ≡ count_by (is_at x) (placed_since found placed)
 since_none x None placed = count_push (is_at x) placed None ∙ add_none _
@@ -40,7 +40,7 @@ map_same one other same (g ∷ gs) =
 module _ (nodes : List Node) where
   group_stays : (placed : List (Option ℕ)) (g : ℕ) → group_count nodes (placed ++ None ∷ []) g ≡ group_count nodes placed g
   unfolding group_count
-  group_stays placed g = behind_none (g + 1) _ placed
+  group_stays placed g = after_none (g + 1) _ placed
 
   entry_stays : (placed : List (Option ℕ)) (c : ℕ) → entry_count nodes (placed ++ None ∷ []) c ≡ entry_count nodes placed c
   unfolding entry_count

@@ -12,6 +12,7 @@ pub mod Made
 pub mod MissingLaws
 pub mod Next
 pub mod NodeReads
+pub mod Openings
 pub mod OrderPlaced
 pub mod Outward
 pub mod PlaceLaws
@@ -21,6 +22,7 @@ pub mod Pushing
 pub mod Reaching
 pub mod Restored
 pub mod Rising
+pub mod Searching
 pub mod Stepping
 pub mod Stretches
 pub mod TableLaws

@@ -16,7 +16,7 @@ use Rattle.envelope_check.specs.Known.{kind_in, is_unh, is_unz, is_une, by_closi
 use Rattle.envelope_check.specs.Envelope.{is_at, count_at, is_end, segments_in, messages_in, counted_at_end, count_due, opening_of, gives, miscounts, refers_elsewhere}
 use Rattle.envelope_check.proofs.Counting.{count_more}
 use Rattle.envelope_check.proofs.TagKinds.{is_unt, unt_by_kind, une_by_kind, unh_by_kind}
-use Rattle.envelope_check.proofs.Openings.{first_of, next_stop, stretch_closed}
+use Rattle.edi_tables.proofs.Openings.{first_of, next_stop, stretch_closed}
 use Rattle.envelope_check.proofs.Extents.{tag_kind, kind_passes, message_opened, group_opened, message_from, group_from, message_marks, group_marks, opens_message, closes_message, ends_message, opens_group, closes_group, ends_group_at, message_closed_by, group_closed_by}
 use Rattle.envelope_check.proofs.IsKnown.{IsKnown, opened_before, is_some_copied}
 use Rattle.envelope_check.proofs.RuleLaws.{Site, end_is, IsOpener, group_opener, message_opener}

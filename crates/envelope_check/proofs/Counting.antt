@@ -6,7 +6,7 @@ use Rattle.std.specs.List.{range_with_len}
 use Rattle.std.proofs.lemmas.Bool.{cases_Bool, cases_order, ne_eqb, lt-ltb, le-ltb}
 use Rattle.edi_tables.specs.declared.tag.Tag.{Tag}
 use Rattle.envelope_check.specs.Envelope.{is_at, count_at, end_of_interchange, is_end, is_after_end}
-use Rattle.envelope_check.proofs.Searching.{Found, found}
+use Rattle.edi_tables.proofs.Searching.{Found, found}
 
 length_cond : (p : Bool) (a : ℕ) (xs : List ℕ) → length (cond p (a ∷ xs) xs) ≡ length xs + cond p 1 0
 length_cond true a xs = omega arith

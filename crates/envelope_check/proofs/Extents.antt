@@ -10,7 +10,7 @@ use Rattle.envelope_check.specs.declared.head.HeadKind.TheVariants.{Unh, Unt, Un
 use Rattle.envelope_check.specs.Heads.{kind_of}
 use Rattle.envelope_check.specs.Known.{is_ung, is_unh, is_une, ends_group}
 use Rattle.envelope_check.specs.Envelope.{is_at}
-use Rattle.envelope_check.proofs.Openings.{stretch, opened, AreMarks, stretch_at, stretch_closed_at, stretch_opened_at}
+use Rattle.edi_tables.proofs.Openings.{stretch, opened, AreMarks, stretch_at, stretch_closed_at, stretch_opened_at}
 use Rattle.envelope_check.proofs.TagKinds.{is_unt, stops_message, stops_group, ung_by_kind, unh_by_kind, unt_by_kind, une_by_kind, message_stop_by_kind, group_stop_by_kind}
 
 abbrev pub tag_kind : List (Option Tag) → ℕ → Option HeadKind

@@ -14,10 +14,10 @@ use Rattle.envelope_check.specs.declared.known.Known.{Known}
 use Rattle.envelope_check.specs.Heads.{tags_of}
 use Rattle.envelope_check.specs.Known.{kind_in, is_ung, is_unh, is_une, is_no_unt, ends_group, group_end, next_but_unt, lacks_une_by, empty_group_by}
 use Rattle.envelope_check.specs.Envelope.{is_at, count_at, messages_in, lacks_une, is_empty_group}
-use Rattle.envelope_check.proofs.Searching.{IsFirst, Found, found, find_is, find_none}
+use Rattle.edi_tables.proofs.Searching.{IsFirst, Found, found, find_is, find_none}
 use Rattle.envelope_check.proofs.Counting.{none_counted}
 use Rattle.envelope_check.proofs.TagKinds.{unh_by_kind, une_by_kind, group_stop_by_kind}
-use Rattle.envelope_check.proofs.Openings.{stretch_to, next_stop, first_of}
+use Rattle.edi_tables.proofs.Openings.{stretch_to, next_stop, first_of}
 use Rattle.envelope_check.proofs.Extents.{kind_passes, group_from, closes_group, ends_group_at, group_opened_by}
 use Rattle.envelope_check.proofs.Ahead.{length_tags, Heads, at_kind, kind_at, find_ahead}
 use Rattle.envelope_check.proofs.IsKnown.{find_same}

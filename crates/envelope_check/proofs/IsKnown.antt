@@ -21,7 +21,7 @@ use Rattle.envelope_check.proofs.Counting.{count_more, count_none, none_counted,
 use Rattle.envelope_check.proofs.Ahead.{length_tags, Here, at_kind, any_ahead, no_heads, here_at, ahead_first}
 use Rattle.envelope_check.proofs.TagKinds.{stops_message, stops_group, unb_by_kind, ung_by_kind, unh_by_kind, unz_by_kind, message_stop_by_kind, group_stop_by_kind}
 use Rattle.envelope_check.proofs.Extents.{tag_kind, kind_passes, message_opened, group_opened}
-use Rattle.envelope_check.proofs.Openings.{opened, opened_is, Opened, IsOpen}
+use Rattle.edi_tables.proofs.Openings.{opened, opened_is, Opened, IsOpen}
 
 -- the head of the segment that opened something
 abbrev pub opener : List Head → Option ℕ → Option Head

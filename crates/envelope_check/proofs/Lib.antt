@@ -5,10 +5,8 @@ pub mod Extents
 pub mod Fitting
 pub mod GroupAhead
 pub mod IsKnown
-pub mod Openings
 pub mod Progress
 pub mod RuleLaws
-pub mod Searching
 pub mod SegmentErrors
 pub mod TagKinds
 mod Worked

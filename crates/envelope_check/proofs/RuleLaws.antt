@@ -17,7 +17,7 @@ use Rattle.envelope_check.specs.Envelope.{is_at, count_at, is_end, is_after_end,
 use Rattle.envelope_check.proofs.Ahead.{Here}
 use Rattle.envelope_check.proofs.Counting.{is_end_by}
 use Rattle.envelope_check.proofs.TagKinds.{is_unt, unb_by_kind, ung_by_kind, unh_by_kind, unz_by_kind}
-use Rattle.envelope_check.proofs.Openings.{first_of, next_stop}
+use Rattle.edi_tables.proofs.Openings.{first_of, next_stop}
 use Rattle.envelope_check.proofs.Extents.{tag_kind, kind_passes, held, message_opened, group_opened, message_from, group_from, closes_group, ends_group_at, message_at_by, group_at_by, group_closed_by}
 use Rattle.envelope_check.proofs.IsKnown.{IsKnown, opener}
 

@@ -5,7 +5,7 @@ use Rattle.std.specs.Option.{option_map}
 use Rattle.std.specs.List.{range_with_len, filter_map}
 use Rattle.std.proofs.lemmas.Bool.{cases_Bool, cases_eq, cases_lt, false≢true, true≢false, and_parts, and_from, leb-true, eqb-true, false_from_ne_true, not-true}
 use Rattle.edi_tables.specs.Extents.{Extent, lies_in, closes, opens}
-use Rattle.envelope_check.proofs.Searching.{IsFirst, IsNone, Found, found, find_is, find_none, find_given}
+use Rattle.edi_tables.proofs.Searching.{IsFirst, IsNone, Found, found, find_is, find_none, find_given}
 
 -- the extent from place a on that stops at a place, or runs to the end n
 abbrev pub stretch_to : (ℕ → Bool) → ℕ → ℕ → Option ℕ → Extent

@@ -1,10 +1,16 @@
--- The components of a segment come in order, and the first belongs to the tag field.
-use Rattle.std.proofs.Common.{◌≡◌, ℕ, ◌+◌, ◌≤◌, List, [], ◌∷◌, ◌++◌, length, refl, arith}
+-- The components of a segment come in order.
+use Rattle.std.proofs.Common.{◌≡◌, ℕ, ◌+◌, ◌≤◌, List, [], ◌∷◌, ◌++◌, length, Option, Some, None, sym, subst, arith}
 use Rattle.std.specs.Prelude.{map}
-use Rattle.std.specs.List.{enumerate_from, flat_map}
-use Rattle.seg_lexer.specs.Fields.{Component, IsInOrder, PlacedComponent, component_in, components_of, cut, element_in, fields_of, is_cut, places_that, stretches, unplaced}
+use Rattle.std.specs.List.{between, enumerate_from, flat_map}
+use Rattle.edi_octets.specs.declared.octets.Octets.{Ghosts}
+use Rattle.seg_lexer.specs.Fields.{Component, IsInOrder, PlacedComponent, component_in, components_of, cut, element_in, fields_of, placed, unplaced}
+use Rattle.seg_lexer.specs.Left.{components_left, fields_left}
+use Rattle.seg_lexer.specs.Place.{fields_after, fields_from, rest_of}
 use Rattle.seg_lexer.specs.Stretch.{Stretch}
+use Rattle.seg_lexer.specs.declared.components.Fields.{Fields}
+use Rattle.seg_lexer.specs.declared.components.Place.{Place}
 use Rattle.seg_lexer.specs.declared.service.Separators.{Separators}
+use Rattle.seg_lexer.proofs.CountLemmas.{map-unplaced-placed}
 
 -- what is in order from m on is so from each number below
 pub IsInOrder-lower : (n m : ℕ) (es : List Component) → n ≤ m → IsInOrder m es → IsInOrder n es
@@ -21,27 +27,35 @@ module _ (sp : Separators) (xs : List ℕ) where
   IsInOrder-elements element (s ∷ ss) =
       IsInOrder-element element (enumerate_from 1 (cut sp.release xs sp.component s.from s.to)) _ (IsInOrder-lower element (element + 1) _ (omega arith) (IsInOrder-elements (element + 1) ss))
 
+  IsInOrder-after : (element c : ℕ) (ss : List Stretch) → IsInOrder element (map unplaced (fields_after sp xs c (enumerate_from element ss)))
+  IsInOrder-after element c [] = tt
+  IsInOrder-after element c (s ∷ ss) =
+      IsInOrder-element element (enumerate_from c (cut sp.release xs sp.component s.from s.to)) _ (IsInOrder-lower element (element + 1) _ (omega arith) (IsInOrder-elements (element + 1) ss))
+
+  IsInOrder-from : (element c a : ℕ) → IsInOrder element (map unplaced (fields_from sp xs element c a))
+  unfolding fields_from
+  IsInOrder-from element c a = IsInOrder-after element c (cut sp.release xs sp.element a (length xs))
+
+-- what is left of a segment comes in order, from the element of the next component on
+pub components_left-from : {O : Type 0} {o : Ghosts O} (f : Fields O o) (p : Place) → f.place ≡ Some p → IsInOrder p.element (components_left f)
+unfolding fields_left
+components_left-from {o = o} f p is =
+    let xs : List ℕ = between f.start f.end (o.octets f.text.now) in
+    subst (λ q. IsInOrder p.element (map unplaced (map (placed f.start) (rest_of f.separators xs q)))) (sym is)
+    (subst (IsInOrder p.element) (sym (map-unplaced-placed f.start (fields_from f.separators xs p.element p.component p.at)))
+    (IsInOrder-from f.separators xs p.element p.component p.at))
+
+module _ (sp : Separators) (xs : List ℕ) (start : ℕ) where
+  rest-in_order : (q : Option Place) → IsInOrder 0 (map unplaced (map (placed start) (rest_of sp xs q)))
+  rest-in_order None = tt
+  rest-in_order (Some p) =
+      subst (IsInOrder 0) (sym (map-unplaced-placed start (fields_from sp xs p.element p.component p.at)))
+      (IsInOrder-lower 0 p.element _ (omega arith) (IsInOrder-from sp xs p.element p.component p.at))
+
+pub components_left-in_order : {O : Type 0} {o : Ghosts O} (f : Fields O o) → IsInOrder 0 (components_left f)
+unfolding fields_left
+components_left-in_order {o = o} f = rest-in_order f.separators (between f.start f.end (o.octets f.text.now)) f.start f.place
+
 pub components_of-in_order : (sp : Separators) (xs : List ℕ) → IsInOrder 0 (components_of sp xs)
 unfolding fields_of
 components_of-in_order sp xs = IsInOrder-elements sp xs 0 (cut sp.release xs sp.element 0 (length xs))
-
--- a segment has a component, and the first is component 1 of the tag field
-pub record HasTagField (es : List Component) : Type 0 where
-  pub octets : List ℕ
-  pub later : List Component
-  pub is : es ≡ record { element = 0; component = 1; octets = octets } ∷ later
-
-module _ (sp : Separators) (xs : List ℕ) where
-  first-inner : (a b : ℕ) (ds : List ℕ) (later : List PlacedComponent) → HasTagField (map unplaced (map (component_in sp.release xs 0) (enumerate_from 1 (stretches a ds b)) ++ later))
-  unfolding stretches
-  first-inner a b [] later = record { octets = _; later = _; is = refl }
-  first-inner a b (d ∷ ds) later = record { octets = _; later = _; is = refl }
-
-  first : (a b : ℕ) (cs : List ℕ) → HasTagField (map unplaced (flat_map (element_in sp xs) (enumerate_from 0 (stretches a cs b))))
-  unfolding stretches
-  first a b [] = first-inner a b (places_that (is_cut sp.release xs sp.component) a b) _
-  first a b (c ∷ cs) = first-inner a c (places_that (is_cut sp.release xs sp.component) a c) _
-
-  pub components_of-first : HasTagField (components_of sp xs)
-  unfolding fields_of
-  components_of-first = first 0 (length xs) (places_that (is_cut sp.release xs sp.element) 0 (length xs))

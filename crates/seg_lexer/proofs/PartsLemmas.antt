@@ -1,11 +1,11 @@
 -- What holds of the components that are left of a segment.
-use Rattle.std.proofs.Common.{◌≡◌, ◌+◌, ◌-◌, ◌≤◌, ◌∷◌, ℕ, List, length, map, Option, Some, sym, ap, subst, ◌∙◌, arith}
+use Rattle.std.proofs.Common.{◌≡◌, ◌+◌, ◌-◌, ◌≤◌, [], ◌∷◌, ℕ, List, length, map, Option, Some, None, sym, ap, subst, ◌∙◌, arith}
 use Rattle.std.specs.List.{between}
 use Rattle.std.proofs.lemmas.List.Edits.{length-between}
 use Rattle.edi_octets.specs.declared.octets.Octets.{Ghosts}
 use Rattle.seg_lexer.specs.Fields.{PlacedComponent, component_in, placed, value_of}
 use Rattle.seg_lexer.specs.Left.{fields_left}
-use Rattle.seg_lexer.specs.Place.{IsPlace, rest_of}
+use Rattle.seg_lexer.specs.Place.{IsPlace, placed_at, rest_of}
 use Rattle.seg_lexer.specs.Stretch.{Stretch}
 use Rattle.seg_lexer.specs.Value.{octets_of, span_of}
 use Rattle.seg_lexer.specs.declared.value.Value.{Value}
@@ -38,9 +38,10 @@ reads {o = o} f p is =
       component = here.component;
     }
 
--- a component as it is seen, by its parts
-abbrev field : ℕ → ℕ → Stretch → List ℕ → PlacedComponent
-field element component place octets = record { element = element; component = component; place = place; octets = octets }
+-- nothing is left after the last component
+pub fields_left-none : {O : Type 0} {o : Ghosts O} (f : Fields O o) → f.place ≡ None → fields_left f ≡ []
+unfolding fields_left
+fields_left-none {o = o} f is = ap (λ (q : Option Place). map (placed f.start) (rest_of f.separators (between f.start f.end (o.octets f.text.now)) q)) is
 
 -- the component that was cut off is the first of those that were left
 pub fields_left-first : {O : Type 0} {o : Ghosts O} (f : Fields O o) (p : Place) (stop : ℕ) (next : Option Place) (v : Value O o)
@@ -49,7 +50,7 @@ pub fields_left-first : {O : Type 0} {o : Ghosts O} (f : Fields O o) (p : Place)
     rest_of f.separators xs (Some p)
     ≡ component_in f.separators.release xs p.element (p.component, record { from = p.at; to = stop }) ∷ rest_of f.separators xs next)
     → octets_of v ≡ value_of f.separators.release (between (f.start + p.at) (f.start + stop) (o.octets f.text.now)) → span_of v ≡ record { from = f.start + p.at; to = f.start + stop }
-    → fields_left f ≡ field p.element p.component (span_of v) (octets_of v)
+    → fields_left f ≡ placed_at p (span_of v) (octets_of v)
     ∷ map (placed f.start) (rest_of f.separators (between f.start f.end (o.octets f.text.now)) next)
 unfolding fields_left
 fields_left-first {o = o} f p stop next v is bounds rest octets span =
@@ -62,9 +63,9 @@ fields_left-first {o = o} f p stop next v is bounds rest octets span =
     let same : between p.at stop xs ≡ between (f.start + p.at) (f.start + stop) (o.octets f.text.now) = between-between f.start f.end (o.octets f.text.now) p.at stop low (omega arith) within in
     ap (λ (q : Option Place). map (placed f.start) (rest_of f.separators xs q)) is
     ∙ (ap (map (placed f.start)) rest
-    ∙ (ap (λ (ys : List ℕ). field p.element p.component (record { from = f.start + p.at; to = f.start + stop }) (value_of f.separators.release ys) ∷ later) same
-    ∙ (ap (λ (ys : List ℕ). field p.element p.component (record { from = f.start + p.at; to = f.start + stop }) ys ∷ later) (sym octets)
-    ∙ ap (λ (q : Stretch). field p.element p.component q (octets_of v) ∷ later) (sym span))))
+    ∙ (ap (λ (ys : List ℕ). placed_at p (record { from = f.start + p.at; to = f.start + stop }) (value_of f.separators.release ys) ∷ later) same
+    ∙ (ap (λ (ys : List ℕ). placed_at p (record { from = f.start + p.at; to = f.start + stop }) ys ∷ later) (sym octets)
+    ∙ ap (λ (q : Stretch). placed_at p q (octets_of v) ∷ later) (sym span))))
 
 abbrev pub first : Place
 first = record { at = 0; element = 0; component = 1 }

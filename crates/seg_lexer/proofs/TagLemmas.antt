@@ -1,28 +1,53 @@
--- The tag of a segment, from its components in order.
-use Rattle.std.proofs.Common.{◌≡◌, ℕ, ◌<◌, Bool, true, false, ◌&&◌, cond, eqb, List, [], ◌∷◌, length, Option, Some, None, refl, sym, ap, ◌∙◌, subst, arith}
+-- The tag field of a segment, from its components in order.
+use Rattle.std.proofs.Common.{◌≡◌, ℕ, ◌<◌, Bool, true, false, not, ◌&&◌, cond, eqb, List, [], ◌∷◌, length, Option, Some, None, refl, sym, ap, ◌∙◌, inl, inr, arith}
 use Rattle.std.specs.Prelude.{map}
 use Rattle.std.specs.List.{filter, list_all}
-use Rattle.std.proofs.lemmas.Bool.{cond-false, cond-true, ne_eqb, eq-eqb}
+use Rattle.std.proofs.lemmas.Bool.{cases_Bool, ne_eqb, eq-eqb}
+use Rattle.std.proofs.lemmas.Bool.Decides.{nat_tests}
 use Rattle.edi_tables.specs.Tag.{is_tag_of}
-use Rattle.seg_lexer.specs.Fields.{Component, IsInOrder}
-use Rattle.seg_lexer.specs.Tag.{tag_field, tag_in, tag_of}
-use Rattle.seg_lexer.proofs.OrderLemmas.{HasTagField}
+use Rattle.seg_lexer.specs.Fields.{Component, IsInOrder, PlacedComponent, unplaced}
+use Rattle.seg_lexer.specs.Tag.{past_tag_field, tag_field, tag_in, tag_of}
 
--- after the tag field nothing belongs to it
-tag_field-past : (n : ℕ) (es : List Component) → 0 < n → IsInOrder n es → tag_field es ≡ []
+-- the tag field, by a test of the first component
+abbrev field_by : Bool → Component → List Component → List (List ℕ)
+field_by b e es = map (λ e. e.octets) (cond b (e ∷ filter (λ e. eqb e.element 0) es) (filter (λ e. eqb e.element 0) es))
+
+-- what comes after the tag field, by a test of the first component
+abbrev past_by : Bool → PlacedComponent → List PlacedComponent → List PlacedComponent
+past_by b f fs = cond (not b) (f ∷ past_tag_field fs) (past_tag_field fs)
+
+-- no component of an element belongs to the tag field
+pub tag_field-past : (n : ℕ) (es : List Component) → 0 < n → IsInOrder n es → tag_field es ≡ []
 tag_field-past n [] low order = refl
 tag_field-past n (e ∷ es) low order =
     let above = order.0 in
     let other : eqb e.element 0 ≡ false = ne_eqb e.element 0 (λ same. omega arith) in
-    ap (map (λ (e : Component). e.octets)) (cond-false (eqb e.element 0) (e ∷ filter (λ e. eqb e.element 0) es) (filter (λ e. eqb e.element 0) es) other)
-    ∙ tag_field-past e.element es (omega arith) order.1
+    ap (λ b. field_by b e es) other ∙ tag_field-past e.element es (omega arith) order.1
 
--- so an element's component shows that the tag field is past
-pub tag_field-later : (es : List Component) (e : Component) (later : List Component) → es ≡ e ∷ later → 0 < e.element → IsInOrder 0 es → tag_field es ≡ []
-tag_field-later es e later is low order =
-    let ordered : IsInOrder 0 (e ∷ later) = subst (IsInOrder 0) is order in
-    let whole : IsInOrder e.element (e ∷ later) = (omega arith, ordered.1) in
-    ap tag_field is ∙ tag_field-past e.element (e ∷ later) low whole
+-- a component of the tag field is the first of it
+pub tag_field-first : (e : Component) (es : List Component) → e.element ≡ 0 → tag_field (e ∷ es) ≡ e.octets ∷ tag_field es
+tag_field-first e es is = ap (λ b. field_by b e es) (eq-eqb e.element 0 is)
+
+pub past-first : (f : PlacedComponent) (fs : List PlacedComponent) → f.element ≡ 0 → past_tag_field (f ∷ fs) ≡ past_tag_field fs
+past-first f fs is = ap (λ b. past_by b f fs) (eq-eqb f.element 0 is)
+
+-- where nothing belongs to the tag field, all is past it
+pub past-all : (fs : List PlacedComponent) → tag_field (map unplaced fs) ≡ [] → past_tag_field fs ≡ fs
+past-all [] none = refl
+past-all (f ∷ fs) none = elim (cases_Bool (eqb f.element 0)) [
+  | inl same ↦ let first : f.octets ∷ tag_field (map unplaced fs) ≡ [] = sym (ap (λ b. field_by b (unplaced f) (map unplaced fs)) same) ∙ none in cc
+  | inr other ↦
+      let later : tag_field (map unplaced fs) ≡ [] = sym (ap (λ b. field_by b (unplaced f) (map unplaced fs)) other) ∙ none in
+      ap (λ b. past_by b f fs) other ∙ ap (λ gs. f ∷ gs) (past-all fs later)
+]
+
+-- and only elements are left
+pub order-past : (es : List Component) → tag_field es ≡ [] → IsInOrder 0 es → IsInOrder 1 es
+order-past [] none order = tt
+order-past (e ∷ es) none order = elim (cases_Bool (eqb e.element 0)) [
+  | inl same ↦ let first : e.octets ∷ tag_field es ≡ [] = sym (ap (λ b. field_by b e es) same) ∙ none in cc
+  | inr other ↦ let above : 0 < e.element = grind (arith, nat_tests) in (omega arith, order.1)
+]
 
 abbrev pub all_empty : List (List ℕ) → Bool
 all_empty = list_all (λ octets. eqb (length octets) 0)
@@ -32,28 +57,14 @@ choose true b x = refl
 choose false true x = refl
 choose false false x = refl
 
--- the tag of a segment, by its first component and the rest
-pub tag_of-first : (es : List Component) (e : Component) (later : List Component) (o : Option (List ℕ)) → HasTagField es → es ≡ e ∷ later → o ≡ cond (is_tag_of e.octets) (Some e.octets) None
-    → tag_of es ≡ cond (all_empty (tag_field later)) o None
+-- the tag of a segment, by the first value of its tag field and the further ones
+pub tag_of-first : (es : List Component) (first : List ℕ) (further : List (List ℕ)) (o : Option (List ℕ)) → tag_field es ≡ first ∷ further → o ≡ cond (is_tag_of first) (Some first) None
+    → tag_of es ≡ cond (all_empty further) o None
 unfolding tag_of
-tag_of-first es e later o begins is tag =
-    let both : e ∷ later ≡ record { element = 0; component = 1; octets = begins.octets } ∷ begins.later = sym is ∙ begins.is in
-    let same : e ≡ record { element = 0; component = 1; octets = begins.octets } = cc in
-    let first : e.element ≡ 0 = ap (λ (e : Component). e.element) same in
-    let kept : filter (λ (e : Component). eqb e.element 0) (e ∷ later) ≡ e ∷ filter (λ (e : Component). eqb e.element 0) later =
-    cond-true (eqb e.element 0) (e ∷ filter (λ e. eqb e.element 0) later) (filter (λ e. eqb e.element 0) later) (eq-eqb e.element 0 first) in
-    ap (λ (es : List Component). tag_in (tag_field es)) is
-    ∙ (ap (λ (es : List Component). tag_in (map (λ e. e.octets) es)) kept
-    ∙ (choose (is_tag_of e.octets) (all_empty (tag_field later)) e.octets ∙ ap (λ (o : Option (List ℕ)). cond (all_empty (tag_field later)) o None) (sym tag)))
+tag_of-first es first further o is tag =
+    ap tag_in is ∙ (choose (is_tag_of first) (all_empty further) first ∙ ap (λ (o : Option (List ℕ)). cond (all_empty further) o None) (sym tag))
 
-pub tag_of-empty : (es : List Component) → es ≡ [] → None ≡ tag_of es
+-- a segment without a tag field has no tag
+pub tag_of-none : (es : List Component) → tag_field es ≡ [] → None ≡ tag_of es
 unfolding tag_of
-tag_of-empty es is = sym (ap (λ es. tag_in (tag_field es)) is)
-
-choose-none : (b : Bool) → ◌≡◌ {A = Option (List ℕ)} None (cond b None None)
-choose-none true = refl
-choose-none false = refl
-
--- the first component's value is no tag
-pub tag_of-other : (es : List Component) (e : Component) (later : List Component) → HasTagField es → es ≡ e ∷ later → None ≡ cond (is_tag_of e.octets) (Some e.octets) None → None ≡ tag_of es
-tag_of-other es e later begins is tag = choose-none (all_empty (tag_field later)) ∙ sym (tag_of-first es e later None begins is tag)
+tag_of-none es is = sym (ap tag_in is)

@@ -1,4 +1,5 @@
--- The context of a text: its service characters, and what its first segment settles for all, the level of its characters and the version of its syntax.
+-- The context of a text: its service characters, and what its first segment settles for all,
+-- the level of its characters and the version of its syntax.
 use Rattle.std.specs.Prelude.{ℕ, Bool, false, List, [], slice_get, codes, Option, Some, None, if◌then◌else◌}
 use Rattle.std.specs.Str.{bytes_eq}
 use Rattle.seg_lexer.specs.Fields.{Component, components_at, octets_at}
@@ -43,7 +44,11 @@ version_in (Some octets) = if bytes_eq octets (codes "1") then 1 else if bytes_e
 
 -- the context that an opening settles: the level is component 1 of element 1 (0001), the version component 2 (0002)
 abbrev pub context_in : Service → List Component → Context
-context_in s opening = record { service = s; level = level_in (octets_at 1 1 opening); version = version_in (octets_at 1 2 opening) }
+context_in s opening = record {
+  service = s;
+  level = level_in (octets_at 1 1 opening);
+  version = version_in (octets_at 1 2 opening);
+}
 
 -- the context of a text, which no segment but the first settles
 unfoldable pub context_of : List ℕ → Context

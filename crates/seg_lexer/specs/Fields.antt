@@ -1,4 +1,5 @@
--- Components of a segment (ISO 9735): elements are separated by unreleased element separators, and their components by unreleased component separators. All of it is said over a segment's own octets.
+-- Components of a segment (ISO 9735): elements are separated by unreleased element separators, and their components
+-- by unreleased component separators. All of it is said over a segment's own octets.
 use Rattle.std.specs.Prelude.{◌≤◌, ⊤, ℕ, ◌+◌, ◌-◌, Bool, not, ◌&&◌, ◌==◌, List, [], ◌∷◌, length, map, filter, find, slice_index, slice_range, Option}
 use Rattle.std.specs.List.{enumerate_from, flat_map, range_with_len}
 use Rattle.std.specs.Option.{option_map}
@@ -54,17 +55,20 @@ unplaced f = record { element = f.element; component = f.component; octets = f.o
 
 -- the component of an element that is this stretch of the segment, by its number
 abbrev pub component_in : Option ℕ → List ℕ → ℕ → ℕ × Stretch → PlacedComponent
-component_in release xs element p = record { element = element; component = p.0; place = p.1; octets = value_of release (octets_in xs p.1) }
+component_in release xs element p =
+    record { element = element; component = p.0; place = p.1; octets = value_of release (octets_in xs p.1) }
 
 -- the components of the stretch a..b, which belongs to an element, numbered from c
 abbrev pub components_in : Separators → List ℕ → ℕ → ℕ → ℕ → ℕ → List PlacedComponent
-components_in sp xs element c a b = map (component_in sp.release xs element) (enumerate_from c (cut sp.release xs sp.component a b))
+components_in sp xs element c a b =
+    map (component_in sp.release xs element) (enumerate_from c (cut sp.release xs sp.component a b))
 
 -- all components of an element that is this stretch of the segment, by its number
 abbrev pub element_in : Separators → List ℕ → ℕ × Stretch → List PlacedComponent
 element_in sp xs p = components_in sp xs p.0 1 p.1.from p.1.to
 
--- every component of a segment, empty ones too, in order: the tag field is element 0, and components are numbered from 1 in each element
+-- every component of a segment, empty ones too, in order: the tag field is element 0,
+-- and components are numbered from 1 in each element
 unfoldable pub fields_of : Separators → List ℕ → List PlacedComponent
 fields_of sp xs = flat_map (element_in sp xs) (enumerate_from 0 (cut sp.release xs sp.element 0 (length xs)))
 
@@ -91,8 +95,10 @@ IsInOrder n (e ∷ es) = (n ≤ e.element) × IsInOrder e.element es
 
 -- the value of a component, where it is written
 abbrev pub octets_at : ℕ → ℕ → List Component → Option (List ℕ)
-octets_at element component es = option_map (λ e. e.octets) (find (λ e. e.element == element && e.component == component) es)
+octets_at element component es =
+    option_map (λ e. e.octets) (find (λ e. e.element == element && e.component == component) es)
 
 -- the place of a component, where it is written
 abbrev pub place_at : ℕ → ℕ → List PlacedComponent → Option Stretch
-place_at element component fs = option_map (λ f. f.place) (find (λ f. f.element == element && f.component == component) fs)
+place_at element component fs =
+    option_map (λ f. f.place) (find (λ f. f.element == element && f.component == component) fs)

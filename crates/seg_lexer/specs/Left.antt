@@ -9,11 +9,17 @@ use Rattle.seg_lexer.specs.declared.components.Fields.{Fields}
 
 -- a component, with its place in the text
 abbrev pub placed_in : {O : Type 0} {o : Ghosts O} → ReadComponent O o → PlacedComponent
-placed_in p = record { element = p.element; component = p.component; place = span_of p.value; octets = octets_of p.value }
+placed_in p = record {
+  element = p.element;
+  component = p.component;
+  place = span_of p.value;
+  octets = octets_of p.value;
+}
 
 -- the components that are left, in order
 unfoldable pub fields_left : {O : Type 0} {o : Ghosts O} → Fields O o → List PlacedComponent
-fields_left {o = o} f = map (placed f.start) (rest_of f.separators (slice_range (o.octets f.text.now) f.start f.end) f.place)
+fields_left {o = o} f =
+    map (placed f.start) (rest_of f.separators (slice_range (o.octets f.text.now) f.start f.end) f.place)
 
 -- the same without their places
 abbrev pub components_left : {O : Type 0} {o : Ghosts O} → Fields O o → List Component

@@ -2,7 +2,7 @@
 use Rattle.std.specs.Prelude.{ℕ, ◌+◌, ◌≡◌, ◌≢◌, ◌≤◌, false, List, [], ◌∷◌, ◌++◌, length, Option, Some, None}
 use Rattle.std.specs.List.{enumerate_from, flat_map}
 use Rattle.std.specs.Option.{ForSome}
-use Rattle.seg_lexer.specs.Fields.{PlacedComponent, components_in, cut, element_in}
+use Rattle.seg_lexer.specs.Fields.{PlacedComponent, component_in, components_in, cut, element_in}
 use Rattle.seg_lexer.specs.Released.{is_released}
 use Rattle.seg_lexer.specs.Stretch.{Stretch}
 use Rattle.seg_lexer.specs.declared.components.Place.{Place}
@@ -12,16 +12,19 @@ use Rattle.seg_lexer.specs.declared.service.Separators.{Separators}
 abbrev pub AreApart : Separators → Type 0
 AreApart sp = ForSome sp.release (λ r. (sp.element ≢ r) × (sp.component ≢ r))
 
--- from component c of an element on: the components of the first of these stretches, which belongs to that element, and those of the later elements
+-- from component c of an element on: the components of the first of these stretches, which belongs to that element,
+-- and those of the later elements
 abbrev pub fields_after : Separators → List ℕ → ℕ → List (ℕ × Stretch) → List PlacedComponent
 fields_after sp xs c [] = []
 fields_after sp xs c (p ∷ ps) = components_in sp xs p.0 c p.1.from p.1.to ++ flat_map (element_in sp xs) ps
 
 -- the components of a segment from component c of an element on, which begins at place a
 unfoldable pub fields_from : Separators → List ℕ → ℕ → ℕ → ℕ → List PlacedComponent
-fields_from sp xs element c a = fields_after sp xs c (enumerate_from element (cut sp.release xs sp.element a (length xs)))
+fields_from sp xs element c a =
+    fields_after sp xs c (enumerate_from element (cut sp.release xs sp.element a (length xs)))
 
--- a component may begin there: no octet of the segment releases the one there, and its numbers are no greater than its place allows
+-- a component may begin there: no octet of the segment releases the one there,
+-- and its numbers are no greater than its place allows
 pub record IsPlace (release : Option ℕ) (xs : List ℕ) (p : Place) : Type 0 where
   pub within : p.at ≤ length xs
   pub element : p.element ≤ p.at
@@ -32,3 +35,11 @@ pub record IsPlace (release : Option ℕ) (xs : List ℕ) (p : Place) : Type 0 w
 abbrev pub rest_of : Separators → List ℕ → Option Place → List PlacedComponent
 rest_of sp xs None = []
 rest_of sp xs (Some p) = fields_from sp xs p.element p.component p.at
+
+-- the component that begins at a place and ends before place `stop` of the segment
+abbrev pub component_to : Option ℕ → List ℕ → Place → ℕ → PlacedComponent
+component_to release xs p stop = component_in release xs p.element (p.component, record { from = p.at; to = stop })
+
+-- the component whose numbers a place has, where it stands in the text, and its value
+abbrev pub placed_at : Place → Stretch → List ℕ → PlacedComponent
+placed_at p place octets = record { element = p.element; component = p.component; place = place; octets = octets }

@@ -27,7 +27,8 @@ released_after release b (x ∷ xs) = released_after release (releases release b
 
 -- place k of a part is sought, and isn't released where the part's first octet is (b) or isn't
 abbrev pub is_free_in : Option ℕ → Sought → Bool → List ℕ → ℕ → Bool
-is_free_in release sought b part k = is_sought sought (slice_index part k) && not (released_after release b (take k part))
+is_free_in release sought b part k =
+    is_sought sought (slice_index part k) && not (released_after release b (take k part))
 
 abbrev pub IsFreeIn : Option ℕ → Sought → Bool → List ℕ → ℕ → Type 0
 IsFreeIn release sought b part k = is_free_in release sought b part k ≡ true

@@ -31,7 +31,8 @@ is_break x = x == 13 || x == 10
 unfoldable pub lead : List ℕ → ℕ → ℕ → ℕ
 lead text a b = a + prefix_len is_break (slice_range text a b)
 
--- the segment between a boundary and the next end: the stretch from its first octet that is neither CR nor LF to its terminator
+-- the segment between a boundary and the next end: the stretch from its first octet that is neither CR nor LF
+-- to its terminator
 abbrev pub segment_in : List ℕ → ℕ × ℕ → Stretch
 segment_in text p = record { from = lead text p.0 p.1; to = p.1 }
 

@@ -1,8 +1,8 @@
 //! The components of a segment, one after another.
 ghost use Rattle.std.specs.Prelude.{Some, ⊤, ◌≡◌, ◌∷◌, ◌+◌, ◌-◌, ◌^◌, ◌<◌, ◌≤◌, length, slice_range};
 ghost use Rattle.std.specs.Option.{ForSome};
-ghost use Rattle.seg_lexer.specs.Fields.{component_in, separators_of};
-ghost use Rattle.seg_lexer.specs.Place.{AreApart, IsPlace, rest_of};
+ghost use Rattle.seg_lexer.specs.Fields.{separators_of};
+ghost use Rattle.seg_lexer.specs.Place.{AreApart, IsPlace, component_to, rest_of};
 ghost use Rattle.seg_lexer.specs.declared.TheConstants.{LONGEST_TEXT};
 
 use crate::scan::{Sought, find_free};
@@ -44,7 +44,8 @@ impl Place {
     /// The next component of the same element.
     fn next_component(&self, at: usize) -> Place
         requires { self.now.component + 1 < 2 ^ 32 }
-        ensures { result ≡ record { at = at; element = self.now.element; component = self.now.component + 1 } }
+        ensures { result
+            ≡ record { at = at; element = self.now.element; component = self.now.component + 1 } }
     {
         Place {
             at,
@@ -81,7 +82,8 @@ pub struct Fields<'a, O: Octets> {
     ghost ordered: { start ≤ end },
     ghost within: { end ≤ length (O.octets text.now) },
     ghost short: { length (O.octets text.now) ≤ LONGEST_TEXT },
-    ghost here: { ForSome place (IsPlace separators.release (slice_range (O.octets text.now) start end)) },
+    ghost here: { let segment = slice_range (O.octets text.now) start end in
+        ForSome place (IsPlace separators.release segment) },
 }
 
 impl<O: Octets> Clone for Fields<'_, O> {
@@ -97,9 +99,12 @@ impl<O: Octets> Clone for Fields<'_, O> {
 impl<O: Octets> Copy for Fields<'_, O> {}
 
 impl<'a, O: Octets> Fields<'a, O> {
+    ghost use Rattle.std.specs.Iterator.{YieldsFirstBy};
     ghost use Rattle.std.specs.Option.{option_map};
     ghost use Rattle.seg_lexer.specs.Fields.{fields_at, octets_at, place_at};
     ghost use Rattle.seg_lexer.specs.Left.{components_left, fields_left};
+    ghost use Rattle.seg_lexer.specs.Place.{placed_at};
+    ghost use Rattle.seg_lexer.specs.Tag.{past_tag_field, tag_field};
     ghost use Rattle.seg_lexer.specs.Value.{octets_of, span_of};
 
     /// The components of the segment `start..end` of a text.
@@ -121,8 +126,10 @@ impl<'a, O: Octets> Fields<'a, O> {
 
     /// The value of a component, if it is among those that are left.
     pub fn value_at(self, element: u32, component: u32) -> Option<Value<'a, O>>
-        ensures octets { option_map octets_of result ≡ octets_at element component (components_left self.entry) }
-        ensures place { option_map span_of result ≡ place_at element component (fields_left self.entry) }
+        ensures octets { option_map octets_of result
+            ≡ octets_at element component (components_left self.entry) }
+        ensures place { option_map span_of result
+            ≡ place_at element component (fields_left self.entry) }
     {
         for found in self {
             if found.element == element && found.component == component {
@@ -132,14 +139,46 @@ impl<'a, O: Octets> Fields<'a, O> {
         None
     }
 
+    /// Takes the value of the component that is next, if it belongs to the tag field.
+    pub(crate) fn take_tag_value(&mut self) -> Option<Value<'a, O>>
+        ensures value { YieldsFirstBy octets_of (λ f. tag_field (components_left f))
+            self.old result self.new }
+        ensures elements { past_tag_field (fields_left self.new)
+            ≡ past_tag_field (fields_left self.old) }
+    {
+        let place = self.place?;
+        if place.element > 0 {
+            return None;
+        }
+        Some(self.take(place))
+    }
+
+    /// Takes the value of the component that is next, and whose place is this.
+    #[tactic(auto, unfolding(crate::specs::Left::fields_left))]
+    fn take(&mut self, place: Place) -> Value<'a, O>
+        requires { self.old.place ≡ Some place }
+        ensures { fields_left self.old
+            ≡ placed_at place (span_of result) (octets_of result) ∷ fields_left self.new }
+    {
+        let cut = self.cut(place);
+        self.place = cut.next;
+        Value::new(
+            self.text,
+            self.separators.release,
+            self.start + place.at,
+            self.start + cut.stop,
+        )
+    }
+
     /// Cuts off the component that is next.
     fn cut(&self, place: Place) -> Cut
         requires { self.now.place ≡ Some place }
         ensures stop { (place.at ≤ result.stop) × (result.stop ≤ self.now.end - self.now.start) }
-        ensures next { ForSome result.next (IsPlace self.now.separators.release (slice_range (O.octets self.now.text.now) self.now.start self.now.end)) }
+        ensures next { let xs = slice_range (O.octets self.now.text.now) self.now.start self.now.end in
+            ForSome result.next (IsPlace self.now.separators.release xs) }
         ensures rest { let xs = slice_range (O.octets self.now.text.now) self.now.start self.now.end in
             rest_of self.now.separators xs (Some place)
-            ≡ component_in self.now.separators.release xs place.element (place.component, record { from = place.at; to = result.stop })
+            ≡ component_to self.now.separators.release xs place result.stop
             ∷ rest_of self.now.separators xs result.next }
     {
         let from = self.start + place.at;
@@ -184,17 +223,10 @@ impl<'a, O: Octets> Iterator for Fields<'a, O> {
     #[tactic(auto, unfolding(crate::specs::Left::fields_left))]
     fn next(&mut self) -> Option<Component<'a, O>> {
         let place = self.place?;
-        let cut = self.cut(place);
-        self.place = cut.next;
         Some(Component {
             element: place.element,
             component: place.component,
-            value: Value::new(
-                self.text,
-                self.separators.release,
-                self.start + place.at,
-                self.start + cut.stop,
-            ),
+            value: self.take(place),
         })
     }
 }

@@ -70,7 +70,8 @@ fn opening_context<O: Octets>(text: &O, service: &Service, start: usize, end: us
     requires short { length (O.octets text.now) ≤ LONGEST_TEXT }
     requires ordered { start ≤ end }
     requires within { end ≤ length (O.octets text.now) }
-    ensures { result ≡ context_in service.now (opening_in (components_at service.now (O.octets text.now) start end)) }
+    ensures { let components = components_at service.now (O.octets text.now) start end in
+        result ≡ context_in service.now (opening_in components) }
 {
     if read_tag(text, service, start, end) != Some(UNB) {
         return unopened_context(service);

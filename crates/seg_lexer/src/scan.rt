@@ -35,8 +35,9 @@ pub fn find_free<O: Octets>(
     requires ordered { from ≤ end }
     requires within { end ≤ length (O.octets text.now) }
     requires short { length (O.octets text.now) ≤ LONGEST_TEXT }
-    ensures first { MatchOption result (Nowhere (IsFree release sought (O.octets text.now) from) from end)
-        (λ f. NoneBefore (IsFree release sought (O.octets text.now) from) from end f.place × IsFree release sought (O.octets text.now) from f.place) }
+    ensures first { let IsHere = IsFree release sought (O.octets text.now) from in
+        MatchOption result (Nowhere IsHere from end)
+        (λ f. NoneBefore IsHere from end f.place × IsHere f.place) }
     ensures octet { IfSome result (λ f. f.octet ≡ slice_index (O.octets text.now) f.place) }
 {
     let mut at = from;

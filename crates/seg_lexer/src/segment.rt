@@ -35,7 +35,8 @@ pub fn next_segment<O: Octets, L: Ledger>(
     requires usable { IsUsable service.now (O.octets text.now) }
     requires short { length (O.octets text.now) ≤ LONGEST_TEXT }
     requires boundary { IsBoundary service.now (O.octets text.now) from }
-    ensures lexed { (k : ℕ) → slice_get (boundaries_of service.now (O.octets text.now)) k ≡ Some from
+    ensures lexed { (k : ℕ)
+        → slice_get (boundaries_of service.now (O.octets text.now)) k ≡ Some from
         → IsLexed service.now (O.octets text.now) k from result }
     ensures counted { lexed.new ≡ lexed.old + 1 }
 {
@@ -58,8 +59,8 @@ pub fn next_segment<O: Octets, L: Ledger>(
     }
 }
 
-/// The components of the segment `start..end`, in order, empty ones too: those of the tag field, which is element 0, and
-/// then those of each element.
+/// The components of the segment `start..end`, in order, empty ones too: those of the tag field, which is element 0,
+/// and then those of each element.
 pub fn fields<'a, O: Octets>(
     text: &'a O,
     service: &Service,
@@ -71,7 +72,8 @@ pub fn fields<'a, O: Octets>(
     requires ordered { start ≤ end }
     requires within { end ≤ length (O.octets text.now) }
     ensures fields { fields_left result ≡ fields_at service.now (O.octets text.now) start end }
-    ensures components { components_left result ≡ components_at service.now (O.octets text.now) start end }
+    ensures components { components_left result
+        ≡ components_at service.now (O.octets text.now) start end }
     ensures in_order { IsInOrder 0 (components_left result) }
     ensures few { length (fields_left result) ≤ end - start + 1 }
 {

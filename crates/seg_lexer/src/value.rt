@@ -165,7 +165,8 @@ impl<O: Octets> Iterator for ValueOctets<'_, O> {
 
 /// The next octet of a value: the next one that is written, or the one after it where that is a release character.
 fn next_kept<O: Octets>(written: &mut StretchOctets<'_, O>, release: Option<u8>) -> Option<u8>
-    ensures { YieldsFirst (λ rest. rest) (value_of release written.old) result (value_of release written.new) }
+    ensures { let left = value_of release written.new in
+        YieldsFirst (λ rest. rest) (value_of release written.old) result left }
 {
     let octet = written.next()?;
     if is_release(release, octet) {

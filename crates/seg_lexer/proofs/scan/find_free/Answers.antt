@@ -1,4 +1,4 @@
-use Rattle.std.proofs.Common.{ℕ, length, sym, ◌∙◌, arith}
+use Rattle.std.proofs.Common.{ℕ, length, sym, arith}
 use Rattle.seg_lexer.proofs.ReleasedLemmas.{is_released-start}
 use Rattle.seg_lexer.proofs.ScanLemmas.{Carries, carried-on, found-in, none-in}
 use Rattle.seg_lexer.proofs.scan.find_free.Goals as goal

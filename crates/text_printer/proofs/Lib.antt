@@ -1,2 +1,2 @@
 mod LinesLemmas
-mod TagFieldLemmas
+mod ValuesLemmas

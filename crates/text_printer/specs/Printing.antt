@@ -17,15 +17,18 @@ abbrev pub tag_shown : Option (List ℕ) → List ℕ
 tag_shown None = codes "---"
 tag_shown (Some tag) = tag
 
--- a shown octet: itself from 32 to 126, except the backslash; any other is a backslash and two lower-case hexadecimal digits
+-- a shown octet: itself from 32 to 126, except the backslash;
+-- any other is a backslash and two lower-case hexadecimal digits
 abbrev pub octet_shown : ℕ → List ℕ
 octet_shown x =
-    if nat_le 32 x && nat_le x 126 && not (x == 92) then x ∷ [] else 92 ∷ digit_glyph false (x / 16) ∷ digit_glyph false (x % 16) ∷ []
+    if nat_le 32 x && nat_le x 126 && not (x == 92) then x ∷ []
+    else 92 ∷ digit_glyph false (x / 16) ∷ digit_glyph false (x % 16) ∷ []
 
 -- the line of a component: two spaces, its element, its number and its value
 unfoldable pub value_line : Component → List ℕ
 value_line e =
-    codes "  " ++ decimal e.element ++ codes " " ++ decimal e.component ++ codes " " ++ flat_map octet_shown e.octets ++ 10 ∷ []
+    codes "  " ++ decimal e.element ++ codes " " ++ decimal e.component ++ codes " "
+    ++ flat_map octet_shown e.octets ++ 10 ∷ []
 
 -- components that are printed: those that aren't empty, the tag field left out
 abbrev pub is_printed : Component → Bool
@@ -64,7 +67,8 @@ segment_lines Values service text k p =
 -- what is printed of segments, numbered from k
 abbrev pub segments_from : Detail → Service → List ℕ → ℕ → List Stretch → List ℕ
 segments_from detail service text k [] = []
-segments_from detail service text k (p ∷ ps) = segment_lines detail service text k p ++ segments_from detail service text (k + 1) ps
+segments_from detail service text k (p ∷ ps) =
+    segment_lines detail service text k p ++ segments_from detail service text (k + 1) ps
 
 -- the line of a tail: its first octet and its length
 abbrev pub tail_line : List ℕ → Option ℕ → List ℕ
@@ -79,4 +83,6 @@ count_line n = codes "segments " ++ decimal n ++ 10 ∷ []
 unfoldable pub printed_text : Detail → List ℕ → List ℕ
 printed_text detail text =
     let service = service_of text in
-    count_line (length (segments_of service text)) ++ segments_from detail service text 1 (segments_of service text) ++ tail_line text (tail_of service text)
+    count_line (length (segments_of service text))
+    ++ segments_from detail service text 1 (segments_of service text)
+    ++ tail_line text (tail_of service text)

@@ -2,7 +2,6 @@
 #![tactic(auto)]
 
 mod segment_line;
-mod tag_field;
 mod text;
 mod value_lines;
 

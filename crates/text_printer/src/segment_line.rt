@@ -14,7 +14,8 @@ pub fn put_places(
     start: usize,
     end: usize,
 ) -> Result<(), AllocError>
-    ensures { OnOk result (lines.new ≡ lines.old ++ places_shown number (record { from = start; to = end })) }
+    ensures { OnOk result (lines.new
+        ≡ lines.old ++ places_shown number (record { from = start; to = end })) }
 {
     put_decimal(lines, number)?;
     lines.add(b" ")?;

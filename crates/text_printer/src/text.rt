@@ -63,9 +63,11 @@ fn list_segments<L: Ledger>(
     requires name { blank.name ≡ L.name }
     requires parts { blank.parts ≡ L.parts }
     requires some { 0 < blank.parts }
-    ensures count { IfOk result (λ l. l.0 ≡ length (segments_of (service_of text.now.octets.now) text.now.octets.now)) }
-    ensures lines { IfOk result (λ l. let octets = text.now.octets.now in let service = service_of octets in
-        l.1 ≡ segments_from detail service octets 1 (segments_of service octets) ++ tail_line octets (tail_of service octets)) }
+    ensures count { let octets = text.now.octets.now in
+        IfOk result (λ l. l.0 ≡ length (segments_of (service_of octets) octets)) }
+    ensures lines { let octets = text.now.octets.now in let service = service_of octets in
+        IfOk result (λ l. l.1 ≡ segments_from detail service octets 1 (segments_of service octets)
+            ++ tail_line octets (tail_of service octets)) }
 {
     let mut lexed = Steps::<L>::start(blank);
     let service = read_service(text);
@@ -115,7 +117,8 @@ fn put_segment(
     requires ordered { start ≤ end }
     requires within { end ≤ length text.now.octets.now }
     requires short { length text.now.octets.now ≤ 4194304 }
-    ensures { OnOk result (lines.new ≡ lines.old ++ segment_lines detail service.now text.now.octets.now number (record { from = start; to = end })) }
+    ensures { let segment = segment_lines detail service.now text.now.octets.now number in
+        OnOk result (lines.new ≡ lines.old ++ segment (record { from = start; to = end })) }
 {
     put_places(lines, number, start, end)?;
     match detail {

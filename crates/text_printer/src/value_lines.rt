@@ -2,15 +2,13 @@
 ghost use Rattle.std.specs.Prelude.{◌≡◌, ◌++◌, ◌<◌, OnOk, false};
 ghost use Rattle.std.specs.List.{flat_map};
 ghost use Rattle.std.specs.Fmt.{digit_glyph};
-ghost use Rattle.seg_lexer.specs.Fields.{IsInOrder, unplaced};
+ghost use Rattle.seg_lexer.specs.Fields.{unplaced};
 ghost use Rattle.seg_lexer.specs.Left.{components_left, placed_in};
+ghost use Rattle.seg_lexer.specs.Tag.{tag_of};
 ghost use Rattle.seg_lexer.specs.Value.{octets_of};
-ghost use Rattle.text_printer.specs.Printing.{value_line, component_line, octet_shown};
-ghost use Rattle.text_printer.specs.TagField.{left_of, pending};
-ghost use Rattle.text_printer.specs.declared.tag_field.TagField.TheVariants.{Unread};
+ghost use Rattle.text_printer.specs.Printing.{component_line, octet_shown, tag_end, value_line, value_lines};
 
 use crate::segment_line::put_tag;
-use crate::tag_field::TagField;
 use edi_octets::{Octets, put_decimal};
 use edi_tables::Chunk;
 use seg_lexer::{Component, Fields, Value};
@@ -21,31 +19,15 @@ pub fn put_tag_and_values<O: Octets>(
     lines: &mut Chunk,
     components: Fields<'_, O>,
 ) -> Result<(), AllocError>
-    requires { IsInOrder 0 (components_left components) }
-    ensures { OnOk result (lines.new ≡ lines.old ++ left_of Unread (components_left components.entry)) }
+    ensures { let components = components_left components.entry in
+        OnOk result (lines.new ≡ lines.old ++ tag_end (tag_of components) ++ value_lines components) }
 {
-    let mut tag_field = TagField::Unread;
+    let mut components = components;
+    put_tag(lines, components.take_tag())?;
     for component in components {
-        if component.element == 0 {
-            tag_field = tag_field.after(&component.value);
-        } else {
-            put_read_tag(lines, tag_field)?;
-            tag_field = TagField::Put;
-            put_component(lines, &component)?;
-        }
+        put_component(lines, &component)?;
     }
-    put_read_tag(lines, tag_field)
-}
-
-// The tag that was read, unless it is there already.
-fn put_read_tag(lines: &mut Chunk, tag_field: TagField) -> Result<(), AllocError>
-    ensures { OnOk result (lines.new ≡ lines.old ++ pending tag_field) }
-{
-    match tag_field {
-        TagField::Unread => put_tag(lines, None),
-        TagField::Read(tag) => put_tag(lines, tag),
-        TagField::Put => Ok(()),
-    }
+    Ok(())
 }
 
 // The line of a component after the tag field, if it is printed.
@@ -54,7 +36,8 @@ fn put_component<O: Octets>(
     component: &Component<'_, O>,
 ) -> Result<(), AllocError>
     requires { 0 < component.now.element }
-    ensures { OnOk result (lines.new ≡ lines.old ++ component_line (unplaced (placed_in component.now))) }
+    ensures { OnOk result (lines.new
+        ≡ lines.old ++ component_line (unplaced (placed_in component.now))) }
 {
     if component.value.is_empty() {
         return Ok(());
@@ -64,7 +47,8 @@ fn put_component<O: Octets>(
 
 #[tactic(auto, unfolding(crate::specs::Printing::value_line))]
 fn put_value<O: Octets>(lines: &mut Chunk, component: &Component<'_, O>) -> Result<(), AllocError>
-    ensures { OnOk result (lines.new ≡ lines.old ++ value_line (unplaced (placed_in component.now))) }
+    ensures { OnOk result (lines.new
+        ≡ lines.old ++ value_line (unplaced (placed_in component.now))) }
 {
     lines.add(b"  ")?;
     put_decimal(lines, u64::from(component.element))?;
@@ -77,7 +61,8 @@ fn put_value<O: Octets>(lines: &mut Chunk, component: &Component<'_, O>) -> Resu
 
 // The octets of a value, as they are shown.
 fn put_octets<O: Octets>(lines: &mut Chunk, value: &Value<'_, O>) -> Result<(), AllocError>
-    ensures { OnOk result (lines.new ≡ lines.old ++ flat_map octet_shown (octets_of value.now)) }
+    ensures { OnOk result (lines.new
+        ≡ lines.old ++ flat_map octet_shown (octets_of value.now)) }
 {
     for octet in value.octets() {
         put_shown(lines, octet)?;
@@ -85,7 +70,8 @@ fn put_octets<O: Octets>(lines: &mut Chunk, value: &Value<'_, O>) -> Result<(), 
     Ok(())
 }
 
-// An octet as it is shown: itself from 32 to 126 except the backslash, any other is a backslash and two hexadecimal digits.
+// An octet as it is shown: itself from 32 to 126 except the backslash, any other is a backslash and two hexadecimal
+// digits.
 fn put_shown(lines: &mut Chunk, octet: u8) -> Result<(), AllocError>
     ensures { OnOk result (lines.new ≡ lines.old ++ octet_shown octet) }
 {

@@ -1,9 +1,10 @@
 -- The lines of segments, one after another.
-use Rattle.std.proofs.Common.{◌≡◌, ◌+◌, ◌++◌, ◌<◌, ℕ, suc, List, [], ◌∷◌, length, drop, Some, sym, ap, ◌∙◌, subst, arith, add-one, drop-cons}
+use Rattle.std.proofs.Common.{◌≡◌, ◌+◌, ◌++◌, ◌<◌, ℕ, List, [], length, drop, Some, sym, ap, ◌∙◌, subst, arith}
 use Rattle.std.proofs.lemmas.Bool.{ltb-true}
 use Rattle.std.proofs.lemmas.List.{append_assoc, append-nil, drop_all}
-use Rattle.std.proofs.lemmas.Option.{cond_some, slice_get_within, get_or_from_slice_get}
+use Rattle.std.proofs.lemmas.Option.{cond_some}
 use Rattle.std.specs.List.{slice_get}
+use Rattle.edi_octets.proofs.PlaceLemmas.{drop_here}
 use Rattle.seg_lexer.specs.Stretch.{Stretch}
 use Rattle.seg_lexer.specs.declared.service.Service.{Service}
 use Rattle.seg_lexer.specs.Segments.{segments_of, tail_of}
@@ -11,16 +12,10 @@ use Rattle.seg_lexer.specs.Service.{service_of}
 use Rattle.text_printer.specs.declared.text.Detail.{Detail}
 use Rattle.text_printer.specs.Printing.{printed_text, segments_from, segment_lines, count_line, tail_line}
 
--- the list from place k on begins with what stands there
-pub drop_at : {A : Type 0} (xs : List A) (k : ℕ) (x : A) → slice_get xs k ≡ Some x → drop k xs ≡ x ∷ drop (k + 1) xs
-drop_at xs k x is =
-    let within : k < length xs = slice_get_within xs k x is in
-    rw (add-one, drop-cons xs k x) (ap (λ y. y ∷ drop (suc k) xs) (get_or_from_slice_get xs k x x is))
-
 -- after the lines of the first k segments come those of the next one
 pub lines_next : (detail : Detail) (service : Service) (text : List ℕ) (segments : List Stretch) (k : ℕ) (p : Stretch) (before after all : List ℕ) → slice_get segments k ≡ Some p → before ++ segments_from detail service text (k + 1) (drop k segments) ≡ all → after ≡ before ++ segment_lines detail service text (k + 1) p → after ++ segments_from detail service text (k + 1 + 1) (drop (k + 1) segments) ≡ all
 lines_next detail service text segments k p before after all is so_far next =
-    rw next (append_assoc before (segment_lines detail service text (k + 1) p) (segments_from detail service text (k + 1 + 1) (drop (k + 1) segments)) ∙ sym (ap (λ (xs : List Stretch). before ++ segments_from detail service text (k + 1) xs) (drop_at segments k p is)) ∙ so_far)
+    rw next (append_assoc before (segment_lines detail service text (k + 1) p) (segments_from detail service text (k + 1 + 1) (drop (k + 1) segments)) ∙ sym (ap (λ (xs : List Stretch). before ++ segments_from detail service text (k + 1) xs) (drop_here segments k p is)) ∙ so_far)
 
 -- after the last segment no lines come
 pub lines_last : (detail : Detail) (service : Service) (text : List ℕ) (segments : List Stretch) (k : ℕ) (lines all : List ℕ) → length segments ≡ k → lines ++ segments_from detail service text (k + 1) (drop k segments) ≡ all → lines ≡ all

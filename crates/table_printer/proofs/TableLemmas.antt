@@ -1,11 +1,12 @@
 -- The lines of tables, one after another.
-use Rattle.std.proofs.Common.{◌≡◌, ◌+◌, ◌++◌, ◌<◌, ◌≤◌, ℕ, List, [], ◌∷◌, Option, length, take, drop, map, get_or, Some, refl, sym, ap, ◌∙◌, arith, add-one, drop-cons, suc}
+use Rattle.std.proofs.Common.{◌≡◌, ◌+◌, ◌++◌, ◌<◌, ◌≤◌, ℕ, List, [], ◌∷◌, Option, length, take, drop, map, get_or, Some, refl, sym, ap, ◌∙◌, arith, add-one}
 use Rattle.std.proofs.lemmas.Bool.{lt-ltb}
 use Rattle.std.proofs.lemmas.Grind.{flat_map-append}
 use Rattle.std.proofs.lemmas.List.{append_assoc, append-nil, map_push, drop_all, take_all, take_more, length-map, length-take-le}
-use Rattle.std.proofs.lemmas.Option.{get_or_from_slice_get, slice_get-get_or, slice_get-map, slice_get_within}
+use Rattle.std.proofs.lemmas.Option.{slice_get-get_or, slice_get-map}
 use Rattle.std.specs.List.{slice_get, flat_map, join_with_byte}
 use Rattle.std.specs.Option.{option_map}
+use Rattle.edi_octets.proofs.PlaceLemmas.{drop_here}
 use Rattle.edi_tables.specs.declared.segment.TableRow.{TableRow}
 use Rattle.edi_tables.specs.declared.segment.MessageDef.{MessageDef}
 use Rattle.edi_tables.specs.Rows.{nodes_of}
@@ -13,12 +14,6 @@ use Rattle.edi_tables.specs.Collisions.{Collision, collisions_of}
 use Rattle.dir_compile.specs.declared.parts.Parts.{Parts}
 use Rattle.dir_compile.specs.Directory.{tables_of}
 use Rattle.table_printer.specs.Tables.{gap, node_line, node_lines_from, table_text, message_text, labels_line, tables_text}
-
--- the list from place k on begins with what is there
-drop_at : {A : Type 0} (xs : List A) (k : ℕ) (x : A) → slice_get xs k ≡ Some x → drop k xs ≡ x ∷ drop (k + 1) xs
-drop_at xs k x is =
-    let within : k < length xs = slice_get_within xs k x is in
-    rw (add-one, drop-cons xs k x) (ap (λ y. y ∷ drop (suc k) xs) (get_or_from_slice_get xs k x x is))
 
 -- a further member of a list that has one
 spaced_more : (y : List ℕ) (xs : List (List ℕ)) (x : List ℕ) → join_with_byte 32 (y ∷ (xs ++ x ∷ [])) ≡ join_with_byte 32 (y ∷ xs) ++ (32 ∷ x)
@@ -39,7 +34,7 @@ spaced_push (y ∷ xs) x i long =
 -- after the lines of the nodes so far come those of the next one
 pub nodes_next : (rows : List TableRow) (k : ℕ) (row : TableRow) (before after all : List ℕ) → slice_get rows k ≡ Some row → before ++ node_lines_from k (drop k rows) ≡ all → after ≡ before ++ node_line k row → after ++ node_lines_from (k + 1) (drop (k + 1) rows) ≡ all
 nodes_next rows k row before after all is so_far next =
-    rw next (append_assoc before (node_line k row) (node_lines_from (k + 1) (drop (k + 1) rows)) ∙ sym (ap (λ (xs : List TableRow). before ++ node_lines_from k xs) (drop_at rows k row is)) ∙ so_far)
+    rw next (append_assoc before (node_line k row) (node_lines_from (k + 1) (drop (k + 1) rows)) ∙ sym (ap (λ (xs : List TableRow). before ++ node_lines_from k xs) (drop_here rows k row is)) ∙ so_far)
 
 -- after the last node no lines come
 pub nodes_last : (rows : List TableRow) (k : ℕ) (lines all : List ℕ) → length rows ≤ k → lines ++ node_lines_from k (drop k rows) ≡ all → lines ≡ all

@@ -1,5 +1,5 @@
 -- Lists of faults: that there is none, and which is the first.
-use Rattle.std.proofs.Common.{◌≡◌, ℕ, ◌+◌, ◌<◌, Bool, true, false, not, List, [], ◌∷◌, ◌++◌, length, get_or, take, drop, Some, Result, Err, sym, ap, ◌∙◌, refl, subst}
+use Rattle.std.proofs.Common.{◌≡◌, ℕ, ◌+◌, ◌<◌, Bool, true, false, not, List, [], ◌∷◌, ◌++◌, length, get_or, slice_get, take, drop, Some, Result, Err, sym, ap, ◌∙◌, refl, subst}
 use Rattle.std.specs.List.{flat_map}
 use Rattle.std.proofs.lemmas.List.{take-append-drop, drop_more, take_more, append-nil}
 use Rattle.std.proofs.lemmas.List.Concat.{flat_map-append}
@@ -7,7 +7,7 @@ use Rattle.edi_tables.specs.Rows.{when}
 use Rattle.dir_compile.specs.declared.stop.CompileKind.{CompileKind}
 use Rattle.dir_compile.specs.declared.stop.CompileStop.{CompileStop}
 use Rattle.dir_compile.specs.declared.stop.CompileStop.TheVariants.{Fault, Memory}
-use Rattle.dir_compile.specs.Judges.{first_of, IsFirstFault, Judges}
+use Rattle.dir_compile.specs.Judges.{IsFirstFault, Judges}
 use Rattle.dir_compile.specs.Stop.{PartsFault, fault_with, IsStopAt}
 
 -- nothing in two lists together is nothing in each
@@ -28,19 +28,19 @@ when-nil true x e = cc
 when-nil false x e = refl
 
 -- the first of two lists together
-pub first_of-left : {A : Type 0} (xs ys : List A) (x : A) → first_of xs ≡ Some x → first_of (xs ++ ys) ≡ Some x
-first_of-left [] ys x e = cc
-first_of-left (z ∷ xs) ys x e = e
+first-append : {A : Type 0} (xs ys : List A) (x : A) → slice_get xs 0 ≡ Some x → slice_get (xs ++ ys) 0 ≡ Some x
+first-append [] ys x e = cc
+first-append (z ∷ xs) ys x e = e
 
 pub first-left : (stop : CompileStop) (xs ys : List PartsFault) → IsFirstFault stop xs → IsFirstFault stop (xs ++ ys)
-first-left (Fault kind name) xs ys h = first_of-left xs ys (fault_with kind name) h
+first-left (Fault kind name) xs ys h = first-append xs ys (fault_with kind name) h
 first-left Memory xs ys h = tt
 
 pub first-right : (stop : CompileStop) (xs ys : List PartsFault) → xs ≡ [] → IsFirstFault stop ys → IsFirstFault stop (xs ++ ys)
 first-right stop xs ys e h = subst (λ l. IsFirstFault stop (l ++ ys)) (sym e) h
 
 -- a stop at a kind and a name is the first of faults that begin with them
-pub first-stop : (stop : CompileStop) (kind : CompileKind) (name : List ℕ) (xs : List PartsFault) → IsStopAt kind name stop → first_of xs ≡ Some (fault_with kind name) → IsFirstFault stop xs
+pub first-stop : (stop : CompileStop) (kind : CompileKind) (name : List ℕ) (xs : List PartsFault) → IsStopAt kind name stop → slice_get xs 0 ≡ Some (fault_with kind name) → IsFirstFault stop xs
 first-stop (Fault k n) kind name xs h e = e ∙ (λ i. Some (fault_with (sym h.0 i) (sym h.1 i)))
 first-stop Memory kind name xs h e = tt
 
@@ -82,7 +82,7 @@ when-held broken x e = ap (λ b. when b x) e
 
 pub first-when : (stop : CompileStop) (broken : Bool) (kind : CompileKind) (name : List ℕ) → broken ≡ true → IsStopAt kind name stop → IsFirstFault stop (when broken (fault_with kind name))
 first-when stop broken kind name e at =
-    first-stop stop kind name (when broken (fault_with kind name)) at (ap (λ b. first_of (when b (fault_with kind name))) e)
+    first-stop stop kind name (when broken (fault_with kind name)) at (ap (λ b. slice_get (when b (fault_with kind name)) 0) e)
 
 -- `not` of a test that is known
 pub not-at : (b c : Bool) → c ≡ b → not b ≡ not c
@@ -106,3 +106,7 @@ judges_there_at f r stop told xs i d lt before first is same =
 -- a stop that is handed on
 pub judges-stop : {T : Type 0} (r : Result T CompileStop) (stop told : CompileStop) (xs : List PartsFault) → r ≡ Err stop → stop ≡ told → IsFirstFault told xs → Judges r xs
 judges-stop r stop told xs is same first = subst (λ s. Judges s xs) (sym (is ∙ ap Err same)) first
+
+-- the last judge of several
+pub judges-last : {T : Type 0} (r : Result T CompileStop) (xs ys : List PartsFault) → xs ≡ [] → Judges r ys → Judges r (xs ++ ys)
+judges-last r xs ys none h = judges-same r ys (xs ++ ys) (ap (λ l. l ++ ys) (sym none)) h

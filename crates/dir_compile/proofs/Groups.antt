@@ -1,8 +1,10 @@
 -- The groups of faults of parts, one by one.
-use Rattle.std.proofs.Common.{◌≡◌, []}
+use Rattle.std.proofs.Common.{◌≡◌, [], ◌++◌, ◌∙◌, ap, sym}
+use Rattle.std.proofs.lemmas.List.{append_assoc}
 use Rattle.std.specs.List.{flat_map}
 use Rattle.dir_compile.specs.declared.parts.Parts.{Parts}
 use Rattle.dir_compile.specs.Compile.{twice_in, twice_faults, list_faults, composite_faults, segment_faults, message_faults, compile_faults, value_name, element_name, list_name, composite_name, segment_name, message_name}
+use Rattle.dir_compile.specs.Judges.{reference_faults}
 use Rattle.dir_compile.proofs.Faults.{nil-left, nil-right, nil-both}
 
 -- nothing stands twice
@@ -59,3 +61,14 @@ pub free-compile : (parts : Parts) → IsFaultFree parts → compile_faults part
 unfolding compile_faults
 free-compile parts f =
     nil-both _ _ (nil-both _ _ (nil-both _ _ (nil-both _ _ (free-twice parts f.twice) f.lists) f.composites) f.segments) f.messages
+
+-- names that come twice, and then references
+pub faults-apart : (parts : Parts) → twice_faults parts ++ reference_faults parts ≡ compile_faults parts
+unfolding compile_faults
+faults-apart parts =
+    let t = twice_faults parts in
+    let l = list_faults parts in
+    let k = composite_faults parts in
+    let s = segment_faults parts in
+    sym (append_assoc t (l ++ k ++ s) (message_faults parts))
+    ∙ ap (λ x. x ++ message_faults parts) (sym (append_assoc t (l ++ k) s) ∙ ap (λ x. x ++ s) (sym (append_assoc t l k)))

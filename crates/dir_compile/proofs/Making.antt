@@ -1,5 +1,5 @@
 -- What is answered of parts as a whole.
-use Rattle.std.proofs.Common.{◌≡◌, ℕ, suc, List, [], ◌∷◌, ◌++◌, length, ◌<◌, All, Some, None, slice_get, Result, Ok, Err, IfOk, IfErr, sym, ap, ◌∙◌, refl, subst, if◌then◌else◌, Bool, true, false}
+use Rattle.std.proofs.Common.{◌≡◌, ℕ, suc, List, [], ◌∷◌, length, ◌<◌, All, Some, None, slice_get, Result, Ok, Err, sym, ap, ◌∙◌, refl, subst, if◌then◌else◌, Bool, true, false}
 use Rattle.std.proofs.lemmas.Option.{same_Some}
 use Rattle.edi_tables.specs.Rows.{table_faults}
 use Rattle.dir_compile.specs.declared.parts.Parts.{Parts}
@@ -12,34 +12,17 @@ use Rattle.dir_compile.specs.Forms.{HasForms}
 use Rattle.dir_compile.specs.Compile.{compile_faults, message_fault, message_faults, is_filled_with, message_name}
 use Rattle.dir_compile.specs.Directory.{IsDirectory, directory_of}
 use Rattle.edi_tables.specs.First.{unless_faulty, Answers}
-use Rattle.dir_compile.specs.Judges.{first_of, IsFirstFault, Judges}
-use Rattle.dir_compile.specs.Stop.{PartsFault, fault_with, fault_in, IsMemory}
-use Rattle.dir_compile.proofs.Faults.{first-right, nil-both, nil-right, when-nil}
+use Rattle.dir_compile.specs.Judges.{IsFirstFault}
+use Rattle.dir_compile.specs.Stop.{PartsFault, fault_with, fault_in}
+use Rattle.dir_compile.proofs.Faults.{nil-right, when-nil}
 use Rattle.dir_compile.proofs.Members.{none-place}
 use Rattle.dir_compile.proofs.Groups.{fault-free}
 use Rattle.dir_compile.proofs.Lawful.{ordered-faultless, ordered-in-order}
 use Rattle.dir_compile.proofs.Formed.{forms-ordered}
 use Rattle.dir_compile.proofs.Orders.{ordered_parts-ordered}
 
--- a stop that tells the first of no faults is want of memory
-memory-alone : (stop : CompileStop) → IsFirstFault stop [] → IsMemory stop
-memory-alone (Fault kind name) h = cc
-memory-alone Memory h = tt
-
-pub memory-only : {T : Type 0} (r : Result T CompileStop) (stop told : CompileStop) (xs : List PartsFault) → r ≡ Err stop → stop ≡ told → xs ≡ [] → IsFirstFault told xs → IfErr r IsMemory
-memory-only r stop told xs is same none first =
-    subst (λ s. IfErr s IsMemory) (sym (is ∙ ap Err same)) (memory-alone told (subst (IsFirstFault told) none first))
-
-pub memory-on : {T : Type 0} (r : Result T CompileStop) (stop told : CompileStop) → r ≡ Err stop → stop ≡ told → IsMemory told → IfErr r IsMemory
-memory-on r stop told is same m = subst (λ s. IfErr s IsMemory) (sym (is ∙ ap Err same)) m
-
--- the last judge of several
-pub judges-last : {T : Type 0} (r : Result T CompileStop) (xs ys : List PartsFault) → xs ≡ [] → Judges r ys → Judges r (xs ++ ys)
-judges-last (Ok x) xs ys none h = nil-both xs ys none h
-judges-last (Err stop) xs ys none h = first-right stop xs ys none h
-
 -- parts that a stop is told of
-unless_faulty-err : {A : Type 0} (faults : List PartsFault) (x : A) (fault : PartsFault) → first_of faults ≡ Some fault → unless_faulty faults x ≡ Err fault
+unless_faulty-err : {A : Type 0} (faults : List PartsFault) (x : A) (fault : PartsFault) → slice_get faults 0 ≡ Some fault → unless_faulty faults x ≡ Err fault
 unless_faulty-err [] x fault h = cc
 unless_faulty-err (f ∷ faults) x fault h = ap Err (same_Some f fault h)
 
@@ -56,16 +39,13 @@ pub compiles-told : (r : Result Parts CompileStop) (stop told : CompileStop) (pa
 compiles-told r stop told parts is same h = subst (λ s. Compiles s parts) (sym (is ∙ ap Err same)) (compiles-stop told parts h)
 
 -- parts without fault, of which a directory was made
-pub compiles-of : (r : Result Parts CompileStop) (parts made : Parts) → compile_faults parts ≡ [] → made ≡ ordered_parts parts → IfOk r (λ d. d ≡ made) → IfErr r IsMemory → Compiles r parts
+pub compiles-of : (d parts : Parts) → compile_faults parts ≡ [] → d ≡ ordered_parts parts → Compiles (Ok d) parts
 unfolding directory_of
-compiles-of (Ok d) parts made none e h m = ap (λ f. unless_faulty f (ordered_parts parts)) none ∙ ap Ok (sym (h ∙ e))
-compiles-of (Err (Fault kind name)) parts made none e h m = absurd m
-compiles-of (Err Memory) parts made none e h m = tt
+compiles-of d parts none is = ap (λ f. unless_faulty f (ordered_parts parts)) none ∙ ap Ok (sym is)
 
-pub ordered-of : (r : Result Parts CompileStop) (parts made : Parts) → compile_faults parts ≡ [] → made ≡ ordered_parts parts → IfOk r (λ d. d ≡ made) → IfOk r (IsOrdered parts)
-ordered-of (Ok d) parts made none e h =
-    subst (IsOrdered parts) (sym (h ∙ e)) (ordered_parts-ordered parts (fault-free parts none).twice)
-ordered-of (Err stop) parts made none e h = tt
+pub ordered-of : (d parts : Parts) → compile_faults parts ≡ [] → d ≡ ordered_parts parts → IsOrdered parts d
+ordered-of d parts none is =
+    subst (IsOrdered parts) (sym is) (ordered_parts-ordered parts (fault-free parts none).twice)
 
 -- an ordered list is as long as the given one
 length-put : {A : Type 0} (name : A → List ℕ) (x : A) (ys : List A) → length (put_in_order name x ys) ≡ suc (length ys)

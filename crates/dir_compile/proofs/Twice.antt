@@ -1,5 +1,5 @@
 -- Names that stand twice.
-use Rattle.std.proofs.Common.{◌≡◌, ℕ, ◌+◌, ◌<◌, Bool, true, false, ◌||◌, List, [], ◌∷◌, ◌++◌, length, get_or, take, drop, map, Some, sym, ap, ◌∙◌, refl}
+use Rattle.std.proofs.Common.{◌≡◌, ℕ, ◌+◌, ◌<◌, Bool, true, false, ◌||◌, List, [], ◌∷◌, ◌++◌, length, get_or, slice_get, take, drop, map, Some, sym, ap, ◌∙◌, refl}
 use Rattle.std.specs.List.{flat_map, list_any}
 use Rattle.std.specs.Str.{bytes_eq}
 use Rattle.std.proofs.lemmas.List.{take_more, append-nil, append_assoc, map_push}
@@ -10,8 +10,7 @@ use Rattle.edi_tables.specs.Rows.{when}
 use Rattle.dir_compile.specs.declared.stop.CompileKind.TheVariants.{Twice}
 use Rattle.dir_compile.specs.Compile.{twice_in, value_name}
 use Rattle.dir_compile.specs.Stop.{PartsFault, fault_with}
-use Rattle.dir_compile.specs.Judges.{first_of}
-use Rattle.dir_compile.proofs.Faults.{nil-both, split_at}
+use Rattle.dir_compile.proofs.Faults.{nil-left, nil-right, nil-both, when-nil, split_at}
 
 -- the earlier members of two lists, one behind the other
 pub with_earlier_from-append : {A : Type 0} (earlier xs ys : List A) → with_earlier_from earlier (xs ++ ys) ≡ with_earlier_from earlier xs ++ with_earlier_from (earlier ++ xs) ys
@@ -40,14 +39,21 @@ twice_in-more name xs i d lt before apart =
     (append-nil (twice_fault name (front, x)) ∙ ap (λ b. when b (fault_with Twice (name x))) apart)
 
 -- the first that stands among those before it
-pub first_of-twice_in : {A : Type 0} (name : A → List ℕ) (xs : List A) (i : ℕ) (d : A) → i < length xs → twice_in name (take i xs) ≡ [] → list_any (λ x. bytes_eq (name x) (name (get_or xs i d))) (take i xs) ≡ true → first_of (twice_in name xs) ≡ Some (fault_with Twice (name (get_or xs i d)))
-first_of-twice_in name xs i d lt before there =
+pub first-twice_in : {A : Type 0} (name : A → List ℕ) (xs : List A) (i : ℕ) (d : A) → i < length xs → twice_in name (take i xs) ≡ [] → list_any (λ x. bytes_eq (name x) (name (get_or xs i d))) (take i xs) ≡ true → slice_get (twice_in name xs) 0 ≡ Some (fault_with Twice (name (get_or xs i d)))
+first-twice_in name xs i d lt before there =
     let x = get_or xs i d in
     let front = take i xs in
     let rest = flat_map (twice_fault name) (with_earlier_from (front ++ x ∷ []) (drop (i + 1) xs)) in
     let parts : twice_in name xs ≡ twice_in name front ++ (twice_fault name (front, x) ++ rest) =
     ap (twice_in name) (split_at xs i d lt) ∙ twice_in-middle name front x (drop (i + 1) xs) in
-    ap first_of parts ∙ ap (λ l. first_of (l ++ (twice_fault name (front, x) ++ rest))) before ∙ ap (λ b. first_of (when b (fault_with Twice (name x)) ++ rest)) there
+    ap (λ l. slice_get l 0) parts ∙ ap (λ l. slice_get (l ++ (twice_fault name (front, x) ++ rest)) 0) before
+    ∙ ap (λ b. slice_get (when b (fault_with Twice (name x)) ++ rest) 0) there
+
+-- where no name comes twice, that of a place isn't among those before it
+pub fresh-at : {A : Type 0} (name : A → List ℕ) (xs : List A) (i : ℕ) (d : A) → i < length xs → twice_in name xs ≡ [] → list_any (λ x. bytes_eq (name x) (name (get_or xs i d))) (take i xs) ≡ false
+fresh-at name xs i d lt none =
+    let parts = ap (twice_in name) (split_at xs i d lt) ∙ twice_in-middle name (take i xs) (get_or xs i d) (drop (i + 1) xs) in
+    when-nil _ _ (nil-left _ _ (nil-right (twice_in name (take i xs)) _ (sym parts ∙ none)))
 
 -- the test that a set makes
 pub list_any-flip : (xs : List (List ℕ)) (y : List ℕ) → list_any (bytes_eq y) xs ≡ list_any (λ x. bytes_eq x y) xs

@@ -44,13 +44,17 @@ value_name value = value
 
 -- names that stand among those before them
 abbrev pub twice_in : {A : Type 0} → (A → List ℕ) → List A → List PartsFault
-twice_in name xs = flat_map (λ p. when (list_any (λ x. bytes_eq (name x) (name p.1)) p.0) (fault_with Twice (name p.1))) (with_earlier xs)
+twice_in name xs =
+    flat_map (λ p. when (list_any (λ x. bytes_eq (name x) (name p.1)) p.0) (fault_with Twice (name p.1)))
+    (with_earlier xs)
 
 -- no definition and no code stands twice: elements, code lists, the codes of each list, composites, segments, messages
 abbrev pub twice_faults : Parts → List PartsFault
 twice_faults parts =
-    twice_in element_name parts.elements ++ twice_in list_name parts.lists ++ flat_map (λ list. twice_in value_name list.values) parts.lists
-    ++ twice_in composite_name parts.composites ++ twice_in segment_name parts.segments ++ twice_in message_name parts.messages
+    twice_in element_name parts.elements ++ twice_in list_name parts.lists
+    ++ flat_map (λ list. twice_in value_name list.values) parts.lists
+    ++ twice_in composite_name parts.composites ++ twice_in segment_name parts.segments
+    ++ twice_in message_name parts.messages
 
 -- the definition of that name, if there is one
 abbrev pub named_in : {A : Type 0} → (A → List ℕ) → List A → List ℕ → Option A
@@ -76,7 +80,9 @@ is_same_repr p q = is_same_class p.class q.class && is_same_bool p.exact q.exact
 
 -- each list is of an element of the directory
 abbrev pub list_fault : Parts → CodeList → List PartsFault
-list_fault parts list = when (not (is_some (named_in element_name parts.elements (list_name list)))) (fault_with UnknownElement (list_name list))
+list_fault parts list =
+    when (not (is_some (named_in element_name parts.elements (list_name list))))
+    (fault_with UnknownElement (list_name list))
 
 abbrev pub list_faults : Parts → List PartsFault
 list_faults parts = flat_map (list_fault parts) parts.lists
@@ -84,7 +90,8 @@ list_faults parts = flat_map (list_fault parts) parts.lists
 -- a part names an element of the directory, with that element's representation
 abbrev pub part_against : PartDef → Option ElementDef → List PartsFault
 part_against part None = (fault_with UnknownElement part.code.octets) ∷ []
-part_against part (Some element) = when (not (is_same_repr part.repr element.repr)) (fault_with ReprDiffers part.code.octets)
+part_against part (Some element) =
+    when (not (is_same_repr part.repr element.repr)) (fault_with ReprDiffers part.code.octets)
 
 abbrev pub part_faults : Parts → PartDef → List PartsFault
 part_faults parts part = part_against part (named_in element_name parts.elements part.code.octets)
@@ -99,7 +106,8 @@ composite_faults parts = flat_map (composite_fault parts) parts.composites
 abbrev pub item_faults : Parts → ItemDef → List PartsFault
 item_faults parts (Alone part) = part_faults parts part
 item_faults parts (Composite code must) =
-    when (not (is_some (named_in composite_name parts.composites code.octets))) (fault_with UnknownComposite code.octets)
+    when (not (is_some (named_in composite_name parts.composites code.octets)))
+    (fault_with UnknownComposite code.octets)
 
 -- a tag of a service segment
 abbrev pub is_service_tag : List ℕ → Bool
@@ -108,7 +116,8 @@ is_service_tag tag = is_some (service_items_of tag)
 -- a segment isn't a service segment, and its items are good
 abbrev pub segment_fault : Parts → SegmentDef → List PartsFault
 segment_fault parts segment =
-    when (is_service_tag (segment_name segment)) (fault_with Reserved (segment_name segment)) ++ flat_map (item_faults parts) segment.items
+    when (is_service_tag (segment_name segment)) (fault_with Reserved (segment_name segment))
+    ++ flat_map (item_faults parts) segment.items
 
 abbrev pub segment_faults : Parts → List PartsFault
 segment_faults parts = flat_map (segment_fault parts) parts.segments
@@ -117,7 +126,8 @@ segment_faults parts = flat_map (segment_fault parts) parts.segments
 abbrev pub tag_faults : Parts → Option Tag → List PartsFault
 tag_faults parts None = []
 tag_faults parts (Some tag) =
-    when (not (is_some (named_in segment_name parts.segments tag.octets)) && not (is_service_tag tag.octets)) (fault_with UnknownSegment tag.octets)
+    when (not (is_some (named_in segment_name parts.segments tag.octets)) && not (is_service_tag tag.octets))
+    (fault_with UnknownSegment tag.octets)
 
 abbrev pub row_faults : Parts → TableRow → List PartsFault
 row_faults parts row = tag_faults parts row.tag
@@ -131,7 +141,8 @@ is_filled_with (x ∷ xs) = true
 abbrev pub message_fault : Parts → MessageDef → List PartsFault
 message_fault parts message =
     when (bytes_eq (message_name message) (codes "CONTRL")) (fault_with Reserved (message_name message))
-    ++ flat_map (row_faults parts) message.rows ++ when (is_filled_with (table_faults message.rows)) (fault_with BadTable (message_name message))
+    ++ flat_map (row_faults parts) message.rows
+    ++ when (is_filled_with (table_faults message.rows)) (fault_with BadTable (message_name message))
 
 abbrev pub message_faults : Parts → List PartsFault
 message_faults parts = flat_map (message_fault parts) parts.messages

@@ -49,8 +49,10 @@ table_names parts = contrl_name ∷ map (message_table parts) parts.messages
 
 abbrev pub is_table_named : List ℕ → List ℕ → List ℕ → List ℕ → TableName → Bool
 is_table_named name version release agency table =
-    bytes_eq table.name name && bytes_eq table.version version && bytes_eq table.release release && bytes_eq table.agency agency
+    bytes_eq table.name name && bytes_eq table.version version
+    && bytes_eq table.release release && bytes_eq table.agency agency
 
 -- the number of the table with these four names, if there is one
 abbrev pub table_named : Parts → List ℕ → List ℕ → List ℕ → List ℕ → Option ℕ
-table_named parts name version release agency = position (is_table_named name version release agency) (table_names parts)
+table_named parts name version release agency =
+    position (is_table_named name version release agency) (table_names parts)

@@ -21,8 +21,3 @@ fault_in Memory = None
 abbrev pub IsStopAt : CompileKind → List ℕ → CompileStop → Type 0
 IsStopAt kind name (Fault k n) = (k ≡ kind) × (n ≡ name)
 IsStopAt kind name Memory = Unit {0}
-
--- memory ran out
-abbrev pub IsMemory : CompileStop → Type 0
-IsMemory (Fault kind name) = ⊥
-IsMemory Memory = Unit {0}

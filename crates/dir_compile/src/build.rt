@@ -8,8 +8,8 @@ ghost use Rattle.dir_compile.specs.Judges.{Judges};
 ghost use Rattle.dir_compile.specs.Ordered.{IsOrdered};
 ghost use Rattle.dir_compile.specs.Stop.{fault_in};
 
-use crate::judge::{judge_composites, judge_lists, judge_messages, judge_segments};
-use crate::names::Names;
+use crate::judge::judge_references;
+use crate::names::{Names, judge_twice};
 use crate::order::ordered;
 use crate::{CompileStop, Directory, Parts};
 use std::alloc::Global;
@@ -22,7 +22,7 @@ pub fn compile(alloc: Global, parts: Parts) -> Result<Directory, CompileStop>
     ensures ordered { IfOk result (IsOrdered parts) }
 {
     judge(alloc, &parts)?;
-    Directory::of(alloc, ordered(alloc, parts))
+    Ok(Directory::of(alloc, ordered(alloc, parts))?)
 }
 
 /// Finds the first fault of the parts.
@@ -30,9 +30,7 @@ fn judge(alloc: Global, parts: &Parts) -> Result<(), CompileStop>
     requires { HasForms parts.now }
     ensures { Judges result (compile_faults parts.now) }
 {
+    judge_twice(alloc, parts)?;
     let names = Names::of(alloc, parts)?;
-    judge_lists(alloc, parts, &names)?;
-    judge_composites(alloc, parts, &names)?;
-    judge_segments(alloc, parts, &names)?;
-    judge_messages(alloc, parts, &names)
+    judge_references(alloc, parts, &names)
 }

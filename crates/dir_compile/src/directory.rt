@@ -1,12 +1,11 @@
 //! A directory: what it has under a name, its segment tables, and their collisions.
 ghost use Rattle.std.specs.Str.{bytes_eq};
-ghost use Rattle.std.specs.Prelude.{[], ◌&&◌, ◌∷◌, ◌≡◌, ◌<◌, All, IfOk, IfErr, IfSome, Some, length, map, position, slice_get};
+ghost use Rattle.std.specs.Prelude.{[], ◌&&◌, ◌∷◌, ◌≡◌, ◌<◌, All, IfOk, IfSome, Some, length, map, position, slice_get};
 ghost use Rattle.std.specs.Option.{option_copied, option_map};
 ghost use Rattle.collision_check.specs.Listed.{collision_seen};
 ghost use Rattle.edi_tables.specs.Collisions.{collisions_of};
 ghost use Rattle.edi_tables.specs.Rows.{nodes_of, table_faults};
 ghost use Rattle.service_tables.specs.ServiceTables.{contrl_table_rows};
-ghost use Rattle.dir_compile.specs.Stop.{IsMemory};
 ghost use Rattle.dir_compile.specs.Compile.{composite_name, list_name, message_name, named_in, segment_name};
 ghost use Rattle.dir_compile.specs.Directory.{
   IsDirectory,
@@ -17,15 +16,14 @@ ghost use Rattle.dir_compile.specs.Directory.{
   tables_of,
 };
 
-use crate::names::{index, octets_of};
-use crate::{CompileStop, Parts};
+use crate::Parts;
+use crate::names::{Names, octets_of};
 use collision_check::{Collision, list_collisions};
 use edi_tables::{
     Code, CodeList, CompositeDef, List, MessageDef, SegmentDef, Table, TableRow, Tag,
 };
-use indexmap::IndexSet;
 use service_tables::contrl_rows;
-use std::alloc::Global;
+use std::alloc::{AllocError, Global};
 use std::marker::Model;
 
 /// A directory without fault, seen as its parts in ascending order of names.
@@ -34,10 +32,7 @@ use std::marker::Model;
 #[derive(Drop)]
 pub struct Directory {
     parts: Parts,
-    lists: IndexSet<[u8; 4]>,
-    composites: IndexSet<[u8; 4]>,
-    segments: IndexSet<[u8; 3]>,
-    messages: IndexSet<[u8; 6]>,
+    names: Names,
     tables: Vec<Table>,
     collisions: Vec<List<Collision>>,
 }
@@ -56,23 +51,16 @@ impl Model for Directory {
 
 impl Directory {
     /// The directory of these parts.
-    pub(crate) fn of(alloc: Global, parts: Parts) -> Result<Directory, CompileStop>
+    pub(crate) fn of(alloc: Global, parts: Parts) -> Result<Directory, AllocError>
         requires { IsDirectory parts }
-        ensures ok { IfOk result (λ directory. directory ≡ parts) }
-        ensures err { IfErr result IsMemory }
+        ensures { IfOk result (λ directory. directory ≡ parts) }
     {
-        let lists = index(alloc, parts.lists.items())?;
-        let composites = index(alloc, parts.composites.items())?;
-        let segments = index(alloc, parts.segments.items())?;
-        let messages = index(alloc, parts.messages.items())?;
         let tables = build_tables(alloc, parts.messages.items())?;
         let collisions = find_collisions(alloc, &tables)?;
+        let names = Names::of(alloc, &parts)?;
         Ok(Directory {
             parts,
-            lists,
-            composites,
-            segments,
-            messages,
+            names,
             tables,
             collisions,
         })
@@ -111,7 +99,7 @@ impl Directory {
         ensures place { result ≡ position (λ m. bytes_eq (message_name m) name.now) self.now.messages }
         ensures few { IfSome result (λ place. place < 4000000000) }
     {
-        let messages = &self.messages;
+        let messages = &self.names.messages;
         if name.len() != 6 {
             return None;
         }
@@ -168,7 +156,7 @@ impl Directory {
     pub fn segment(&self, tag: Tag) -> Option<&SegmentDef>
         ensures { option_copied result ≡ named_in segment_name self.now.segments tag.octets }
     {
-        let place = self.segments.get_index_of(&tag.octets)?;
+        let place = self.names.segments.get_index_of(&tag.octets)?;
         self.parts.segments.items().get(place)
     }
 
@@ -176,7 +164,7 @@ impl Directory {
     pub fn composite(&self, code: Code) -> Option<&CompositeDef>
         ensures { option_copied result ≡ named_in composite_name self.now.composites code.octets }
     {
-        let place = self.composites.get_index_of(&code.octets)?;
+        let place = self.names.composites.get_index_of(&code.octets)?;
         self.parts.composites.items().get(place)
     }
 
@@ -184,7 +172,7 @@ impl Directory {
     pub fn list(&self, element: Code) -> Option<&CodeList>
         ensures { option_copied result ≡ named_in list_name self.now.lists element.octets }
     {
-        let place = self.lists.get_index_of(&element.octets)?;
+        let place = self.names.lists.get_index_of(&element.octets)?;
         self.parts.lists.items().get(place)
     }
 }
@@ -200,12 +188,11 @@ fn is_contrl(name: &[u8], version: &[u8], release: &[u8], agency: &[u8]) -> bool
 }
 
 /// The table of CONTRL, and one a message.
-fn build_tables(alloc: Global, messages: &[MessageDef]) -> Result<Vec<Table>, CompileStop>
+fn build_tables(alloc: Global, messages: &[MessageDef]) -> Result<Vec<Table>, AllocError>
     requires few { length messages.now < 4000000000 }
     requires lawful { All (λ m. table_faults m.rows ≡ []) messages.now }
-    ensures ok { IfOk result (λ tables. tables.items
+    ensures { IfOk result (λ tables. tables.items
         ≡ nodes_of contrl_table_rows ∷ map (λ m. nodes_of m.rows) messages.now) }
-    ensures err { IfErr result IsMemory }
 {
     let mut tables = Vec::with_capacity(alloc, messages.len() + 1)?;
     tables.push(build_table(alloc, contrl_rows())?)?;
@@ -216,9 +203,8 @@ fn build_tables(alloc: Global, messages: &[MessageDef]) -> Result<Vec<Table>, Co
 }
 
 /// The collisions of each of these tables.
-fn find_collisions(alloc: Global, tables: &[Table]) -> Result<Vec<List<Collision>>, CompileStop>
-    ensures ok { IfOk result (λ collisions. map (map collision_seen) collisions.items ≡ map collisions_of tables.now) }
-    ensures err { IfErr result IsMemory }
+fn find_collisions(alloc: Global, tables: &[Table]) -> Result<Vec<List<Collision>>, AllocError>
+    ensures { IfOk result (λ collisions. map (map collision_seen) collisions.items ≡ map collisions_of tables.now) }
 {
     let mut collisions = Vec::with_capacity(alloc, tables.len())?;
     for table in tables {
@@ -227,13 +213,12 @@ fn find_collisions(alloc: Global, tables: &[Table]) -> Result<Vec<List<Collision
     Ok(collisions)
 }
 
-fn build_table(alloc: Global, rows: &[TableRow]) -> Result<Table, CompileStop>
+fn build_table(alloc: Global, rows: &[TableRow]) -> Result<Table, AllocError>
     requires { table_faults rows.now ≡ [] }
-    ensures ok { IfOk result (λ table. table ≡ nodes_of rows.now) }
-    ensures err { IfErr result IsMemory }
+    ensures { IfOk result (λ table. table ≡ nodes_of rows.now) }
 {
     match Table::build(alloc, rows) {
         Ok(table) => Ok(table),
-        Err(_) => Err(CompileStop::Memory),
+        Err(_) => Err(AllocError),
     }
 }

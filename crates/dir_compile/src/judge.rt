@@ -3,7 +3,7 @@ ghost use Rattle.std.specs.Prelude.{◌≡◌};
 ghost use Rattle.std.specs.List.{flat_map};
 ghost use Rattle.std.specs.Option.{option_copied};
 ghost use Rattle.edi_tables.specs.Rows.{table_faults, when};
-ghost use Rattle.dir_compile.specs.Judges.{Judges};
+ghost use Rattle.dir_compile.specs.Judges.{Judges, reference_faults};
 ghost use Rattle.dir_compile.specs.Stop.{fault_with};
 ghost use Rattle.dir_compile.specs.Names.{IsNamesOf};
 ghost use Rattle.dir_compile.specs.Compile.{
@@ -28,8 +28,19 @@ use edi_tables::{Code, ElementDef, ItemDef, MessageDef, PartDef, SegmentDef, Tab
 use service_tables::service_segment;
 use std::alloc::Global;
 
+/// Finds the first definition that names something that isn't there, or is none that a directory can have.
+pub fn judge_references(alloc: Global, parts: &Parts, names: &Names) -> Result<(), CompileStop>
+    requires { IsNamesOf names.now parts.now }
+    ensures { Judges result (reference_faults parts.now) }
+{
+    judge_lists(alloc, parts, names)?;
+    judge_composites(alloc, parts, names)?;
+    judge_segments(alloc, parts, names)?;
+    judge_messages(alloc, parts, names)
+}
+
 /// Finds the first list of an element that isn't there.
-pub fn judge_lists(alloc: Global, parts: &Parts, names: &Names) -> Result<(), CompileStop>
+fn judge_lists(alloc: Global, parts: &Parts, names: &Names) -> Result<(), CompileStop>
     requires { IsNamesOf names.now parts.now }
     ensures { Judges result (list_faults parts.now) }
 {
@@ -43,7 +54,7 @@ pub fn judge_lists(alloc: Global, parts: &Parts, names: &Names) -> Result<(), Co
 }
 
 /// Finds the first component of a composite whose element isn't there or has another representation.
-pub fn judge_composites(alloc: Global, parts: &Parts, names: &Names) -> Result<(), CompileStop>
+fn judge_composites(alloc: Global, parts: &Parts, names: &Names) -> Result<(), CompileStop>
     requires { IsNamesOf names.now parts.now }
     ensures { Judges result (composite_faults parts.now) }
 {
@@ -99,7 +110,7 @@ fn element_named<'a>(parts: &'a Parts, names: &Names, code: Code) -> Option<&'a 
 }
 
 /// Finds the first segment that is a service segment, or one of whose items is of something that isn't there.
-pub fn judge_segments(alloc: Global, parts: &Parts, names: &Names) -> Result<(), CompileStop>
+fn judge_segments(alloc: Global, parts: &Parts, names: &Names) -> Result<(), CompileStop>
     requires { IsNamesOf names.now parts.now }
     ensures { Judges result (segment_faults parts.now) }
 {
@@ -193,7 +204,7 @@ fn judge_row(alloc: Global, parts: &Parts, names: &Names, row: &TableRow) -> Res
 }
 
 /// Finds the first message that is CONTRL, names a segment that isn't there, or has rows that are no segment table.
-pub fn judge_messages(alloc: Global, parts: &Parts, names: &Names) -> Result<(), CompileStop>
+fn judge_messages(alloc: Global, parts: &Parts, names: &Names) -> Result<(), CompileStop>
     requires { IsNamesOf names.now parts.now }
     ensures { Judges result (message_faults parts.now) }
 {

@@ -8,8 +8,6 @@ mod names;
 mod order;
 mod parts;
 mod stop;
-#[cfg(test)]
-mod tests;
 
 pub use build::compile;
 pub use directory::Directory;

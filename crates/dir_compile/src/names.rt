@@ -1,5 +1,5 @@
 //! The names of definitions, found by hash.
-ghost use Rattle.std.specs.Prelude.{◌≡◌, List, ℕ, All, IfOk, length, map};
+ghost use Rattle.std.specs.Prelude.{◌≡◌, List, [], ℕ, All, IfOk, length, map};
 ghost use Rattle.std.specs.List.{flat_map};
 ghost use Rattle.dir_compile.specs.Forms.{HasForms};
 ghost use Rattle.dir_compile.specs.Judges.{Judges};
@@ -18,7 +18,7 @@ use crate::stop::fault;
 use crate::{CompileKind, CompileStop, Parts};
 use edi_tables::{Chunk, CodeList, CompositeDef, ElementDef, MessageDef, SegmentDef};
 use indexmap::IndexSet;
-use std::alloc::Global;
+use std::alloc::{AllocError, Global};
 
 /// Something that has a name: a definition, or a code of a list, which is its own name.
 pub trait Named {
@@ -77,22 +77,18 @@ impl Named for Chunk {
     }
 }
 
-/// The names, each at the place of its definition, where none comes twice; else the first that equals one before it.
-pub fn index<T: Named, const N: usize>(
+/// The names, each at the place of its definition. None comes twice.
+fn index<T: Named, const N: usize>(
     alloc: Global,
     items: &[T],
-) -> Result<IndexSet<[u8; N]>, CompileStop>
-    requires { All (λ x. length (T.name_of x) ≡ N) items.now }
-    ensures judged { Judges result (twice_in T.name_of items.now) }
-    ensures placed { IfOk result (λ set. set.keys ≡ map T.name_of items.now) }
+) -> Result<IndexSet<[u8; N]>, AllocError>
+    requires long { All (λ x. length (T.name_of x) ≡ N) items.now }
+    requires apart { twice_in T.name_of items.now ≡ [] }
+    ensures { IfOk result (λ set. set.keys ≡ map T.name_of items.now) }
 {
     let mut set = IndexSet::with_capacity(alloc, items.len())?;
     for item in items {
-        let name = octets_of(item.name());
-        let added = set.insert(name)?;
-        if !added {
-            return Err(fault(alloc, CompileKind::Twice, &name));
-        }
+        set.insert(octets_of(item.name()))?;
     }
     Ok(set)
 }
@@ -108,7 +104,7 @@ pub fn octets_of<const N: usize>(name: &[u8]) -> [u8; N]
 }
 
 /// Finds the first name that equals one before it.
-pub fn judge_names<T: Named>(alloc: Global, items: &[T]) -> Result<(), CompileStop>
+fn judge_names<T: Named>(alloc: Global, items: &[T]) -> Result<(), CompileStop>
     ensures { Judges result (twice_in T.name_of items.now) }
 {
     let mut seen = IndexSet::with_capacity(alloc, items.len())?;
@@ -135,15 +131,14 @@ pub struct Names {
 impl Names {
     ghost use Rattle.dir_compile.specs.Names.{IsNamesOf};
 
-    /// The names of these parts where none comes twice, else the first that does.
-    pub fn of(alloc: Global, parts: &Parts) -> Result<Names, CompileStop>
-        requires { HasForms parts.now }
-        ensures judged { Judges result (twice_faults parts.now) }
-        ensures placed { IfOk result (λ names. IsNamesOf names parts.now) }
+    /// The names of these parts, of which none comes twice.
+    pub fn of(alloc: Global, parts: &Parts) -> Result<Names, AllocError>
+        requires forms { HasForms parts.now }
+        requires apart { twice_faults parts.now ≡ [] }
+        ensures { IfOk result (λ names. IsNamesOf names parts.now) }
     {
         let elements = index(alloc, parts.elements.items())?;
         let lists = index(alloc, parts.lists.items())?;
-        judge_codes(alloc, parts.lists.items())?;
         let composites = index(alloc, parts.composites.items())?;
         let segments = index(alloc, parts.segments.items())?;
         let messages = index(alloc, parts.messages.items())?;
@@ -155,6 +150,18 @@ impl Names {
             messages,
         })
     }
+}
+
+/// Finds the first definition, or code of a list, whose name equals one before it.
+pub fn judge_twice(alloc: Global, parts: &Parts) -> Result<(), CompileStop>
+    ensures { Judges result (twice_faults parts.now) }
+{
+    judge_names(alloc, parts.elements.items())?;
+    judge_names(alloc, parts.lists.items())?;
+    judge_codes(alloc, parts.lists.items())?;
+    judge_names(alloc, parts.composites.items())?;
+    judge_names(alloc, parts.segments.items())?;
+    judge_names(alloc, parts.messages.items())
 }
 
 /// Finds the first code that comes twice in a list.

@@ -1,4 +1,4 @@
-use Rattle.std.proofs.Common.{subst, sym}
+use Rattle.std.proofs.Common.{◌∙◌, subst, sym}
 use Rattle.std.proofs.lemmas.Result.{err_from_is_err_and}
 use Rattle.dir_compile.specs.Directory.{IsDirectory}
 use Rattle.dir_compile.proofs.Groups.{fault-free, free-twice}
@@ -18,7 +18,7 @@ of-requires c =
     subst IsDirectory (sym c.ordered.ensures) (directory-ordered c.args.parts c.requires.few c.requires.forms c.in_ok-judge.ensures)
 
 pub returns-clause-answers : goal.returns-clause-answers
-returns-clause-answers c = compiles-of _ c.args.parts _ c.in_ok-judge.ensures c.ordered.ensures c.of.ensures.ok c.of.ensures.err
+returns-clause-answers c = compiles-of _ c.args.parts c.in_ok-judge.ensures (c.in_ok-of.ensures ∙ c.ordered.ensures)
 
 pub returns-clause-ordered : goal.returns-clause-ordered
-returns-clause-ordered c = ordered-of _ c.args.parts _ c.in_ok-judge.ensures c.ordered.ensures c.of.ensures.ok
+returns-clause-ordered c = ordered-of _ c.args.parts c.in_ok-judge.ensures (c.in_ok-of.ensures ∙ c.ordered.ensures)

@@ -1,34 +1,15 @@
 use Rattle.std.proofs.lemmas.Result.{err_from_is_err_and}
-use Rattle.dir_compile.specs.Compile.{compile_faults}
-use Rattle.dir_compile.proofs.Faults.{first-left, first-right, nil-both, judges-stop}
-use Rattle.dir_compile.proofs.Making.{judges-last}
+use Rattle.dir_compile.proofs.Faults.{first-left, judges-same, judges-stop, judges-last}
+use Rattle.dir_compile.proofs.Groups.{faults-apart}
 use Rattle.dir_compile.proofs.build.judge.Goals as goal
 
-pub returns-in_err-names : goal.returns-in_err-names
-unfolding compile_faults
-returns-in_err-names c =
+pub returns-in_err-judge_twice : goal.returns-in_err-judge_twice
+returns-in_err-judge_twice c =
     let p = err_from_is_err_and c.from_residual.result c.from_residual.ensures.1 in
-    judges-stop _ _ _ _ p.1 p.2 (first-left _ _ _ (first-left _ _ _ (first-left _ _ _ (first-left _ _ _ c.in_err-names.ensures.judged))))
+    judges-same _ _ _ (faults-apart c.args.parts.now) (judges-stop _ _ _ _ p.1 p.2 (first-left _ _ _ c.in_err-judge_twice.ensures))
 
-pub returns-in_err-judge_lists : goal.returns-in_err-judge_lists
-unfolding compile_faults
-returns-in_err-judge_lists c =
-    let p = err_from_is_err_and c.from_residual-in_err-judge_lists.result c.from_residual-in_err-judge_lists.ensures.1 in
-    judges-stop _ _ _ _ p.1 p.2 (first-left _ _ _ (first-left _ _ _ (first-left _ _ _ (first-right _ _ _ c.in_ok-names.ensures.judged c.in_err-judge_lists.ensures))))
-
-pub returns-in_err-judge_composites : goal.returns-in_err-judge_composites
-unfolding compile_faults
-returns-in_err-judge_composites c =
-    let p = err_from_is_err_and c.from_residual-in_err-judge_composites.result c.from_residual-in_err-judge_composites.ensures.1 in
-    judges-stop _ _ _ _ p.1 p.2 (first-left _ _ _ (first-left _ _ _ (first-right _ _ _ (nil-both _ _ c.in_ok-names.ensures.judged c.in_ok-judge_lists.ensures) c.in_err-judge_composites.ensures)))
-
-pub returns-in_err-judge_segments : goal.returns-in_err-judge_segments
-unfolding compile_faults
-returns-in_err-judge_segments c =
-    let p = err_from_is_err_and c.from_residual-in_err-judge_segments.result c.from_residual-in_err-judge_segments.ensures.1 in
-    judges-stop _ _ _ _ p.1 p.2 (first-left _ _ _ (first-right _ _ _ (nil-both _ _ (nil-both _ _ c.in_ok-names.ensures.judged c.in_ok-judge_lists.ensures) c.in_ok-judge_composites.ensures) c.in_err-judge_segments.ensures))
+pub of-requires-clause-apart : goal.of-requires-clause-apart
+of-requires-clause-apart c = c.in_ok-judge_twice.ensures
 
 pub returns : goal.returns
-unfolding compile_faults
-returns c =
-    judges-last _ _ _ (nil-both _ _ (nil-both _ _ (nil-both _ _ c.in_ok-names.ensures.judged c.in_ok-judge_lists.ensures) c.in_ok-judge_composites.ensures) c.in_ok-judge_segments.ensures) c.judge_messages.ensures
+returns c = judges-same _ _ _ (faults-apart c.args.parts.now) (judges-last _ _ _ c.in_ok-judge_twice.ensures c.judge_references.ensures)

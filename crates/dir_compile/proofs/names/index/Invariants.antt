@@ -1,9 +1,5 @@
-use Rattle.std.proofs.Common.{◌≡◌, [], take, map}
-use Rattle.dir_compile.specs.Compile.{twice_in, value_name}
+use Rattle.std.proofs.Common.{◌≡◌, take, map}
 use Rattle.dir_compile.proofs.names.index.Given as goal
 
 abbrev pub invariant-loop-item : goal.invariant-loop-item
-invariant-loop-item g l = record {
-  placed : l.set.keys ≡ take l.item-index (map g.T.Named.name_of l.items);
-  apart : twice_in value_name (take l.item-index (map g.T.Named.name_of l.items)) ≡ [];
-}
+invariant-loop-item g l = l.set.keys ≡ take l.item-index (map g.T.Named.name_of l.items)

@@ -7,12 +7,12 @@ use Rattle.dir_compile.proofs.directory.Directory.composite.Goals as goal
 pub returns-in_err-place : goal.returns-in_err-place
 returns-in_err-place c =
     ap option_copied c.from_residual.ensures
-    ∙ sym (named-none composite_name c.args.code.octets c.self.inside.parts.composites _ c.self.invariant.composites c.in_err-place.ensures.index)
+    ∙ sym (named-none composite_name c.args.code.octets c.self.inside.parts.composites _ c.self.invariant.names.composites c.in_err-place.ensures.index)
     ∙ ap (λ parts. named_in composite_name parts.composites c.args.code.octets) c.self.view_is
 
 pub returns : goal.returns
 returns c =
     copied-get c.items.result.now c.in_ok-place.place c.get.result c.get.ensures.lookup.1 c.get.ensures.lookup.3
     ∙ ap (λ l. slice_get l c.in_ok-place.place) c.items.ensures
-    ∙ named-get composite_name c.args.code.octets c.self.inside.parts.composites _ c.in_ok-place.place c.self.invariant.composites c.in_ok-place.ensures.index
+    ∙ named-get composite_name c.args.code.octets c.self.inside.parts.composites _ c.in_ok-place.place c.self.invariant.names.composites c.in_ok-place.ensures.index
     ∙ ap (λ parts. named_in composite_name parts.composites c.args.code.octets) c.self.view_is

@@ -12,6 +12,6 @@ returns-then-name-ne6-clause-place c =
 
 pub returns-clause-place : goal.returns-clause-place
 returns-clause-place c =
-    c.get_index_of.ensures.index ∙ ap (λ name. position (bytes_eq name) c.self.inside.messages.keys) c.octets_of.ensures
-    ∙ message-place c.self.inside.parts.messages c.args.name.now _ c.self.invariant.messages
+    c.get_index_of.ensures.index ∙ ap (λ name. position (bytes_eq name) c.self.inside.names.messages.keys) c.octets_of.ensures
+    ∙ message-place c.self.inside.parts.messages c.args.name.now _ c.self.invariant.names.messages
     ∙ ap (λ parts. position (λ m. bytes_eq (message_name m) c.args.name.now) parts.messages) c.self.view_is

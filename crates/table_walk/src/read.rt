@@ -114,7 +114,6 @@ fn group_count(table: &Table, placed: &[Option<u16>], group: u16) -> usize
     ensures { result ≡ group_count table.now placed.now group }
 {
     // A group comes after the one that holds it, so its trigger isn't that one's.
-    let _nodes = table.nodes();
     let parent = table.parent(usize::from(group));
     count_since(placed, parent, usize::from(group) + 1)
 }

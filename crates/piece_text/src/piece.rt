@@ -23,7 +23,9 @@ impl Model for Piece {
 
     ghost view = { λ piece. slice_range piece.octets.value piece.from piece.to };
 
-    ghost invariant = { λ piece. (piece.from < piece.to) × (piece.to ≤ length piece.octets.value) × (piece.to < 2 ^ 32) };
+    ghost invariant = { λ piece. (piece.from < piece.to)
+        × (piece.to ≤ length piece.octets.value)
+        × (piece.to < 2 ^ 32) };
 }
 
 impl Piece {

@@ -12,8 +12,8 @@ use std::marker::Brand;
 use std::sync::ledger::{Blank, Ledger};
 use step_counter::Steps;
 
-/// Octets that are put in are copied into one piece with a neighbour, where both together are at most so many: so a text that
-/// is typed octet by octet has few pieces.
+/// Octets that are put in are copied into one piece with the pieces on each side that are together at most so many. So
+/// any two neighbours are together more than that, and a text of n octets has at most n / 256 pieces and one.
 const MOST_COPIED: usize = 512;
 
 /// How many octets the pieces have.
@@ -79,7 +79,8 @@ pub(crate) fn add_all(octets: &mut Chunk, pieces: &Seq<Piece>) -> Result<(), All
     Ok(())
 }
 
-/// The pieces of the octets before a place, and those of the others. A piece that the place is within gives a part to each.
+/// The pieces of the octets before a place, and those of the others. A piece that the place is within gives a part to
+/// each.
 pub(crate) fn split(
     alloc: Global,
     pieces: &Seq<Piece>,
@@ -115,7 +116,8 @@ fn split_between(
 ) -> Result<(Seq<Piece>, Seq<Piece>), AllocError>
     requires within { place ≤ length pieces.now }
     requires full { AreFull pieces.now }
-    ensures { IfOk result (λ parts. IsSplit pieces.now (length (concat (take place pieces.now))) parts.0 parts.1) }
+    ensures { let at = length (concat (take place pieces.now)) in
+        IfOk result (λ parts. IsSplit pieces.now at parts.0 parts.1) }
 {
     let (front, back) = pieces.cut(alloc, place)?;
     Ok((front, back))
@@ -134,7 +136,8 @@ fn split_within(
     requires some { 0 < offset }
     requires short { length (concat pieces.now) ≤ 4194304 }
     requires full { AreFull pieces.now }
-    ensures { IfOk result (λ parts. IsSplit pieces.now (length (concat (take place pieces.now)) + offset) parts.0 parts.1) }
+    ensures { let at = length (concat (take place pieces.now)) + offset in
+        IfOk result (λ parts. IsSplit pieces.now at parts.0 parts.1) }
 {
     let (front, _) = pieces.cut(alloc, place)?;
     let (_, back) = pieces.cut(alloc, place + 1)?;
@@ -145,8 +148,8 @@ fn split_within(
     Ok((front, back))
 }
 
-/// The pieces of `front`, these octets, and the pieces of `back`. A small last piece of `front` and a small first piece of `back`
-/// are copied into one with the octets.
+/// The pieces of `front`, these octets, and the pieces of `back`. Small pieces at the end of `front` and at the start of
+/// `back` are copied into one with the octets.
 pub(crate) fn weld(
     alloc: Global,
     front: &Seq<Piece>,
@@ -155,40 +158,44 @@ pub(crate) fn weld(
 ) -> Result<Seq<Piece>, AllocError>
     requires full_front { AreFull front.now }
     requires full_back { AreFull back.now }
-    requires short { length (concat front.now) + length put.now + length (concat back.now) ≤ 4194304 }
-    ensures text { IfOk result (λ pieces. concat pieces ≡ concat front.now ++ put.now ++ concat back.now) }
+    requires short { length (concat front.now) + length put.now + length (concat back.now)
+        ≤ 4194304 }
+    ensures text { IfOk result (λ pieces. concat pieces
+        ≡ concat front.now ++ put.now ++ concat back.now) }
     ensures full { IfOk result AreFull }
 {
-    let room = MOST_COPIED.saturating_sub(put.len());
-    let (front, last) = front.cut(alloc, before_small_end(front, room))?;
-    let room = room.saturating_sub(octet_count(&last));
-    let (first, back) = back.cut(alloc, small_start(back, room))?;
+    let (front, last) = front.cut(alloc, before_small_end(front))?;
+    let (first, back) = back.cut(alloc, small_start(back))?;
     let run = run_of(alloc, &last, put, &first)?;
     join_three(alloc, &front, &run, &back)
 }
 
-/// How many pieces are before a last one of at most `room` octets; all where the last has more.
-fn before_small_end(pieces: &Seq<Piece>, room: usize) -> usize
+/// How many pieces are before the last ones that are together small enough to be copied.
+fn before_small_end(pieces: &Seq<Piece>) -> usize
     ensures { result ≤ length pieces.now }
 {
-    let len = pieces.len();
-    if len == 0 {
-        return 0;
+    let mut room = MOST_COPIED;
+    for place in (0..pieces.len()).rev() {
+        match pieces.iter_from(place).next() {
+            Some(last) if last.octets().len() <= room => room -= last.octets().len(),
+            _ => return place + 1,
+        }
     }
-    match pieces.iter_from(len - 1).next() {
-        Some(last) if last.octets().len() <= room => len - 1,
-        _ => len,
-    }
+    0
 }
 
-/// How many pieces a first one of at most `room` octets is: 1, or 0 where the first has more.
-fn small_start(pieces: &Seq<Piece>, room: usize) -> usize
+/// How many first pieces are together small enough to be copied.
+fn small_start(pieces: &Seq<Piece>) -> usize
     ensures { result ≤ length pieces.now }
 {
-    match pieces.iter().next() {
-        Some(first) if first.octets().len() <= room => 1,
-        _ => 0,
+    let mut room = MOST_COPIED;
+    for place in 0..pieces.len() {
+        match pieces.iter_from(place).next() {
+            Some(first) if first.octets().len() <= room => room -= first.octets().len(),
+            _ => return place,
+        }
     }
+    pieces.len()
 }
 
 /// The octets of some pieces, these octets, and those of further pieces, copied into one piece.
@@ -198,8 +205,10 @@ fn run_of(
     put: &[u8],
     first: &Seq<Piece>,
 ) -> Result<Seq<Piece>, AllocError>
-    requires short { length (concat last.now) + length put.now + length (concat first.now) ≤ 4194304 }
-    ensures text { IfOk result (λ pieces. concat pieces ≡ concat last.now ++ put.now ++ concat first.now) }
+    requires short { length (concat last.now) + length put.now + length (concat first.now)
+        ≤ 4194304 }
+    ensures text { IfOk result (λ pieces. concat pieces
+        ≡ concat last.now ++ put.now ++ concat first.now) }
     ensures full { IfOk result AreFull }
 {
     let count = octet_count(last) + put.len() + octet_count(first);
@@ -221,8 +230,10 @@ fn join_three(
     requires full_front { AreFull front.now }
     requires full_middle { AreFull middle.now }
     requires full_back { AreFull back.now }
-    requires short { length (concat front.now) + length (concat middle.now) + length (concat back.now) ≤ 4194304 }
-    ensures text { IfOk result (λ pieces. concat pieces ≡ concat front.now ++ concat middle.now ++ concat back.now) }
+    requires short { length (concat front.now) + length (concat middle.now)
+        + length (concat back.now) ≤ 4194304 }
+    ensures text { IfOk result (λ pieces. concat pieces
+        ≡ concat front.now ++ concat middle.now ++ concat back.now) }
     ensures full { IfOk result AreFull }
 {
     let front = front.join(alloc, middle)?;

@@ -1,10 +1,11 @@
-//! Edits in each of their branches, what views and the lexer read over the seams of pieces, and that typing leaves few pieces.
+//! Edits in each of their branches, what views and the lexer read over the seams of pieces, and that typing leaves few
+//! pieces.
 
 ghost use Rattle.std.specs.Prelude.{◌≡◌, ◌<◌, ◌≤◌, length};
 
 use crate::{Text, View};
 use edi_octets::Octets;
-use seg_lexer::{Lexed, fields, next_segment, read_service};
+use seg_lexer::{Context, Level, Lexed, fields, next_segment, read_context, read_service};
 use std::alloc::{AllocError, Global};
 use std::marker::Brand;
 use std::process::Abort;
@@ -114,7 +115,7 @@ fn edits_over_seams(rt: HostRuntime) -> Result<(), Fail> {
 }
 
 #[test]
-fn a_value_over_three_pieces(rt: HostRuntime) -> Result<(), Fail> {
+fn a_view_over_three_pieces(rt: HostRuntime) -> Result<(), Fail> {
     let three = three_pieces(&rt, rt.alloc())?;
     assert!(rt; three.len() == 2000);
     let view = three.view(699, 1301);
@@ -138,39 +139,68 @@ fn first_lexed<L: Ledger>(text: &View<'_>, blank: Blank) -> Lexed
     next_segment(text, &service, service.body, &mut lexed)
 }
 
-/// `FTX+`, 600 octets `A` and a release character in one piece; a terminator, 600 octets `B` and a terminator in the next.
-fn released_over_a_seam(rt: &impl Abort, alloc: Global) -> Result<Text, AllocError> {
+/// `FTX+`, 600 octets `A` and a release character in one piece; a terminator and 600 octets `B` in the next; 600 octets
+/// `C` and a terminator in the last.
+fn value_in_three_pieces(rt: &impl Abort, alloc: Global) -> Result<Text, AllocError> {
     let mut front = b"FTX+".to_vec(alloc)?;
     front.extend_from_slice(&[b'A'; 600])?;
     front.push(b'?')?;
-    let mut back = b"'".to_vec(alloc)?;
-    back.extend_from_slice(&[b'B'; 600])?;
+    let mut middle = b"'".to_vec(alloc)?;
+    middle.extend_from_slice(&[b'B'; 600])?;
+    let mut back = [b'C'; 600].to_vec(alloc)?;
     back.push(b'\'')?;
-    assert!(rt; front.len() == 605 && back.len() == 602);
+    assert!(rt; front.len() == 605);
     let text = Text::of_bytes(alloc, &front)?;
     let text = replaced(rt, alloc, &text, (605, 0, &back))?;
-    assert_eq!(rt; expect(rt, alloc, &text, [&front, &back, &[]])?, 605);
+    let text = replaced(rt, alloc, &text, (605, 0, &middle))?;
+    assert_eq!(rt; expect(rt, alloc, &text, [&front, &middle, &back])?, 1206);
     Ok(text)
 }
 
 #[test]
-fn a_terminator_released_over_a_seam(rt: HostRuntime) -> Result<(), Fail> {
-    let text = released_over_a_seam(&rt, rt.alloc())?;
+fn a_value_in_three_pieces(rt: HostRuntime) -> Result<(), Fail> {
+    let text = value_in_three_pieces(&rt, rt.alloc())?;
     let view = text.view(0, text.len());
-    assert!(rt; view.len() == 1207);
+    assert!(rt; view.len() == 1807);
     assert_eq!(rt;
         first_lexed::<Brand>(&view, Blank::new(1)),
         Lexed::Ended {
             start: 0,
-            end: 1206
+            end: 1806
         }
     );
-    let components = fields(&view, &read_service(&view), 0, 1206);
+    let components = fields(&view, &read_service(&view), 0, 1806);
     let value = components.value_at(1, 1).ok_or("no value")?;
-    assert_eq!(rt; value.span(), (4, 1206));
-    assert_eq!(rt; value.len(), 1201);
+    assert_eq!(rt; value.span(), (4, 1806));
+    assert_eq!(rt; value.len(), 1801);
     let copy = value.copy(rt.alloc())?;
     assert_eq!(rt; copy.octets().get(599..602), Some(b"A'B".as_slice()));
+    assert_eq!(rt; copy.octets().get(1200..1202), Some(b"BC".as_slice()));
+    Ok(())
+}
+
+/// The context of a text.
+fn context_of<L: Ledger>(text: &View<'_>, blank: Blank) -> Context
+    requires name { blank.name ≡ L.name }
+    requires parts { blank.parts ≡ L.parts }
+    requires some { 0 < blank.parts }
+    requires short { length text.now ≤ 4194304 }
+{
+    read_context(text, &mut Steps::<L>::start(blank))
+}
+
+#[test]
+fn a_context_over_a_seam(rt: HostRuntime) -> Result<(), Fail> {
+    let mut front = [b'\n'; 600].to_vec(rt.alloc())?;
+    front.extend_from_slice(b"UN")?;
+    assert!(rt; front.len() == 602);
+    let text = Text::of_bytes(rt.alloc(), &front)?;
+    let text = replaced(&rt, rt.alloc(), &text, (602, 0, b"B+UNOC:1'"))?;
+    let view = text.view(0, text.len());
+    assert!(rt; view.len() == 611);
+    assert_eq!(rt; view.slice_at(602), b"B+UNOC:1'".as_slice());
+    let context = context_of::<Brand>(&view, Blank::new(1));
+    assert_eq!(rt; (context.level, context.version), (Level::C, 1));
     Ok(())
 }
 
@@ -197,12 +227,12 @@ fn edits_at_one_place_leave_few_pieces(rt: HostRuntime) -> Result<(), Fail> {
     }
     assert_eq!(rt;
         expect(&rt, rt.alloc(), &typed, [&[b'A'; 600], &[], &[]])?,
-        512
+        513
     );
     let typed = edited_and_back(&rt, rt.alloc(), typed, 300)?;
     assert_eq!(rt;
         expect(&rt, rt.alloc(), &typed, [&[b'A'; 600], &[], &[]])?,
-        512
+        0
     );
     let long = Text::of_bytes(rt.alloc(), &[b'A'; 1400])?;
     let long = edited_and_back(&rt, rt.alloc(), long, 700)?;

@@ -12,8 +12,8 @@ use std::marker::Model;
 
 /// A text of at most 4,194,304 octets, seen as their list.
 ///
-/// An edit makes a new version and leaves the old one as it was: the two share the octets that the edit keeps. So an edit
-/// costs pieces, and not octets, and after an error the text is still what it was.
+/// An edit makes a new version and leaves the old one as it was: the two share the octets that the edit keeps. So an
+/// edit costs pieces, and not octets, and after an error the text is still what it was.
 #[derive(Debug)]
 pub struct Text {
     pieces: Seq<Piece>,
@@ -67,7 +67,8 @@ impl Text {
     ) -> Result<Text, AllocError>
         requires inside { at + cut ≤ length self.now }
         requires short { length self.now - cut + length put.now ≤ 4194304 }
-        ensures { IfOk result (λ text. text ≡ take at self.now ++ put.now ++ drop (at + cut) self.now) }
+        ensures { IfOk result (λ text. text
+            ≡ take at self.now ++ put.now ++ drop (at + cut) self.now) }
     {
         let (front, rest) = split(alloc, &self.pieces, at)?;
         let (_, back) = split(alloc, &rest, cut)?;

@@ -1,14 +1,14 @@
 //! One step of a walk, by the pairs of the entry placed last.
-ghost use Rattle.std.specs.Prelude.{◌≡◌, ◌<◌, ◌==◌, ◌||◌, ◌&&◌, Some, nat_le, nat_lt, length, find, if◌then◌else◌};
+ghost use Rattle.std.specs.Prelude.{◌≡◌, ◌<◌, ◌≤◌, Some, All, AllPairs, filter, nat_le, nat_lt, length, if◌then◌else◌};
 ghost use Rattle.edi_tables.specs.Rows.{IsTable};
-ghost use Rattle.edi_tables.specs.Walk.{is_must_at, later_nodes, max_at, missing_between, missing_past};
+ghost use Rattle.edi_tables.specs.Walk.{max_at, missing_between, missing_past, reached_node};
 ghost use Rattle.edi_tables.specs.Placement.{is_filled};
 ghost use Rattle.edi_tables.specs.Pairs.{count_in, entry_in, entry_next, group_next, over_in, pairs_next, rank_in};
-ghost use Rattle.table_walk.specs.Reading.{has_tag};
+ghost use Rattle.table_walk.specs.Reading.{has_tag, least_from};
 ghost use Rattle.table_walk.specs.Steps.{AreCountsUpTo, IsShaped, member_in};
 
 use arrayvec::ArrayVec;
-use edi_tables::{Missing, Table, Tag};
+use edi_tables::{Candidates, Missing, Table, Tag};
 
 /// Sixteen groups round an entry, and the entry.
 pub const MOST_PAIRS: usize = 17;
@@ -45,17 +45,15 @@ impl Best {
     }
 }
 
-/// An entry that was placed last, with its pairs and the first mandatory node after it.
+/// An entry that was placed last, with its pairs.
 #[derive(Drop)]
 pub struct Position<'a> {
     table: &'a Table,
     pairs: &'a [(u16, u32)],
     entry: u16,
-    first_must: Option<u16>,
     ghost lawful: { IsTable table.now },
     ghost shaped: { IsShaped table.now pairs.now },
     ghost here: { entry ≡ entry_in pairs.now },
-    ghost must: { first_must ≡ find (is_must_at table.now) (later_nodes table.now entry) },
 }
 
 impl<'a> Position<'a> {
@@ -65,31 +63,58 @@ impl<'a> Position<'a> {
         ensures table { result.table.now ≡ table.now }
         ensures pairs { result.pairs.now ≡ pairs.now }
     {
-        // Its nodes are those of a table, which the steps below rely on.
-        let _nodes = table.nodes();
         let entry = entry_in(pairs);
-        let first_must = table.first_must_after(entry);
+        prove!(usize::from(entry) < table.len());
         Position {
             table,
             pairs,
             entry,
-            first_must,
         }
     }
 
     /// Where a segment with this tag is: at the first candidate with the least rank.
-    ///
-    /// It stops at a candidate that no later one can better: ranks are at least 2 once a candidate misses a node.
     pub fn member(&self, tag: Option<Tag>) -> Option<u16>
         ensures { result ≡ member_in self.now.table.now self.now.pairs.now tag }
     {
-        let mut best = Best::NONE;
-        for candidate in self.table.candidates(self.entry) {
+        let mut candidates = self.table.candidates(self.entry);
+        while let Some(candidate) = candidates.next() {
             if has_tag(self.table, tag, candidate) {
-                best = best.or(candidate, self.rank(candidate));
+                return self.best_from(tag, candidate, candidates);
             }
-            if self.is_settled(best, candidate) {
+        }
+        None
+    }
+
+    // The best of a candidate with this tag and of those after it.
+    //
+    // Most often the first has rank 0, and nothing more is looked for. Else it stops at a candidate
+    // that can't better the best so far: ranks are at least 2 once a candidate misses a node.
+    fn best_from(&self, tag: Option<Tag>, first: u16, others: Candidates<'_>) -> Option<u16>
+        requires within { first < length self.now.table.now }
+        requires inside { All (λ c. c < length self.now.table.now) others }
+        requires rising { AllPairs
+            (λ c d. reached_node self.now.table.now (entry_in self.now.pairs.now) c
+            ≤ reached_node self.now.table.now (entry_in self.now.pairs.now) d)
+            others }
+        ensures { result
+            ≡ least_from
+            (rank_in self.now.table.now self.now.pairs.now)
+            (Some first)
+            (filter (has_tag self.now.table.now tag) others.entry) }
+    {
+        let misses = self.missing(first).next().is_some();
+        let mut best = Best::NONE.or(first, self.rank(first, misses));
+        if best.rank == 0 {
+            return best.entry;
+        }
+        let first_must = self.table.first_must_after(self.entry);
+        for candidate in others {
+            let misses = self.table.misses(self.entry, first_must, candidate);
+            if best.rank <= 2 && misses {
                 return best.entry;
+            }
+            if has_tag(self.table, tag, candidate) {
+                best = best.or(candidate, self.rank(candidate, misses));
             }
         }
         best.entry
@@ -137,28 +162,17 @@ impl<'a> Position<'a> {
         self.table.missing_past(self.entry)
     }
 
-    // Whether going to a candidate passes a mandatory node.
-    fn misses(&self, candidate: u16) -> bool
-        requires { candidate < length self.now.table.now }
-        ensures { result ≡ is_filled (missing_between self.now.table.now (entry_in self.now.pairs.now) candidate) }
-    {
-        self.table.misses(self.entry, self.first_must, candidate)
-    }
-
-    // Whether no candidate after this one can better the best so far.
-    fn is_settled(&self, best: Best, candidate: u16) -> bool
-        requires { candidate < length self.now.table.now }
-        ensures { result ≡ (best.rank == 0 || (nat_le best.rank 2 && is_filled (missing_between self.now.table.now (entry_in self.now.pairs.now) candidate))) }
-    {
-        best.rank == 0 || best.rank <= 2 && self.misses(candidate)
-    }
-
-    // The rank of a candidate, from 0 to 3.
-    fn rank(&self, candidate: u16) -> u8
-        requires { candidate < length self.now.table.now }
+    // The rank of a candidate, from 0 to 3, by whether going there passes a mandatory node.
+    fn rank(&self, candidate: u16, misses: bool) -> u8
+        requires within { candidate < length self.now.table.now }
+        requires missing { misses
+            ≡ is_filled (missing_between
+            self.now.table.now
+            (entry_in self.now.pairs.now)
+            candidate) }
         ensures { result ≡ rank_in self.now.table.now self.now.pairs.now candidate }
     {
-        match (self.is_over(candidate), self.misses(candidate)) {
+        match (self.is_over(candidate), misses) {
             (false, false) => 0,
             (true, false) => 1,
             (false, true) => 2,

@@ -42,8 +42,8 @@ pub fn read_tags(
     if tags.is_empty() {
         return Ok(Vec::new(alloc));
     }
-    // Its nodes are those of a table, in which each reading is a walk.
-    let _nodes = table.nodes();
+    // UNH is the first entry of each table.
+    prove!(table.len() > 0);
     let mut placed = Vec::with_capacity(alloc, tags.len())?;
     placed.push(Some(0))?;
     for tag in &tags[1..] {

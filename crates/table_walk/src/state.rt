@@ -50,8 +50,8 @@ pub fn start(alloc: Global, table: &Table) -> Result<State, AllocError>
     ensures shaped { IfOk result (λ state. IsShaped table.now state) }
     ensures counts { IfOk result (λ state. AreCountsUpTo 1 state) }
 {
-    // UNH is in no group.
-    let _nodes = table.nodes();
+    // UNH is the first entry of each table, and in no group.
+    prove!(table.len() > 0);
     let mut pairs = ArrayVec::new();
     pairs.push((0, 1));
     State::of(alloc, pairs)

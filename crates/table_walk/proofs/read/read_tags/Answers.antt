@@ -12,7 +12,7 @@ loop-tag-init c =
     let tags = c.args.tags.now in
     let made : c.push.new.self.items ≡ Some 0 ∷ [] = c.in_ok-push.ensures.items ∙ ap (λ (xs : List (Option ℕ)). xs ++ Some 0 ∷ []) c.in_ok-placed.ensures.items in
     let some = some_of (length tags) (sym c.is_empty.ensures ∙ c.if-is_empty.false) in (
-      subst (Sound nodes) (sym made) (sound_start nodes c.nodes-nodes.ensures.lawful),
+      subst (Sound nodes) (sym made) (sound_start nodes c.len.ensures.lawful),
       ap (λ (p : List (Option ℕ)). reading_from nodes p (take (length tags - 1) (drop 1 tags))) made ∙ later_tags nodes tags some,
     )
 
@@ -26,7 +26,7 @@ loop-tag-preserved c =
     let member = c.member_of-member.result in
     let is : member ≡ member_of nodes before tag = c.member_of-member.ensures ∙ ap (λ (p : List (Option ℕ)). member_of nodes p tag) c.deref.ensures.value in
     let push : c.push-in-loop-tag.new.self.items ≡ before ++ member ∷ [] = c.in_ok-push-2.ensures.items in (
-      subst (Sound nodes) (sym push) (sound_step nodes c.nodes-nodes.ensures.lawful before tag member is c.loop-tag.invariant.0),
+      subst (Sound nodes) (sym push) (sound_step nodes c.len.ensures.lawful before tag member is c.loop-tag.invariant.0),
       ap (λ (p : List (Option ℕ)). reading_from nodes p (drop (i + 1) rest)) (push ∙ ap (λ (m : Option ℕ). before ++ m ∷ []) is)
           ∙ read_more nodes before rest i None c.loop-tag-test.true ∙ c.loop-tag.invariant.1,
     )
@@ -56,4 +56,4 @@ returns-clause-derived c none =
     let rest : List (Option Tag) = take (length c.args.tags.now - 1) (drop 1 c.args.tags.now) in
     let is = sym (read_all c.args.table.now c.loop-tag.placed.items rest c.loop-tag.tag-index (omega (arith, c.loop-tag-test.false))) ∙ c.loop-tag.invariant.1 in
     let some = some_of (length c.args.tags.now) (sym c.is_empty.ensures ∙ c.if-is_empty.false) in
-    derived c.args.table.now c.nodes-nodes.ensures.lawful none c.args.tags.now c.loop-tag.placed.items is some
+    derived c.args.table.now c.len.ensures.lawful none c.args.tags.now c.loop-tag.placed.items is some

@@ -1,0 +1,102 @@
+-- The one spelling of a directory.
+use Rattle.std.specs.Prelude.{ℕ, Bool, true, false, List, [], ◌∷◌, ◌++◌, length, Option, Some, None, codes, decimal}
+use Rattle.std.specs.List.{flat_map, join_with_byte}
+use Rattle.edi_tables.specs.declared.tag.Tag.{Tag}
+use Rattle.edi_tables.specs.declared.element.Class.{Class}
+use Rattle.edi_tables.specs.declared.element.Class.TheVariants.{A, N, An}
+use Rattle.edi_tables.specs.declared.element.Repr.{Repr}
+use Rattle.edi_tables.specs.declared.element.ElementDef.{ElementDef}
+use Rattle.edi_tables.specs.declared.element.CodeList.{CodeList}
+use Rattle.edi_tables.specs.declared.element.PartDef.{PartDef}
+use Rattle.edi_tables.specs.declared.element.CompositeDef.{CompositeDef}
+use Rattle.edi_tables.specs.declared.segment.ItemDef.{ItemDef}
+use Rattle.edi_tables.specs.declared.segment.ItemDef.TheVariants.{Alone, Composite}
+use Rattle.edi_tables.specs.declared.segment.SegmentDef.{SegmentDef}
+use Rattle.edi_tables.specs.declared.segment.TableRow.{TableRow}
+use Rattle.edi_tables.specs.declared.segment.MessageDef.{MessageDef}
+use Rattle.dir_compile.specs.declared.parts.Parts.{Parts}
+
+-- a line: words separated by one space, and LF
+abbrev pub line_of : List (List ℕ) → List ℕ
+line_of words = join_with_byte 32 words ++ 10 ∷ []
+
+-- a list under a name: a line of the name and how many members there are, and then the members
+abbrev pub listed : {A : Type 0} → List ℕ → (A → List ℕ) → List A → List ℕ
+listed name text members = line_of (name ∷ decimal (length members) ∷ []) ++ flat_map text members
+
+-- a class: letters, digits, or both
+abbrev pub class_text : Class → List ℕ
+class_text A = codes "a"
+class_text N = codes "n"
+class_text An = codes "an"
+
+-- `..` before a length that is the greatest, and none before an exact one
+abbrev pub dots_text : Bool → List ℕ
+dots_text true = []
+dots_text false = codes ".."
+
+-- a representation, as `an..35`
+abbrev pub repr_text : Repr → List ℕ
+repr_text repr = class_text repr.class ++ dots_text repr.exact ++ decimal repr.max
+
+-- a status: `M`, mandatory, or `C`, conditional
+abbrev pub status_text : Bool → List ℕ
+status_text true = codes "M"
+status_text false = codes "C"
+
+-- a data element: its code and its representation
+abbrev pub element_text : ElementDef → List ℕ
+element_text element = line_of (element.code.octets ∷ repr_text element.repr ∷ [])
+
+-- a code of a list
+abbrev pub value_text : List ℕ → List ℕ
+value_text value = line_of (value ∷ [])
+
+-- a code list: its element, and its codes
+abbrev pub list_text : CodeList → List ℕ
+list_text list = listed list.element.octets value_text list.values
+
+-- a data element or a composite where it is used: its code and its status
+abbrev pub used_text : List ℕ → Bool → List ℕ
+used_text code must = line_of (code ∷ status_text must ∷ [])
+
+-- a component of a composite; its representation is that of its element
+abbrev pub part_text : PartDef → List ℕ
+part_text part = used_text part.code.octets part.must
+
+abbrev pub composite_text : CompositeDef → List ℕ
+composite_text composite = listed composite.code.octets part_text composite.parts
+
+-- an item of a segment
+abbrev pub item_text : ItemDef → List ℕ
+item_text (Alone part) = part_text part
+item_text (Composite code must) = used_text code.octets must
+
+abbrev pub segment_text : SegmentDef → List ℕ
+segment_text segment = listed segment.tag.octets item_text segment.items
+
+-- what a row is called: its tag, or `-` for a group
+abbrev pub row_name : Option Tag → List ℕ
+row_name None = codes "-"
+row_name (Some tag) = tag.octets
+
+-- a row of a segment table: its depth, what it is called, its status and its greatest count
+abbrev pub row_text : TableRow → List ℕ
+row_text row = line_of (decimal row.depth ∷ row_name row.tag ∷ status_text row.must ∷ decimal row.max ∷ [])
+
+abbrev pub message_text : MessageDef → List ℕ
+message_text message = listed message.name row_text message.rows
+
+-- the first line, which says that these octets are a store, and of which version
+abbrev pub first_line : List ℕ
+first_line = codes "EDIDIR1"
+
+-- the labels of a directory: version, release and agency
+abbrev pub labels_text : Parts → List ℕ
+labels_text parts = line_of (parts.version ∷ parts.release ∷ parts.agency ∷ [])
+
+-- the spelling of a directory: its first line, its labels, and its definitions, kind by kind; the table of CONTRL isn't written
+unfoldable pub store_text : Parts → List ℕ
+store_text parts =
+    line_of (first_line ∷ []) ++ labels_text parts ++ listed (codes "E") element_text parts.elements ++ listed (codes "L") list_text parts.lists
+    ++ listed (codes "C") composite_text parts.composites ++ listed (codes "S") segment_text parts.segments ++ listed (codes "T") message_text parts.messages

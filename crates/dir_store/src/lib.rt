@@ -1,0 +1,19 @@
+//! Directories in one file: a store, which spells a directory in one way.
+#![tactic(auto)]
+
+mod definitions;
+mod entry;
+mod known;
+mod labels;
+mod line;
+mod reading;
+mod segments;
+mod stop;
+#[cfg(test)]
+mod tests;
+mod words;
+mod writing;
+
+pub use reading::read_store;
+pub use stop::StoreStop;
+pub use writing::write_store;

@@ -1,0 +1,94 @@
+//! A directory from its store.
+ghost use Rattle.std.specs.Prelude.{◌≡◌, ◌≤◌, IfOk, length};
+ghost use Rattle.edi_tables.specs.First.{Answers};
+ghost use Rattle.dir_compile.specs.declared.parts.Parts.{Parts};
+ghost use Rattle.dir_compile.specs.Directory.{IsDirectory};
+ghost use Rattle.dir_store.specs.Lines.{lined};
+ghost use Rattle.dir_store.specs.Rules.{first_in, labels_in};
+ghost use Rattle.dir_store.specs.Spelling.{store_text};
+ghost use Rattle.dir_store.specs.Stop.{fault_in, left_in};
+ghost use Rattle.dir_store.specs.Store.{parts_at, store_of};
+
+use crate::entry::read_section;
+use crate::known::Known;
+use crate::labels::{Labels, read_labels};
+use crate::line::read_line;
+use crate::stop::{Stop, StoreStop};
+use dir_compile::{Directory, Parts, compile};
+use edi_tables::{CompositeDef, ElementDef, List, SegmentDef};
+use std::alloc::Global;
+
+/// The directory that a store of at most 4,194,304 octets spells; else the place of its first fault.
+pub fn read_store(alloc: Global, file: &[u8]) -> Result<Directory, StoreStop>
+    requires { length file.now ≤ 4194304 }
+    // What is read is spelled so.
+    ensures spelled { IfOk result (λ directory. file.now ≡ store_text directory) }
+    // What is spelled so is read, unless memory runs out.
+    ensures again { (parts : Parts) → IsDirectory parts → file.now ≡ store_text parts
+        → Answers (λ directory. directory) fault_in result (Ok parts) }
+    // Which fault it is.
+    ensures answers { Answers (λ directory. directory) fault_in result (store_of file.now) }
+{
+    let parts = match read_parts(alloc, file) {
+        Ok(parts) => parts,
+        Err(stop) => return Err(StoreStop::of(file.len(), stop)),
+    };
+    match compile(alloc, parts) {
+        Ok(directory) => Ok(directory),
+        Err(_) => Err(StoreStop::Memory),
+    }
+}
+
+// The parts that a store spells.
+#[tactic(auto, unfolding(crate::specs::Store::parts_at))]
+fn read_parts(alloc: Global, octets: &[u8]) -> Result<Parts, Stop>
+    ensures { Answers (λ parts. parts) left_in result (parts_at octets.now) }
+{
+    let rest = read_first(octets)?;
+    let (labels, rest) = read_second(alloc, rest)?;
+    let known = Known { elements: &[], composites: &[], segments: &[] };
+    let (elements, rest) = read_section::<ElementDef>(alloc, &known, b"E", rest)?;
+    let known = Known { elements: &elements, composites: &[], segments: &[] };
+    let (lists, rest) = read_section(alloc, &known, b"L", rest)?;
+    let (composites, rest) = read_section::<CompositeDef>(alloc, &known, b"C", rest)?;
+    let known = Known { elements: &elements, composites: &composites, segments: &[] };
+    let (segments, rest) = read_section::<SegmentDef>(alloc, &known, b"S", rest)?;
+    let known = Known { elements: &elements, composites: &composites, segments: &segments };
+    let (messages, rest) = read_section(alloc, &known, b"T", rest)?;
+    if !rest.is_empty() {
+        return Err(Stop::at(rest));
+    }
+    Ok(Parts {
+        version: labels.version,
+        release: labels.release,
+        agency: labels.agency,
+        elements: List::of(elements),
+        lists: List::of(lists),
+        composites: List::of(composites),
+        segments: List::of(segments),
+        messages: List::of(messages),
+    })
+}
+
+// The octets after the first line.
+fn read_first(octets: &[u8]) -> Result<&[u8], Stop>
+    ensures { Answers (λ rest. (tt, rest.now)) left_in result (lined first_in octets.now) }
+{
+    let (line, rest) = read_line(octets)?;
+    if line == b"EDIDIR1".as_slice() {
+        Ok(rest)
+    } else {
+        Err(Stop::at(octets))
+    }
+}
+
+// The labels on the second line, and the octets after it.
+fn read_second(alloc: Global, octets: &[u8]) -> Result<(Labels, &[u8]), Stop>
+    ensures { Answers (λ x. (x.0, x.1.now)) left_in result (lined labels_in octets.now) }
+{
+    let (line, rest) = read_line(octets)?;
+    match read_labels(alloc, line)? {
+        Some(labels) => Ok((labels, rest)),
+        None => Err(Stop::at(octets)),
+    }
+}

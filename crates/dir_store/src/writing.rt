@@ -1,0 +1,43 @@
+//! The store of a directory.
+ghost use Rattle.std.specs.Prelude.{◌≡◌, ◌++◌, IfOk, OnOk, Ok};
+ghost use Rattle.dir_compile.specs.declared.parts.Parts.{Parts};
+ghost use Rattle.dir_compile.specs.Directory.{IsDirectory};
+ghost use Rattle.dir_store.specs.Spelling.{first_line, line_of, labels_text, store_text};
+ghost use Rattle.dir_store.specs.Store.{store_of};
+
+use crate::entry::put_listed;
+use dir_compile::{Directory, Parts};
+use edi_tables::Chunk;
+use std::alloc::{AllocError, Global};
+
+/// The one spelling of a directory.
+pub fn write_store(alloc: Global, dir: &Directory) -> Result<Chunk, AllocError>
+    ensures spells { IfOk result (λ text. text ≡ store_text dir.now) }
+    // What is spelled is read again.
+    ensures again { store_of (store_text dir.now) ≡ Ok dir.now }
+    // No other directory has this spelling.
+    ensures once { (other : Parts) → IsDirectory other → store_text other ≡ store_text dir.now → other ≡ dir.now }
+{
+    let parts = dir.parts();
+    let mut out = Chunk::empty(alloc);
+    out.add(b"EDIDIR1\n")?;
+    put_labels(&mut out, parts)?;
+    put_listed(&mut out, b"E", parts.elements.items())?;
+    put_listed(&mut out, b"L", parts.lists.items())?;
+    put_listed(&mut out, b"C", parts.composites.items())?;
+    put_listed(&mut out, b"S", parts.segments.items())?;
+    put_listed(&mut out, b"T", parts.messages.items())?;
+    Ok(out)
+}
+
+// The line of the labels.
+fn put_labels(out: &mut Chunk, parts: &Parts) -> Result<(), AllocError>
+    ensures { OnOk result (out.new ≡ out.old ++ labels_text parts.now) }
+{
+    out.add(parts.version.octets())?;
+    out.add(b" ")?;
+    out.add(parts.release.octets())?;
+    out.add(b" ")?;
+    out.add(parts.agency.octets())?;
+    out.add(b"\n")
+}

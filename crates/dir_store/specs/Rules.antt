@@ -86,11 +86,11 @@ composite_in before line =
 -- a data element of the store, with its representation there
 abbrev pub part_of : List ElementDef → List ℕ → Bool → Option PartDef
 part_of elements code must =
-    if is_element_code code then option_map (λ element. record { code = record { octets = code }; must = must; repr = element.repr }) (named_in element_name elements code) else None
+    option_map (λ element. record { code = record { octets = code }; must = must; repr = element.repr }) (named_in element_name elements code)
 
 -- a part: a data element of the store, and a status
 abbrev pub part_with : List ElementDef → List ℕ × List ℕ → Option PartDef
-part_with elements w = option_and_then (part_of elements w.0) (status_in w.1)
+part_with elements w = option_and_then (λ must. if is_element_code w.0 then part_of elements w.0 must else None) (status_in w.1)
 
 abbrev pub part_in : List ElementDef → List ℕ → Option PartDef
 part_in elements line = option_and_then (part_with elements) (two_in line)
@@ -130,13 +130,13 @@ tag_of segments tag =
 abbrev pub called : List SegmentDef → List ℕ → Option (Option Tag)
 called segments word = if bytes_eq word (codes "-") then Some None else option_map (λ tag. Some tag) (tag_of segments word)
 
-abbrev pub row_of : List ℕ × List ℕ × List ℕ × List ℕ → ℕ → Option Tag → Bool → ℕ → TableRow
-row_of w depth tag must max = record { tag = tag; must = must; max = max; depth = depth }
+abbrev pub row_of : ℕ → Option Tag → Bool → ℕ → TableRow
+row_of depth tag must max = record { tag = tag; must = must; max = max; depth = depth }
 
 -- a row: its depth from 0 to 16, what it is called, a status, and its greatest count from 1 to 999,999
 abbrev pub row_with : List SegmentDef → List ℕ × List ℕ × List ℕ × List ℕ → Option TableRow
 row_with segments w =
-    option_and_then (λ depth. option_and_then (λ tag. option_and_then (λ must. option_map (row_of w depth tag must) (kept (is_between 1 999999) (number_in w.3))) (status_in w.2)) (called segments w.1)) (kept (is_between 0 16) (number_in w.0))
+    option_and_then (λ depth. option_and_then (λ tag. option_and_then (λ must. option_map (row_of depth tag must) (kept (is_between 1 999999) (number_in w.3))) (status_in w.2)) (called segments w.1)) (kept (is_between 0 16) (number_in w.0))
 
 abbrev pub row_in : List SegmentDef → List ℕ → Option TableRow
 row_in segments line = option_and_then (row_with segments) (four_in line)

@@ -1,5 +1,5 @@
 -- The one spelling of a directory.
-use Rattle.std.specs.Prelude.{ℕ, Bool, true, false, List, [], ◌∷◌, ◌++◌, length, Option, Some, None, codes, decimal}
+use Rattle.std.specs.Prelude.{ℕ, ◌<◌, ◌^◌, Bool, true, false, List, [], ◌∷◌, ◌++◌, length, Option, Some, None, codes, decimal}
 use Rattle.std.specs.List.{flat_map, join_with_byte}
 use Rattle.edi_tables.specs.declared.tag.Tag.{Tag}
 use Rattle.edi_tables.specs.declared.element.Class.{Class}
@@ -100,3 +100,7 @@ unfoldable pub store_text : Parts → List ℕ
 store_text parts =
     line_of (first_line ∷ []) ++ labels_text parts ++ listed (codes "E") element_text parts.elements ++ listed (codes "L") list_text parts.lists
     ++ listed (codes "C") composite_text parts.composites ++ listed (codes "S") segment_text parts.segments ++ listed (codes "T") message_text parts.messages
+
+-- a text each of whose counts has at most 19 digits: no text in memory is longer
+abbrev pub IsCountable : List ℕ → Type 0
+IsCountable text = length text < 10 ^ 19

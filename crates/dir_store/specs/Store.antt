@@ -15,55 +15,67 @@ use Rattle.dir_compile.specs.Compile.{is_filled_with}
 use Rattle.dir_store.specs.Lines.{◌>>=◌, Reading, found_at, lined, several}
 use Rattle.dir_store.specs.Rules.{first_in, labels_in, section_in, element_in, list_in, value_in, composite_in, part_in, segment_in, item_in, message_in, row_in}
 
--- the members under a head that keeps a rule
-abbrev pub headed : {A : Type 0} → (List ℕ → Option (List ℕ × ℕ)) → (Option A → List ℕ → Reading A) → List ℕ → Reading (List ℕ × List A)
-headed rule member octets =
-    lined rule octets >>= λ head. several head.0.1 member [] head.1 >>= λ members. Ok ((head.0.0, members.0), members.1)
+-- what a head that keeps a rule and the members after it make; where they make nothing, the fault is at the head
+abbrev pub headed : {A B : Type 0} → (List ℕ → Option (List ℕ × ℕ)) → (Option A → List ℕ → Reading A) → (List ℕ → List A → Option B) → List ℕ → Reading B
+headed rule member made octets =
+    lined rule octets >>= λ head. several head.0.1 member [] head.1 >>= λ members. found_at octets (made head.0.0 members.0) members.1
 
+-- data elements
 unfoldable pub element_at : Option ElementDef → List ℕ → Reading ElementDef
 element_at before octets = lined (element_in before) octets
 
+-- code lists
 unfoldable pub value_at : Option (List ℕ) → List ℕ → Reading (List ℕ)
 value_at before octets = lined (value_in before) octets
 
-unfoldable pub list_at : List ElementDef → Option CodeList → List ℕ → Reading CodeList
-list_at elements before octets =
-    headed (list_in elements before) value_at octets >>= λ read. Ok (record { element = record { octets = read.0.0 }; values = read.0.1 }, read.1)
+abbrev pub list_of : List ℕ → List (List ℕ) → Option CodeList
+list_of name values = Some (record { element = record { octets = name }; values = values })
 
+unfoldable pub list_at : List ElementDef → Option CodeList → List ℕ → Reading CodeList
+list_at elements before octets = headed (list_in elements before) value_at list_of octets
+
+-- composites
 unfoldable pub part_at : List ElementDef → Option PartDef → List ℕ → Reading PartDef
 part_at elements before octets = lined (part_in elements) octets
 
-unfoldable pub composite_at : List ElementDef → Option CompositeDef → List ℕ → Reading CompositeDef
-composite_at elements before octets =
-    headed (composite_in before) (part_at elements) octets >>= λ read. Ok (record { code = record { octets = read.0.0 }; parts = read.0.1 }, read.1)
+abbrev pub composite_of : List ℕ → List PartDef → Option CompositeDef
+composite_of name parts = Some (record { code = record { octets = name }; parts = parts })
 
+unfoldable pub composite_at : List ElementDef → Option CompositeDef → List ℕ → Reading CompositeDef
+composite_at elements before octets = headed (composite_in before) (part_at elements) composite_of octets
+
+-- segments
 unfoldable pub item_at : List ElementDef → List CompositeDef → Option ItemDef → List ℕ → Reading ItemDef
 item_at elements composites before octets = lined (item_in elements composites) octets
 
-unfoldable pub segment_at : List ElementDef → List CompositeDef → Option SegmentDef → List ℕ → Reading SegmentDef
-segment_at elements composites before octets =
-    headed (segment_in before) (item_at elements composites) octets >>= λ read. Ok (record { tag = record { octets = read.0.0 }; items = read.0.1 }, read.1)
+abbrev pub segment_of : List ℕ → List ItemDef → Option SegmentDef
+segment_of name items = Some (record { tag = record { octets = name }; items = items })
 
+unfoldable pub segment_at : List ElementDef → List CompositeDef → Option SegmentDef → List ℕ → Reading SegmentDef
+segment_at elements composites before octets = headed (segment_in before) (item_at elements composites) segment_of octets
+
+-- messages
 unfoldable pub row_at : List SegmentDef → Option TableRow → List ℕ → Reading TableRow
 row_at segments before octets = lined (row_in segments) octets
 
--- a message whose rows are a segment table
-abbrev pub message_of : List ℕ × List TableRow → Option MessageDef
-message_of read = if is_filled_with (table_faults read.1) then None else Some (record { name = read.0; rows = read.1 })
+-- the rows of a message are a segment table: that is judged after its last row, and its fault is at the line of its name
+abbrev pub message_of : List ℕ → List TableRow → Option MessageDef
+message_of name rows = if is_filled_with (table_faults rows) then None else Some (record { name = name; rows = rows })
 
--- a table is judged after its last line, and its fault is at the line of its name
 unfoldable pub message_at : List SegmentDef → Option MessageDef → List ℕ → Reading MessageDef
-message_at segments before octets =
-    headed (message_in before) (row_at segments) octets >>= λ read. found_at octets (message_of read.0) read.1
+message_at segments before octets = headed (message_in before) (row_at segments) message_of octets
 
--- the definitions of a kind
+-- the definitions of a kind, in a section of its letter
+abbrev pub section_of : {A : Type 0} → List ℕ → List A → Option (List A)
+section_of letter members = Some members
+
 unfoldable pub section_at : {A : Type 0} → List ℕ → (Option A → List ℕ → Reading A) → List ℕ → Reading (List A)
-section_at letter member octets = headed (section_in letter) member octets >>= λ read. Ok (read.0.1, read.1)
+section_at letter member octets = headed (section_in letter) member section_of octets
 
 -- nothing follows
-abbrev pub ended : {A : Type 0} → A → List ℕ → Result A ℕ
-ended x [] = Ok x
-ended x octets = Err (length octets)
+abbrev pub ended : List ℕ → Result (Unit {0}) ℕ
+ended [] = Ok tt
+ended octets = Err (length octets)
 
 -- the lines of a store in order
 unfoldable pub parts_at : List ℕ → Result Parts ℕ
@@ -75,7 +87,8 @@ parts_at octets = do
   composites ← section_at (codes "C") (composite_at elements.0) lists.1
   segments ← section_at (codes "S") (segment_at elements.0 composites.0) composites.1
   messages ← section_at (codes "T") (message_at segments.0) segments.1
-  ended (record {
+  end ← ended messages.1
+  Ok (record {
     version = labels.0.version;
     release = labels.0.release;
     agency = labels.0.agency;
@@ -84,7 +97,7 @@ parts_at octets = do
     composites = composites.0;
     segments = segments.0;
     messages = messages.0;
-  }) messages.1
+  })
 
 -- octets give a directory, or the place of the first line that breaks a rule: of the first octet after the last line where some
 -- follow it, and of the octets' end where they end before LF ends the last line

@@ -1,5 +1,5 @@
 //! The lines of data elements, code lists and composites.
-ghost use Rattle.std.specs.Prelude.{◌≡◌, ◌++◌, Bool, List, ℕ, OnOk};
+ghost use Rattle.std.specs.Prelude.{◌≡◌, ◌==◌, ◌&&◌, ◌++◌, not, OnOk};
 ghost use Rattle.std.specs.List.{list_all};
 ghost use Rattle.std.specs.Option.{option_copied, option_map};
 ghost use Rattle.edi_tables.specs.Forms.{is_code_value as is_code_value_of};
@@ -46,7 +46,7 @@ impl Entry for ElementDef {
 
 // The data element on a line: a code in order, and a representation.
 fn element_on(line: &[u8], before: Option<&ElementDef>) -> Option<ElementDef>
-    ensures { result ≡ rules.element_in (option_copied before) line.now }
+    ensures { result ≡ rules.element_in (option_copied before.entry) line.now }
 {
     let (code, repr) = two_words(line)?;
     let code = read_element_code(code)?;
@@ -103,7 +103,7 @@ impl Entry for CodeList {
 
 // The element of a code list on a line, which is one of the store, in order, and how many codes follow.
 fn list_on(line: &[u8], known: &Known<'_>, before: Option<&CodeList>) -> Option<(Code, u64)>
-    ensures { option_map (λ h. (h.0.octets, h.1)) result ≡ rules.list_in known.now.elements.now (option_copied before) line.now }
+    ensures { option_map (λ h. (h.0.octets, h.1)) result ≡ rules.list_in known.now.elements.now (option_copied before.entry) line.now }
 {
     let (name, count) = read_head(line)?;
     let code = read_element_code(name)?;
@@ -178,7 +178,7 @@ impl Entry for CompositeDef {
 
 // The code of a composite on a line, in order, and how many parts follow: 1 to 99.
 fn composite_on(line: &[u8], before: Option<&CompositeDef>) -> Option<(Code, u64)>
-    ensures { option_map (λ h. (h.0.octets, h.1)) result ≡ rules.composite_in (option_copied before) line.now }
+    ensures { option_map (λ h. (h.0.octets, h.1)) result ≡ rules.composite_in (option_copied before.entry) line.now }
 {
     let (name, count) = read_head(line)?;
     let code = read_composite_code(name)?;
@@ -232,7 +232,6 @@ fn part_on(line: &[u8], known: &Known<'_>) -> Option<PartDef>
 
 /// The data element of the store of that code, where it is used.
 pub fn part_of(known: &Known<'_>, code: Code, must: bool) -> Option<PartDef>
-    requires { rules.is_element_code code.octets ≡ true }
     ensures { result ≡ rules.part_of known.now.elements.now code.octets must }
 {
     let element = known.element(code)?;

@@ -1,9 +1,10 @@
 //! What a store lists, read and put one after another.
 ghost use Rattle.std.specs.Prelude.{◌≡◌, ◌++◌, List, ℕ, Option, Result, [], OnOk, length};
 ghost use Rattle.std.specs.List.{flat_map};
-ghost use Rattle.std.specs.Option.{option_copied};
+ghost use Rattle.std.specs.Option.{option_copied, option_map};
 ghost use Rattle.edi_tables.specs.First.{Answers};
 ghost use Rattle.dir_store.specs.Lines.{several};
+ghost use Rattle.dir_store.specs.Rules.{section_in};
 ghost use Rattle.dir_store.specs.Spelling.{listed};
 ghost use Rattle.dir_store.specs.Stop.{left_in};
 ghost use Rattle.dir_store.specs.Store.{section_at};
@@ -30,7 +31,7 @@ pub trait Entry: Sized + Drop {
         before: Option<&Self>,
         octets: &'o [u8],
     ) -> Result<(Self, &'o [u8]), Stop>
-        ensures { Answers (λ x. (x.0, x.1.now)) left_in result (read_at known.now (option_copied before) octets.now) };
+        ensures { Answers (λ x. (x.0, x.1.now)) left_in result (read_at known.now (option_copied before.entry) octets.now) };
 
     /// Puts the lines of a member at the end.
     fn put(&self, out: &mut Chunk) -> Result<(), AllocError>
@@ -67,9 +68,20 @@ pub fn read_section<'o, T: Entry>(
     ensures { Answers (λ x. (x.0.items, x.1.now)) left_in result (section_at letter.now (T.read_at known.now) octets.now) }
 {
     let (line, rest) = read_line(octets)?;
-    match read_head(line) {
-        Some((name, count)) if name == letter => read_several(alloc, known, count, rest),
-        _ => Err(Stop::at(octets)),
+    let (_, count) = section_on(line, letter).ok_or(Stop::at(octets))?;
+    let (members, rest) = read_several(alloc, known, count, rest)?;
+    Ok((members, rest))
+}
+
+// The head of the section of that letter on a line.
+fn section_on<'l>(line: &'l [u8], letter: &[u8]) -> Option<(&'l [u8], u64)>
+    ensures { option_map (λ h. (h.0.now, h.1)) result ≡ section_in letter.now line.now }
+{
+    let (name, count) = read_head(line)?;
+    if name == letter {
+        Some((name, count))
+    } else {
+        None
     }
 }
 

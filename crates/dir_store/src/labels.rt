@@ -42,8 +42,8 @@ fn is_label(word: &[u8], most: usize) -> bool
     1 <= word.len() && word.len() <= most && has_label_octets(word)
 }
 
-// Whether each octet is one of `A` to `Z` and `0` to `9`.
-fn has_label_octets(word: &[u8]) -> bool
+/// Whether each octet is one of `A` to `Z` and `0` to `9`.
+pub fn has_label_octets(word: &[u8]) -> bool
     ensures { result ≡ list_all is_tag_octet_of word.now }
 {
     word.iter().all(|octet| octet.is_ascii_uppercase() || octet.is_ascii_digit())

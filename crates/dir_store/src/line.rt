@@ -49,10 +49,10 @@ pub fn read_head(line: &[u8]) -> Option<(&[u8], u64)>
 
 /// Whether a name comes after that of the member before, if there is one, in octet order.
 pub fn comes_after(before: Option<&[u8]>, name: &[u8]) -> bool
-    ensures { result ≡ rules.comes_after (λ name. name) (option_copied before) name.now }
+    ensures { result ≡ rules.comes_after (λ name. name) (option_copied before.entry) name.now }
 {
     match before {
         None => true,
-        Some(before) => before < name,
+        Some(before) => before.cmp(&name).is_lt(),
     }
 }

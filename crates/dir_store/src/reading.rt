@@ -7,7 +7,7 @@ ghost use Rattle.dir_store.specs.Lines.{lined};
 ghost use Rattle.dir_store.specs.Rules.{first_in, labels_in};
 ghost use Rattle.dir_store.specs.Spelling.{store_text};
 ghost use Rattle.dir_store.specs.Stop.{fault_in, left_in};
-ghost use Rattle.dir_store.specs.Store.{parts_at, store_of};
+ghost use Rattle.dir_store.specs.Store.{ended, parts_at, store_of};
 
 use crate::entry::read_section;
 use crate::known::Known;
@@ -55,9 +55,7 @@ fn read_parts(alloc: Global, octets: &[u8]) -> Result<Parts, Stop>
     let (segments, rest) = read_section::<SegmentDef>(alloc, &known, b"S", rest)?;
     let known = Known { elements: &elements, composites: &composites, segments: &segments };
     let (messages, rest) = read_section(alloc, &known, b"T", rest)?;
-    if !rest.is_empty() {
-        return Err(Stop::at(rest));
-    }
+    read_end(rest)?;
     Ok(Parts {
         version: labels.version,
         release: labels.release,
@@ -90,5 +88,16 @@ fn read_second(alloc: Global, octets: &[u8]) -> Result<(Labels, &[u8]), Stop>
     match read_labels(alloc, line)? {
         Some(labels) => Ok((labels, rest)),
         None => Err(Stop::at(octets)),
+    }
+}
+
+// Finds that nothing follows.
+fn read_end(octets: &[u8]) -> Result<(), Stop>
+    ensures { Answers (λ end. end) left_in result (ended octets.now) }
+{
+    if octets.is_empty() {
+        Ok(())
+    } else {
+        Err(Stop::at(octets))
     }
 }

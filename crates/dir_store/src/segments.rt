@@ -1,6 +1,7 @@
 //! The lines of segments and messages.
 ghost use Rattle.std.specs.Prelude.{◌≡◌, ◌++◌, [], length, OnOk, slice_get, is_some};
 ghost use Rattle.std.specs.Option.{option_copied, option_map};
+ghost use Rattle.edi_tables.specs.Forms.{is_message_name as is_message_name_of};
 ghost use Rattle.edi_tables.specs.Rows.{table_faults};
 ghost use Rattle.dir_store.specs.Rules as rules;
 ghost use Rattle.dir_store.specs.Spelling.{segment_text, item_text, row_text, row_name, message_text};
@@ -9,6 +10,7 @@ ghost use Rattle.dir_store.specs.Store.{segment_at, item_at, row_at, message_at}
 use crate::definitions::{MOST_MEMBERS, is_between, part_of, put_status, put_used};
 use crate::entry::{Entry, put_listed, read_several};
 use crate::known::Known;
+use crate::labels::has_label_octets;
 use crate::line::{comes_after, read_head, read_line, read_number};
 use crate::stop::Stop;
 use crate::words::{four_words, two_words};
@@ -43,7 +45,7 @@ impl Entry for SegmentDef {
 
 // The tag of a segment on a line, in order and not a service segment's, and how many items follow: 1 to 99.
 fn segment_on(line: &[u8], before: Option<&SegmentDef>) -> Option<(Tag, u64)>
-    ensures { option_map (λ h. (h.0.octets, h.1)) result ≡ rules.segment_in (option_copied before) line.now }
+    ensures { option_map (λ h. (h.0.octets, h.1)) result ≡ rules.segment_in (option_copied before.entry) line.now }
 {
     let (name, count) = read_head(line)?;
     let tag = Tag::read(name)?;
@@ -129,7 +131,7 @@ impl Entry for MessageDef {
 
 // The name of a message on a line, in order and not CONTRL, and how many rows follow: 2 to 2,000.
 fn message_on<'l>(line: &'l [u8], before: Option<&MessageDef>) -> Option<(&'l [u8], u64)>
-    ensures { option_map (λ h. (h.0.now, h.1)) result ≡ rules.message_in (option_copied before) line.now }
+    ensures { option_map (λ h. (h.0.now, h.1)) result ≡ rules.message_in (option_copied before.entry) line.now }
 {
     let (name, count) = read_head(line)?;
     if !is_message_name(name) || !is_between(2, 2000, count) || name == b"CONTRL".as_slice() {
@@ -143,13 +145,9 @@ fn message_on<'l>(line: &'l [u8], before: Option<&MessageDef>) -> Option<(&'l [u
 
 // Whether a word is a message's name: six octets of `A` to `Z` and `0` to `9`, the first a letter.
 fn is_message_name(word: &[u8]) -> bool
-    ensures { result ≡ rules.is_message_name word.now }
+    ensures { result ≡ is_message_name_of word.now }
 {
-    word.len() == 6
-        && word[0].is_ascii_uppercase()
-        && word
-            .iter()
-            .all(|octet| octet.is_ascii_uppercase() || octet.is_ascii_digit())
+    word.len() == 6 && word[0].is_ascii_uppercase() && has_label_octets(word)
 }
 
 impl Entry for TableRow {

@@ -2,7 +2,7 @@
 ghost use Rattle.std.specs.Prelude.{◌≡◌, ◌++◌, IfOk, OnOk, Ok};
 ghost use Rattle.dir_compile.specs.declared.parts.Parts.{Parts};
 ghost use Rattle.dir_compile.specs.Directory.{IsDirectory};
-ghost use Rattle.dir_store.specs.Spelling.{first_line, line_of, labels_text, store_text};
+ghost use Rattle.dir_store.specs.Spelling.{IsCountable, labels_text, store_text};
 ghost use Rattle.dir_store.specs.Store.{store_of};
 
 use crate::entry::put_listed;
@@ -10,15 +10,23 @@ use dir_compile::{Directory, Parts};
 use edi_tables::Chunk;
 use std::alloc::{AllocError, Global};
 
-/// The one spelling of a directory.
+/// The one spelling of a directory. It may have more octets than a store that is read may have.
 pub fn write_store(alloc: Global, dir: &Directory) -> Result<Chunk, AllocError>
     ensures spells { IfOk result (λ text. text ≡ store_text dir.now) }
-    // What is spelled is read again.
-    ensures again { store_of (store_text dir.now) ≡ Ok dir.now }
-    // No other directory has this spelling.
-    ensures once { (other : Parts) → IsDirectory other → store_text other ≡ store_text dir.now → other ≡ dir.now }
+
+    // What is spelled is read again, and no other directory is spelled so.
+    ensures again { IsCountable (store_text dir.now) → store_of (store_text dir.now) ≡ Ok dir.now }
+    ensures once { (other : Parts) → IsDirectory other → IsCountable (store_text dir.now)
+        → store_text other ≡ store_text dir.now → other ≡ dir.now }
 {
-    let parts = dir.parts();
+    spell(alloc, dir.parts())
+}
+
+// The spelling of these parts.
+#[tactic(auto, unfolding(crate::specs::Spelling::store_text))]
+fn spell(alloc: Global, parts: &Parts) -> Result<Chunk, AllocError>
+    ensures { IfOk result (λ text. text ≡ store_text parts.now) }
+{
     let mut out = Chunk::empty(alloc);
     out.add(b"EDIDIR1\n")?;
     put_labels(&mut out, parts)?;

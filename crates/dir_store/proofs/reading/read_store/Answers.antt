@@ -1,0 +1,41 @@
+use Rattle.std.proofs.Common.{◌≡◌, Ok, Err, IfSome, ap, sym, ◌∙◌, subst}
+use Rattle.dir_store.specs.Stop.{fault_in, left_in}
+use Rattle.dir_store.specs.Spelling.{store_text}
+use Rattle.dir_store.specs.Store.{store_of}
+use Rattle.dir_store.proofs.OrderLemmas.{compiled-same}
+use Rattle.dir_store.proofs.WholeLemmas.{store-takes, placed-stop, placed-parts, spelled-gives, spelled-stop}
+use Rattle.dir_store.proofs.reading.read_store.Goals as goal
+
+pub returns-in-Err-clause-answers : goal.returns-in-Err-clause-answers
+returns-in-Err-clause-answers c =
+    subst (λ told. IfSome told (λ at. store_of c.args.file.now ≡ Err at)) (sym c.of.ensures) (placed-stop c.args.file.now c.len.result (left_in c.in-Err.stop) c.len.ensures c.in-Err.ensures)
+
+pub returns-in-Err-clause-again : goal.returns-in-Err-clause-again
+returns-in-Err-clause-again c =
+    spelled-stop c.args.file.now (fault_in c.of.result) c.requires
+    (subst (λ told. IfSome told (λ at. store_of c.args.file.now ≡ Err at)) (sym c.of.ensures) (placed-stop c.args.file.now c.len.result (left_in c.in-Err.stop) c.len.ensures c.in-Err.ensures))
+
+pub compile-requires-clause-few : goal.compile-requires-clause-few
+compile-requires-clause-few c =
+    (store-takes c.args.file.now c.in-Ok.parts c.requires (placed-parts c.args.file.now c.in-Ok.parts c.in-Ok.ensures)).1.few
+
+pub compile-requires-clause-forms : goal.compile-requires-clause-forms
+compile-requires-clause-forms c =
+    (store-takes c.args.file.now c.in-Ok.parts c.requires (placed-parts c.args.file.now c.in-Ok.parts c.in-Ok.ensures)).1.forms
+
+pub returns-in-Ok-compile-clause-spelled : goal.returns-in-Ok-compile-clause-spelled
+returns-in-Ok-compile-clause-spelled c =
+    let law = store-takes c.args.file.now c.in-Ok.parts c.requires (placed-parts c.args.file.now c.in-Ok.parts c.in-Ok.ensures) in
+    law.0 ∙ ap store_text (sym (compiled-same c.in-Ok.parts c.in-Ok-compile.directory law.1 c.in-Ok-compile.ensures.answers))
+
+pub returns-in-Ok-compile-clause-answers : goal.returns-in-Ok-compile-clause-answers
+returns-in-Ok-compile-clause-answers c =
+    let read = placed-parts c.args.file.now c.in-Ok.parts c.in-Ok.ensures in
+    let law = store-takes c.args.file.now c.in-Ok.parts c.requires read in
+    read ∙ ap Ok (sym (compiled-same c.in-Ok.parts c.in-Ok-compile.directory law.1 c.in-Ok-compile.ensures.answers))
+
+pub returns-in-Ok-compile-clause-again : goal.returns-in-Ok-compile-clause-again
+returns-in-Ok-compile-clause-again c = λ parts is spelled.
+    let read = placed-parts c.args.file.now c.in-Ok.parts c.in-Ok.ensures in
+    let law = store-takes c.args.file.now c.in-Ok.parts c.requires read in
+    sym (spelled-gives c.args.file.now parts c.requires is spelled) ∙ read ∙ ap Ok (sym (compiled-same c.in-Ok.parts c.in-Ok-compile.directory law.1 c.in-Ok-compile.ensures.answers))

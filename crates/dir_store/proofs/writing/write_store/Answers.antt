@@ -1,0 +1,8 @@
+use Rattle.dir_store.proofs.WholeLemmas.{store-again, store-once}
+use Rattle.dir_store.proofs.writing.write_store.Goals as goal
+
+pub returns-clause-again : goal.returns-clause-again
+returns-clause-again c = store-again c.args.dir.now c.parts.ensures.directory
+
+pub returns-clause-once : goal.returns-clause-once
+returns-clause-once c = λ other is few same. store-once c.args.dir.now other c.parts.ensures.directory is few same

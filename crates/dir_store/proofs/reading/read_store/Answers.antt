@@ -1,4 +1,4 @@
-use Rattle.std.proofs.Common.{◌≡◌, Ok, Err, IfSome, ap, sym, ◌∙◌, subst}
+use Rattle.std.proofs.Common.{◌≡◌, Ok, Err, IfSome, length, refl, ap, sym, ◌∙◌, subst}
 use Rattle.dir_store.specs.Stop.{fault_in, left_in}
 use Rattle.dir_store.specs.Spelling.{store_text}
 use Rattle.dir_store.specs.Store.{store_of}
@@ -8,12 +8,12 @@ use Rattle.dir_store.proofs.reading.read_store.Goals as goal
 
 pub returns-in-Err-clause-answers : goal.returns-in-Err-clause-answers
 returns-in-Err-clause-answers c =
-    subst (λ told. IfSome told (λ at. store_of c.args.file.now ≡ Err at)) (sym c.of.ensures) (placed-stop c.args.file.now c.len.result (left_in c.in-Err.stop) c.len.ensures c.in-Err.ensures)
+    subst (λ told. IfSome told (λ at. store_of c.args.file.now ≡ Err at)) (sym c.of.ensures) (placed-stop c.args.file.now (length c.args.file.now) (left_in c.in-Err.stop) refl c.in-Err.ensures)
 
 pub returns-in-Err-clause-again : goal.returns-in-Err-clause-again
 returns-in-Err-clause-again c =
     spelled-stop c.args.file.now (fault_in c.of.result) c.requires
-    (subst (λ told. IfSome told (λ at. store_of c.args.file.now ≡ Err at)) (sym c.of.ensures) (placed-stop c.args.file.now c.len.result (left_in c.in-Err.stop) c.len.ensures c.in-Err.ensures))
+    (subst (λ told. IfSome told (λ at. store_of c.args.file.now ≡ Err at)) (sym c.of.ensures) (placed-stop c.args.file.now (length c.args.file.now) (left_in c.in-Err.stop) refl c.in-Err.ensures))
 
 pub compile-requires-clause-few : goal.compile-requires-clause-few
 compile-requires-clause-few c =

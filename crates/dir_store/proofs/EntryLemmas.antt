@@ -301,9 +301,10 @@ module _ (parts : Parts) where
       let depth : kept (is_between 0 16) (number_in (decimal row.depth)) ≡ Some row.depth = kept-again _ _ row.depth (number-again row.depth deep) good.depth in
       let max : kept (is_between 1 999999) (number_in (decimal row.max)) ≡ Some row.max = kept-again _ _ row.max (number-again row.max most) good.max in
       let read : row_with parts.segments (decimal row.depth, row_name row.tag, status_text row.must, decimal row.max) ≡ Some row =
-      rw depth (rw (called-again row.tag tag) (rw (status-again row.must) (rw max refl))) in
-      (ap (option_and_then (row_with parts.segments)) (four-again (decimal row.depth) (row_name row.tag) (status_text row.must) (decimal row.max) one two three four) ∙ read,
-       joined-line (decimal row.depth) (row_name row.tag ∷ status_text row.must ∷ decimal row.max ∷ []) one (two, (three, (four, tt))))
+      rw depth (rw (called-again row.tag tag) (rw (status-again row.must) (rw max refl))) in (
+        ap (option_and_then (row_with parts.segments)) (four-again (decimal row.depth) (row_name row.tag) (status_text row.must) (decimal row.max) one two three four) ∙ read,
+        joined-line (decimal row.depth) (row_name row.tag ∷ status_text row.must ∷ decimal row.max ∷ []) one (two, (three, (four, tt))),
+      )
 
   pub row-spelled : IsSpelled (row_at parts.segments) row_text (λ before row. IsRow row)
   unfolding row_at

@@ -80,12 +80,15 @@ module _ (parts : Parts) where
   list-again : (before : Option CodeList) (list : CodeList) → IsList before list → IsListed (list_test before) IsValue list.element.octets list.values × IsPlain list.element.octets × (list_of list.element.octets list.values ≡ Some list)
   list-again before list good =
       let forms = and_parts (is_element_code list.element.octets) (list_all is_code_value list.values) good.formed in
-      let known = unbroken (is_some (named_in element_name parts.elements list.element.octets)) (fault_with UnknownElement list.element.octets) good.faultless in
-      (record {
-        head = and-three (is_element_code list.element.octets) (is_some (named_in element_name parts.elements list.element.octets)) (comes_after list_name before list.element.octets) forms.0 known good.after;
-        few = good.few;
-        good = each-both _ _ IsValue (λ b x formed after. record { formed = formed; after = after }) None list.values (each-passes is_code_value None list.values forms.1) good.codes;
-      }, element-plain list.element.octets forms.0, refl)
+      let known = unbroken (is_some (named_in element_name parts.elements list.element.octets)) (fault_with UnknownElement list.element.octets) good.faultless in (
+        record {
+          head = and-three (is_element_code list.element.octets) (is_some (named_in element_name parts.elements list.element.octets)) (comes_after list_name before list.element.octets) forms.0 known good.after;
+          few = good.few;
+          good = each-both _ _ IsValue (λ b x formed after. record { formed = formed; after = after }) None list.values (each-passes is_code_value None list.values forms.1) good.codes;
+        },
+        element-plain list.element.octets forms.0,
+        refl,
+      )
 
   pub list-spelled : IsSpelled (list_at parts.elements) list_text IsList
   unfolding list_at
@@ -106,8 +109,10 @@ module _ (parts : Parts) where
     where
       tests : (is_message_name name ≡ true) × (is_between 2 2000 (length rows) ≡ true) × (not (bytes_eq name (codes "CONTRL")) ≡ true) × (comes_after message_name before name ≡ true)
       tests = four (is_message_name name) (is_between 2 2000 (length rows)) (not (bytes_eq name (codes "CONTRL"))) (comes_after message_name before name) is.head
+
       one : MessageDef
       one = record { name = name; rows = rows }
+
       by : (faulty : Bool) → is_filled_with (table_faults rows) ≡ faulty → cond faulty None (Some one) ≡ Some message → IsMessage before message × (name ≡ message.name) × (rows ≡ message.rows)
       by true filled found = absurd cc
       by false filled found =
@@ -154,13 +159,16 @@ module _ (parts : Parts) where
       let two = two_rows rows none in
       let few = few_rows rows none in
       let range = each-passes _ None rows (row-in-range rows none) in
-      let named = and_parts (eqb (length name) 6 && is_capital (slice_index name 0)) (list_all is_tag_octet_of name) forms.0 in
-      (record {
-        head = and-four (is_message_name name) (is_between 2 2000 (length rows)) (not (bytes_eq name (codes "CONTRL"))) (comes_after message_name before name) forms.0 (and-both (leb 2 (length rows)) (leb (length rows) 2000) (le-leb 2 (length rows) two) (le-leb (length rows) 2000 few)) other good.after;
-        few = omega (arith, few);
-        good = each-both _ _ _ (λ b row p q. record { formed = p.0; faultless = p.1; depth = (and_parts (is_between 0 16 row.depth) (is_between 1 999999 row.max) q).0; max = (and_parts (is_between 0 16 row.depth) (is_between 1 999999 row.max) q).1 }) None rows
-            (each-both _ _ (λ b row. (is_row_formed row ≡ true) × (row_faults parts row ≡ [])) (λ b row formed faultless. (formed, faultless)) None rows (each-passes is_row_formed None rows forms.1) (each-faultless (row_faults parts) None rows known)) range;
-      }, tag-octets-plain name named.1, rw none refl)
+      let named = and_parts (eqb (length name) 6 && is_capital (slice_index name 0)) (list_all is_tag_octet_of name) forms.0 in (
+        record {
+          head = and-four (is_message_name name) (is_between 2 2000 (length rows)) (not (bytes_eq name (codes "CONTRL"))) (comes_after message_name before name) forms.0 (and-both (leb 2 (length rows)) (leb (length rows) 2000) (le-leb 2 (length rows) two) (le-leb (length rows) 2000 few)) other good.after;
+          few = omega (arith, few);
+          good = each-both _ _ _ (λ b row p q. record { formed = p.0; faultless = p.1; depth = (and_parts (is_between 0 16 row.depth) (is_between 1 999999 row.max) q).0; max = (and_parts (is_between 0 16 row.depth) (is_between 1 999999 row.max) q).1 }) None rows
+              (each-both _ _ (λ b row. (is_row_formed row ≡ true) × (row_faults parts row ≡ [])) (λ b row formed faultless. (formed, faultless)) None rows (each-passes is_row_formed None rows forms.1) (each-faultless (row_faults parts) None rows known)) range;
+        },
+        tag-octets-plain name named.1,
+        rw none refl,
+      )
 
   pub message-spelled : IsSpelled (message_at parts.segments) message_text IsMessage
   unfolding message_at
@@ -193,12 +201,15 @@ module _ (parts : Parts) where
     composite-again : (before : Option CompositeDef) (composite : CompositeDef) → IsComposite before composite → IsListed (composite_test before) (λ b part. IsPart parts formed_elements part) composite.code.octets composite.parts × IsPlain composite.code.octets × (composite_of composite.code.octets composite.parts ≡ Some composite)
     composite-again before composite good =
         let code = composite.code.octets in
-        let forms = three (is_composite_code code) (is_count_formed (length composite.parts)) (list_all is_part_formed composite.parts) good.formed in
-        (record {
-          head = and-three (is_composite_code code) (is_count_formed (length composite.parts)) (comes_after composite_name before code) forms.0 forms.1 good.after;
-          few = count-few (length composite.parts) forms.1;
-          good = each-both _ _ _ (λ b part formed faultless. record { formed = formed; faultless = faultless }) None composite.parts (each-passes is_part_formed None composite.parts forms.2) (each-faultless (part_faults parts) None composite.parts good.faultless);
-        }, (composite-code composite.code.octets forms.0).plain, refl)
+        let forms = three (is_composite_code code) (is_count_formed (length composite.parts)) (list_all is_part_formed composite.parts) good.formed in (
+          record {
+            head = and-three (is_composite_code code) (is_count_formed (length composite.parts)) (comes_after composite_name before code) forms.0 forms.1 good.after;
+            few = count-few (length composite.parts) forms.1;
+            good = each-both _ _ _ (λ b part formed faultless. record { formed = formed; faultless = faultless }) None composite.parts (each-passes is_part_formed None composite.parts forms.2) (each-faultless (part_faults parts) None composite.parts good.faultless);
+          },
+          (composite-code composite.code.octets forms.0).plain,
+          refl,
+        )
 
     pub composite-spelled : IsSpelled (composite_at parts.elements) composite_text IsComposite
     unfolding composite_at
@@ -235,12 +246,15 @@ module _ (parts : Parts) where
         let forms = three (is_tag_of tag) (is_count_formed (length items)) (list_all is_item_formed items) good.formed in
         let reserved = when (is_service_tag tag) (fault_with Reserved tag) in
         let other = not-broken (is_service_tag tag) (fault_with Reserved tag) (nil-left reserved (flat_map (item_faults parts) items) good.faultless) in
-        let known = nil-right reserved (flat_map (item_faults parts) items) good.faultless in
-        (record {
-          head = and-four (is_tag_of tag) (is_count_formed (length items)) (not (is_service_tag tag)) (comes_after segment_name before tag) forms.0 forms.1 other good.after;
-          few = count-few (length segment.items) forms.1;
-          good = each-both _ _ _ (λ b item formed faultless. record { formed = formed; faultless = faultless }) None segment.items (each-passes is_item_formed None segment.items forms.2) (each-faultless (item_faults parts) None segment.items known);
-        }, tag-plain segment.tag.octets forms.0, refl)
+        let known = nil-right reserved (flat_map (item_faults parts) items) good.faultless in (
+          record {
+            head = and-four (is_tag_of tag) (is_count_formed (length items)) (not (is_service_tag tag)) (comes_after segment_name before tag) forms.0 forms.1 other good.after;
+            few = count-few (length segment.items) forms.1;
+            good = each-both _ _ _ (λ b item formed faultless. record { formed = formed; faultless = faultless }) None segment.items (each-passes is_item_formed None segment.items forms.2) (each-faultless (item_faults parts) None segment.items known);
+          },
+          tag-plain segment.tag.octets forms.0,
+          refl,
+        )
 
     pub segment-spelled : IsSpelled (segment_at parts.elements parts.composites) segment_text IsSegment
     unfolding segment_at

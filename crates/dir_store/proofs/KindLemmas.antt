@@ -74,9 +74,10 @@ element-again before element good =
     let code = element.code.octets in
     let parts = and_parts (is_element_code code) (is_repr_formed element.repr) good.formed in
     let plain = element-plain code parts.0 in
-    let shape = repr-plain element.repr parts.1 in
-    (ap (option_and_then (element_with before)) (two-again code (repr_text element.repr) plain shape) ∙ rw (parts.0, good.after, repr-again element.repr parts.1) refl,
-     joined-line code (repr_text element.repr ∷ []) plain (shape, tt))
+    let shape = repr-plain element.repr parts.1 in (
+      ap (option_and_then (element_with before)) (two-again code (repr_text element.repr) plain shape) ∙ rw (parts.0, good.after, repr-again element.repr parts.1) refl,
+      joined-line code (repr_text element.repr ∷ []) plain (shape, tt),
+    )
 
 pub element-spelled : IsSpelled element_at element_text IsElement
 unfolding element_at
@@ -180,7 +181,6 @@ used_words code must = join_with_byte 32 (code ∷ status_text must ∷ [])
 pub used-line : (code : List ℕ) (must : Bool) → IsPlain code → IsLine (used_words code must)
 used-line code must plain = joined-line code (status_text must ∷ []) plain (status-plain must, tt)
 
-
 module _ (parts : Parts) (formed_elements : list_all is_element_formed parts.elements ≡ true) where
   pub record IsPart (part : PartDef) : Type 0 where
     pub formed : is_part_formed part ≡ true
@@ -217,9 +217,10 @@ module _ (parts : Parts) (formed_elements : list_all is_element_formed parts.ele
   part-again before part good =
       let code = part.code.octets in
       let is = (and_parts (is_element_code code) (is_repr_formed part.repr) good.formed).0 in
-      let plain = element-plain code is in
-      (ap (option_and_then (part_with parts.elements)) (two-again code (status_text part.must) plain (status-plain part.must)) ∙ rw (status-again part.must) (rw is (part_of-again part good)),
-       used-line code part.must plain)
+      let plain = element-plain code is in (
+        ap (option_and_then (part_with parts.elements)) (two-again code (status_text part.must) plain (status-plain part.must)) ∙ rw (status-again part.must) (rw is (part_of-again part good)),
+        used-line code part.must plain,
+      )
 
   pub part-spelled : IsSpelled (part_at parts.elements) part_text (λ before part. IsPart part)
   unfolding part_at

@@ -25,6 +25,7 @@ module _ {A : Type 0} (member : Option A → List ℕ → Reading A) where
     where
       left : count - i ≡ suc (count - (i + 1))
       left = omega arith
+
       by : (told : Option ℕ) → IfSome told (λ fault. member (last_of before) octets ≡ Err fault) → IfSome told (λ fault. all ≡ Err fault)
       by None is = tt
       by (Some fault) is =

@@ -50,11 +50,13 @@ unfolding section_at
 section-takes letter member text Good spelled octets members rest is =
     let read = headed-takes (λ h. bytes_eq h.0 letter) member text Good spelled section_of octets members rest is in
     let named : read.name ≡ letter = (bytes_eq-Decides read.name letter).0 read.listed_so.head in
-    let same : read.members ≡ members = some-is read.members members read.made_so in
-    (record {
-      few = subst (λ xs. length xs < 10 ^ 19) same read.listed_so.few;
-      good = subst (λ xs. Each Good None xs) same read.listed_so.good;
-    }, read.parts ∙ ap (λ (n : List ℕ). listed n text read.members ++ rest) named ∙ ap (λ xs. listed letter text xs ++ rest) same)
+    let same : read.members ≡ members = some-is read.members members read.made_so in (
+      record {
+        few = subst (λ xs. length xs < 10 ^ 19) same read.listed_so.few;
+        good = subst (λ xs. Each Good None xs) same read.listed_so.good;
+      },
+      read.parts ∙ ap (λ (n : List ℕ). listed n text read.members ++ rest) named ∙ ap (λ xs. listed letter text xs ++ rest) same,
+    )
 
 pub section-again : {A : Type 0} (letter : List ℕ) (member : Option A → List ℕ → Reading A) (text : A → List ℕ) (Good : Option A → A → Type 0) → IsSpelled member text Good
     → (members : List A) (rest : List ℕ) → IsPlain letter → IsSection Good members → section_at letter member (listed letter text members ++ rest) ≡ Ok (members, rest)

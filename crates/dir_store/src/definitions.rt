@@ -13,7 +13,9 @@ use crate::line::{comes_after, read_head, read_line};
 use crate::stop::Stop;
 use crate::words::two_words;
 use edi_octets::{put_decimal, read_composite_code, read_element_code, read_repr, read_status};
-use edi_tables::{Chunk, Class, Code, CodeList, CompositeDef, ElementDef, List as Members, PartDef, Repr};
+use edi_tables::{
+    Chunk, Class, Code, CodeList, CompositeDef, ElementDef, List as Members, PartDef, Repr,
+};
 use std::alloc::{AllocError, Global};
 
 /// The most parts of a composite, and the most items of a segment.
@@ -50,7 +52,10 @@ fn element_on(line: &[u8], before: Option<&ElementDef>) -> Option<ElementDef>
 {
     let (code, repr) = two_words(line)?;
     let code = read_element_code(code)?;
-    if !comes_after(before.map(|element| element.code.octets.as_slice()), &code.octets) {
+    if !comes_after(
+        before.map(|element| element.code.octets.as_slice()),
+        &code.octets,
+    ) {
         return None;
     }
     let repr = read_repr(repr)?;
@@ -185,7 +190,10 @@ fn composite_on(line: &[u8], before: Option<&CompositeDef>) -> Option<(Code, u64
     if !is_between(1, MOST_MEMBERS, count) {
         return None;
     }
-    if !comes_after(before.map(|composite| composite.code.octets.as_slice()), name) {
+    if !comes_after(
+        before.map(|composite| composite.code.octets.as_slice()),
+        name,
+    ) {
         return None;
     }
     Some((code, count))

@@ -96,11 +96,7 @@ pub fn put_all<T: Entry>(out: &mut Chunk, members: &[T]) -> Result<(), AllocErro
 }
 
 /// Puts a list under its name at the end.
-pub fn put_listed<T: Entry>(
-    out: &mut Chunk,
-    name: &[u8],
-    members: &[T],
-) -> Result<(), AllocError>
+pub fn put_listed<T: Entry>(out: &mut Chunk, name: &[u8], members: &[T]) -> Result<(), AllocError>
     ensures { OnOk result (out.new ≡ out.old ++ listed name.now T.text members.now) }
 {
     out.add(name)?;

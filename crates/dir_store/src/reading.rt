@@ -46,14 +46,30 @@ fn read_parts(alloc: Global, octets: &[u8]) -> Result<Parts, Stop>
 {
     let rest = read_first(octets)?;
     let (labels, rest) = read_second(alloc, rest)?;
-    let known = Known { elements: &[], composites: &[], segments: &[] };
+    let known = Known {
+        elements: &[],
+        composites: &[],
+        segments: &[],
+    };
     let (elements, rest) = read_section::<ElementDef>(alloc, &known, b"E", rest)?;
-    let known = Known { elements: &elements, composites: &[], segments: &[] };
+    let known = Known {
+        elements: &elements,
+        composites: &[],
+        segments: &[],
+    };
     let (lists, rest) = read_section(alloc, &known, b"L", rest)?;
     let (composites, rest) = read_section::<CompositeDef>(alloc, &known, b"C", rest)?;
-    let known = Known { elements: &elements, composites: &composites, segments: &[] };
+    let known = Known {
+        elements: &elements,
+        composites: &composites,
+        segments: &[],
+    };
     let (segments, rest) = read_section::<SegmentDef>(alloc, &known, b"S", rest)?;
-    let known = Known { elements: &elements, composites: &composites, segments: &segments };
+    let known = Known {
+        elements: &elements,
+        composites: &composites,
+        segments: &segments,
+    };
     let (messages, rest) = read_section(alloc, &known, b"T", rest)?;
     read_end(rest)?;
     Ok(Parts {

@@ -201,7 +201,11 @@ fn read_between(low: u64, high: u64, word: &[u8]) -> Option<u64>
     ensures { result ≡ rules.kept (rules.is_between low high) (rules.number_in word.now) }
 {
     let n = read_number(word)?;
-    if is_between(low, high, n) { Some(n) } else { None }
+    if is_between(low, high, n) {
+        Some(n)
+    } else {
+        None
+    }
 }
 
 // What a row is called: `-` for a group, or the tag of a segment of the store or a service segment.

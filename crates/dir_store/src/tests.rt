@@ -3,7 +3,8 @@ use crate::{StoreStop, read_store, write_store};
 use std::test::Fail;
 
 // A store with two of each kind of definition.
-const STORE: &[u8] = b"EDIDIR1\nD 96A UN\nE 3\n1001 an..3\n1004 a35\n2005 n..9999\nL 2\n1001 2\n1\n2\n2005 0\nC 1\nC002 2\n1004 M\n1001 C\nS 1\nBGM 2\nC002 M\n1004 C\nT 1\nSHIPIT 4\n0 UNH M 1\n0 - C 999999\n1 BGM M 1\n0 UNT M 1\n";
+const STORE: &[u8] =
+    b"EDIDIR1\nD 96A UN\nE 3\n1001 an..3\n1004 a35\n2005 n..9999\nL 2\n1001 2\n1\n2\n2005 0\nC 1\nC002 2\n1004 M\n1001 C\nS 1\nBGM 2\nC002 M\n1004 C\nT 1\nSHIPIT 4\n0 UNH M 1\n0 - C 999999\n1 BGM M 1\n0 UNT M 1\n";
 
 #[test]
 fn a_store_is_read_and_written_again(rt: HostRuntime) -> Result<(), Fail> {

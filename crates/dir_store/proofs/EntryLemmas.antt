@@ -1,5 +1,5 @@
 -- The kinds of definitions with lines of their own: what is spelled is read, and what is read is spelled and is good.
-use Rattle.std.proofs.Common.{◌≡◌, ◌+◌, ◌^◌, ◌<◌, ◌≤◌, ◌⊎◌, inl, inr, ℕ, Bool, true, false, not, ◌&&◌, eqb, eq-eqb, leb, le-leb, cond, List, [], ◌∷◌, ◌++◌, length, Option, Some, None, refl, sym, ap, ◌∙◌, subst, arith, All}
+use Rattle.std.proofs.Common.{◌≡◌, ◌^◌, ◌<◌, ◌≤◌, inl, inr, ℕ, Bool, true, false, not, ◌&&◌, eqb, leb, cond, List, [], ◌∷◌, ◌++◌, length, Option, Some, None, refl, sym, ap, ◌∙◌, subst, arith}
 use Rattle.std.specs.Prelude.{decimal, option_and_then, is_some, codes}
 use Rattle.std.specs.List.{list_all, flat_map, join_with_byte}
 use Rattle.std.specs.Option.{option_map}
@@ -11,34 +11,26 @@ use Rattle.std.proofs.lemmas.Option.{option_and_then_some}
 use Rattle.std.proofs.lemmas.Slice.Eq.{bytes_eq-Decides}
 use Rattle.edi_tables.specs.Ascending.{is_before, IsAscendingBy}
 use Rattle.edi_tables.specs.declared.tag.Tag.{Tag}
-use Rattle.edi_tables.specs.declared.element.ElementDef.{ElementDef}
-use Rattle.edi_tables.specs.declared.element.CodeList.{CodeList}
-use Rattle.edi_tables.specs.declared.element.PartDef.{PartDef}
-use Rattle.edi_tables.specs.declared.element.CompositeDef.{CompositeDef}
 use Rattle.edi_tables.specs.declared.segment.ItemDef.{ItemDef}
 use Rattle.edi_tables.specs.declared.segment.ItemDef.TheVariants.{Alone, Composite}
-use Rattle.edi_tables.specs.declared.segment.SegmentDef.{SegmentDef}
 use Rattle.edi_tables.specs.declared.segment.TableRow.{TableRow}
-use Rattle.edi_tables.specs.declared.segment.MessageDef.{MessageDef}
-use Rattle.edi_tables.specs.Forms.{is_repr_formed, is_element_code, is_composite_code, is_message_name, is_code_value, is_count_formed, is_element_formed, is_list_formed, is_part_formed, is_composite_formed, is_item_formed, is_segment_formed, is_row_formed, is_message_formed}
+use Rattle.edi_tables.specs.Forms.{is_repr_formed, is_element_code, is_composite_code, is_element_formed, is_item_formed, is_row_formed}
 use Rattle.edi_tables.specs.Tag.{is_tag_of, is_tag_octet_of, is_capital}
-use Rattle.edi_tables.specs.Rows.{when, table_faults}
 use Rattle.edi_octets.specs.Profile.{status_in}
 use Rattle.dir_compile.specs.declared.parts.Parts.{Parts}
-use Rattle.dir_compile.specs.Stop.{PartsFault}
-use Rattle.dir_compile.specs.Compile.{element_name, list_name, composite_name, segment_name, message_name, value_name, named_in, is_service_tag, part_faults, list_fault, composite_fault, item_faults, segment_fault, tag_faults, row_faults, message_fault, is_filled_with}
+use Rattle.dir_compile.specs.Compile.{composite_name, segment_name, named_in, is_service_tag, item_faults, tag_faults, row_faults}
 use Rattle.edi_tables.proofs.AscendingLemmas.{before-trans, ascending-tail}
 use Rattle.dir_compile.proofs.AscendingLemmas.{Has, IsAscending}
 use Rattle.dir_store.specs.Lines.{Reading, lined}
-use Rattle.dir_store.specs.Rules.{is_between, kept, number_in, comes_after, list_in, composite_in, part_of, composite_of, item_of, item_with, item_in, segment_in, message_in, tag_of, called, row_of, row_with, row_in}
-use Rattle.dir_store.specs.Spelling.{status_text, value_text, part_text, item_text, row_name, row_text, list_text, composite_text, segment_text, message_text}
-use Rattle.dir_store.specs.Store.{value_at, list_of, list_at, part_at, composite_of as made_composite, composite_at, item_at, segment_of, segment_at, row_at, message_of, message_at}
+use Rattle.dir_store.specs.Rules.{is_between, kept, number_in, comes_after, part_of, composite_of, item_of, item_with, item_in, tag_of, called, row_of, row_with, row_in}
+use Rattle.dir_store.specs.Spelling.{status_text, item_text, row_name, row_text}
+use Rattle.dir_store.specs.Store.{item_at, row_at}
 use Rattle.dir_store.specs.Words.{two_in, four_in}
-use Rattle.dir_store.proofs.LineLemmas.{some-is, and-both, IsPlain, IsLine, line-plain, joined-line, two-takes, two-again, four-takes, four-again}
+use Rattle.dir_store.proofs.LineLemmas.{some-is, and-both, IsPlain, IsLine, joined-line, two-takes, two-again, four-takes, four-again}
 use Rattle.dir_store.proofs.NumberLemmas.{digits-plain, tag-octets-plain, decimal-plain, number-takes, number-again}
-use Rattle.dir_store.proofs.ReprLemmas.{both-plain, status-takes, status-again, status-plain}
-use Rattle.dir_store.proofs.SeveralLemmas.{Each, IsSpelled, IsListed, kept-takes, kept-again, line-spelled, headed-spelled}
-use Rattle.dir_store.proofs.KindLemmas.{passed-takes, mapped-takes, element-plain, unbroken, unbroken-again, unbroken-not, not-broken, IsValue, value-spelled, IsPart, part_of-takes, part_of-again, used_words, used-line, part-spelled}
+use Rattle.dir_store.proofs.ReprLemmas.{status-takes, status-again, status-plain}
+use Rattle.dir_store.proofs.SeveralLemmas.{Each, IsSpelled, kept-takes, kept-again, line-spelled}
+use Rattle.dir_store.proofs.KindLemmas.{passed-takes, mapped-takes, element-plain, unbroken, unbroken-again, unbroken-not, not-broken, part_of-takes, part_of-again, used_words, used-line}
 
 -- ---- members one by one
 

@@ -1,13 +1,12 @@
 -- The definitions that have a head and members: what is spelled is read, and what is read is spelled and is good.
-use Rattle.std.proofs.Common.{◌≡◌, ◌+◌, ◌^◌, ◌<◌, ◌≤◌, ℕ, Bool, true, false, not, ◌&&◌, eqb, leb, le-leb, cond, List, [], ◌∷◌, ◌++◌, length, get_or, Option, Some, None, refl, sym, ap, ◌∙◌, subst, arith}
+use Rattle.std.proofs.Common.{◌≡◌, ◌^◌, ◌<◌, ℕ, Bool, true, false, not, ◌&&◌, eqb, leb, le-leb, cond, List, [], ◌∷◌, ◌++◌, length, get_or, Option, Some, None, refl, ap, subst, arith}
 use Rattle.std.specs.Prelude.{is_some, codes, slice_index}
 use Rattle.std.specs.List.{list_all, flat_map}
 use Rattle.std.specs.Str.{bytes_eq}
 use borrow.Author.Tests.{leb-true}
 use Rattle.std.proofs.lemmas.Bool.{and_parts}
 use Rattle.std.proofs.lemmas.List.{get_or_default}
-use Rattle.std.proofs.lemmas.List.Sums.{AllPass-from_list_all, list_all-from_AllPass}
-use Rattle.edi_tables.specs.declared.element.ElementDef.{ElementDef}
+use Rattle.std.proofs.lemmas.List.Sums.{list_all-from_AllPass}
 use Rattle.edi_tables.specs.declared.element.CodeList.{CodeList}
 use Rattle.edi_tables.specs.declared.element.CompositeDef.{CompositeDef}
 use Rattle.edi_tables.specs.declared.element.PartDef.{PartDef}
@@ -30,8 +29,8 @@ use Rattle.dir_store.specs.Store.{value_at, list_of, list_at, part_at, composite
 use Rattle.dir_store.proofs.LineLemmas.{some-is, and-both, and-three, and-four, IsPlain}
 use Rattle.dir_store.proofs.NumberLemmas.{tag-octets-plain}
 use Rattle.dir_store.proofs.SeveralLemmas.{Each, IsSpelled, IsListed, headed-spelled}
-use Rattle.dir_store.proofs.KindLemmas.{element-plain, passed-takes, unbroken, unbroken-again, unbroken-not, not-broken, IsValue, value-spelled, IsPart, part-spelled}
-use Rattle.dir_store.proofs.EntryLemmas.{all-good, none-good, each-both, each-passes, each-faultless, each-weaker, nil-left, nil-right, nil-both, Rises, tag-plain, composite-code, IsCompositeCode, IsItem, item-spelled, IsRow, row-spelled}
+use Rattle.dir_store.proofs.KindLemmas.{element-plain, unbroken, unbroken-again, unbroken-not, not-broken, IsValue, value-spelled, IsPart, part-spelled}
+use Rattle.dir_store.proofs.EntryLemmas.{all-good, none-good, each-both, each-passes, each-faultless, each-weaker, nil-left, nil-right, nil-both, Rises, tag-plain, composite-code, IsItem, item-spelled, IsRow, row-spelled}
 
 -- three tests, and four
 three : (a b c : Bool) → (a && b && c) ≡ true → (a ≡ true) × (b ≡ true) × (c ≡ true)

@@ -1,31 +1,20 @@
 -- The kinds of a store's lines, one by one: what is spelled is read, and what is read is spelled and is good.
-use Rattle.std.proofs.Common.{◌≡◌, ◌+◌, ◌^◌, ◌<◌, ◌≤◌, ◌⊎◌, inl, inr, ℕ, Bool, true, false, not, ◌&&◌, eqb, eq-eqb, leb, cond, List, [], ◌∷◌, ◌++◌, length, Option, Some, None, refl, sym, ap, ◌∙◌, subst, arith, true≢false}
-use Rattle.std.specs.Prelude.{decimal, option_and_then, is_some, codes}
-use Rattle.std.specs.List.{list_all, flat_map, join_with_byte, find}
+use Rattle.std.proofs.Common.{◌≡◌, ℕ, Bool, true, false, not, ◌&&◌, eqb, eq-eqb, leb, cond, List, [], ◌∷◌, length, Option, Some, None, refl, sym, ap, ◌∙◌, subst, arith}
+use Rattle.std.specs.Prelude.{option_and_then}
+use Rattle.std.specs.List.{list_all, join_with_byte, find}
 use Rattle.std.specs.Option.{option_map}
-use Rattle.std.specs.Str.{bytes_eq}
-use borrow.Author.Tests.{leb-true}
-use Rattle.std.proofs.lemmas.Bool.{and_parts, cases_Bool, eqb-true}
+use Rattle.std.proofs.lemmas.Bool.{and_parts, eqb-true}
 use Rattle.std.proofs.lemmas.Option.{option_and_then_some}
-use Rattle.edi_tables.specs.declared.tag.Tag.{Tag}
 use Rattle.edi_tables.specs.declared.element.Class.{Class}
 use Rattle.edi_tables.specs.declared.element.Class.TheVariants.{A, N, An}
 use Rattle.edi_tables.specs.declared.element.Repr.{Repr}
 use Rattle.edi_tables.specs.declared.element.ElementDef.{ElementDef}
-use Rattle.edi_tables.specs.declared.element.CodeList.{CodeList}
 use Rattle.edi_tables.specs.declared.element.PartDef.{PartDef}
-use Rattle.edi_tables.specs.declared.element.CompositeDef.{CompositeDef}
-use Rattle.edi_tables.specs.declared.segment.ItemDef.{ItemDef}
-use Rattle.edi_tables.specs.declared.segment.ItemDef.TheVariants.{Alone, Composite}
-use Rattle.edi_tables.specs.declared.segment.SegmentDef.{SegmentDef}
-use Rattle.edi_tables.specs.declared.segment.TableRow.{TableRow}
-use Rattle.edi_tables.specs.declared.segment.MessageDef.{MessageDef}
-use Rattle.edi_tables.specs.Forms.{is_repr_formed, is_element_code, is_code_value, is_element_formed, is_part_formed, is_item_formed}
+use Rattle.edi_tables.specs.Forms.{is_repr_formed, is_element_code, is_code_value, is_element_formed, is_part_formed}
 use Rattle.edi_tables.specs.Rows.{when}
 use Rattle.edi_octets.specs.Profile.{repr_in, status_in}
 use Rattle.dir_compile.specs.declared.parts.Parts.{Parts}
 use Rattle.dir_compile.specs.Compile.{element_name, value_name, named_in, is_same_class, is_same_bool, is_same_repr, part_against, part_faults}
-use Rattle.dir_store.specs.Lines.{Reading, lined}
 use Rattle.dir_store.specs.Rules.{comes_after, element_with, element_in, value_in, part_of, part_with, part_in}
 use Rattle.dir_store.specs.Spelling.{repr_text, status_text, element_text, value_text, part_text}
 use Rattle.dir_store.specs.Store.{element_at, value_at, part_at}

@@ -1,6 +1,6 @@
 -- The sections that are read are in order, so that their names are found by halving.
-use Rattle.std.proofs.Common.{◌≡◌, ◌<◌, ◌≤◌, ℕ, zero, suc, Bool, true, false, List, [], ◌∷◌, length, get_or, Option, Some, None, Result, Ok, Err, refl, sym, ap, ◌∙◌, subst, arith, inl, inr}
-use Rattle.std.specs.Prelude.{codes, slice_get}
+use Rattle.std.proofs.Common.{◌≡◌, ℕ, true, List, [], Option, None, Ok, arith}
+use Rattle.std.specs.Prelude.{codes}
 use Rattle.std.specs.List.{list_all}
 use Rattle.edi_tables.specs.Ascending.{IsAscendingBy}
 use Rattle.edi_tables.specs.declared.element.ElementDef.{ElementDef}
@@ -10,10 +10,9 @@ use Rattle.edi_tables.specs.Forms.{is_element_formed}
 use Rattle.dir_compile.specs.declared.parts.Parts.{Parts}
 use Rattle.dir_compile.specs.Compile.{element_name, composite_name, segment_name}
 use Rattle.dir_compile.proofs.AscendingLemmas.{pairs-from-ascending}
-use Rattle.dir_store.specs.Lines.{Reading}
 use Rattle.dir_store.specs.Spelling.{element_text, composite_text, segment_text}
 use Rattle.dir_store.specs.Store.{section_at, element_at, composite_at, segment_at}
-use Rattle.dir_store.proofs.SeveralLemmas.{Each, IsSpelled}
+use Rattle.dir_store.proofs.SeveralLemmas.{Each}
 use Rattle.dir_store.proofs.KindLemmas.{IsElement, element-spelled}
 use Rattle.dir_store.proofs.EntryLemmas.{all-good, each-weaker, Rises, ascending-each}
 use Rattle.dir_store.proofs.HeadLemmas.{IsComposite, composite-spelled, IsSegment, segment-spelled}

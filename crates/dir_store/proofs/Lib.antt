@@ -13,3 +13,4 @@ pub mod SeveralLemmas
 pub mod StoreLemmas
 pub mod WholeLemmas
 pub mod WordLemmas
+mod Worked

@@ -1,7 +1,7 @@
 -- Lines: what is spelled is read, and what is read is spelled.
-use Rattle.std.proofs.Common.{◌≡◌, suc, add-one, ◌+◌, ◌<◌, ℕ, Bool, true, false, not, ◌&&◌, eqb, List, [], ◌∷◌, ◌++◌, length, get_or, take, drop, Option, Some, None, Result, Ok, Err, refl, sym, ap, ◌∙◌, subst, arith, All}
+use Rattle.std.proofs.Common.{◌≡◌, suc, add-one, ◌+◌, ◌<◌, ℕ, Bool, true, false, not, ◌&&◌, eqb, List, [], ◌∷◌, ◌++◌, length, get_or, take, drop, Option, Some, None, Result, Ok, Err, refl, sym, ap, ◌∙◌, arith, All}
 use Rattle.std.specs.Prelude.{position}
-use Rattle.std.specs.List.{list_all, position_or_len, slice_split, join_with_byte, AllPass}
+use Rattle.std.specs.List.{list_all, position_or_len, join_with_byte}
 use Rattle.std.proofs.Math.Seq.{get_or-append_seam, split_at}
 use Rattle.std.proofs.Math.ListN.{get_or-append}
 use Rattle.std.proofs.lemmas.Bool.{and_parts, lt-ltb, eqb-true}
@@ -11,7 +11,7 @@ use Rattle.std.proofs.lemmas.List.Quantifiers.{position-Some}
 use Rattle.std.proofs.lemmas.List.Splits.{slice_split_none, slice_split_at, join_with_byte-slice_split}
 use Rattle.std.proofs.lemmas.List.Sums.{AllPass-from_list_all, position_or_len_is}
 use Rattle.edi_octets.specs.Lines.{is_space, pieces_in}
-use Rattle.dir_store.specs.Lines.{◌>>=◌, Reading, line_to, line_at, found_at, lined}
+use Rattle.dir_store.specs.Lines.{◌>>=◌, line_to, line_at, found_at, lined}
 use Rattle.dir_store.specs.Words.{two_of, three_of, four_of, two_in, three_in, four_in}
 
 -- the value of a step that is no fault

@@ -1,5 +1,5 @@
 -- Members that are read one after another, as a loop reads them.
-use Rattle.std.proofs.Common.{◌≡◌, ◌+◌, ◌-◌, ◌≤◌, ◌<◌, ℕ, zero, suc, List, [], ◌∷◌, ◌++◌, Option, Some, None, IfSome, Result, Ok, Err, refl, sym, ap, ◌∙◌, arith}
+use Rattle.std.proofs.Common.{◌≡◌, ◌+◌, ◌-◌, ◌≤◌, ◌<◌, ℕ, suc, List, [], ◌∷◌, ◌++◌, Option, Some, None, IfSome, Ok, Err, sym, ap, ◌∙◌, arith}
 use Rattle.dir_store.specs.declared.stop.Stop.{Stop}
 use Rattle.dir_store.specs.Lines.{◌>>=◌, Reading, last_of, several}
 use Rattle.dir_store.specs.Stop.{left_in}

@@ -1,19 +1,18 @@
 -- Numbers, and words that have no space or LF.
-use Rattle.std.proofs.Common.{◌≡◌, ◌≢◌, ◌⊎◌, zero, suc, ◌+◌, ◌^◌, ◌<◌, ◌≤◌, ℕ, Bool, true, false, not, ◌&&◌, ◌||◌, eqb, leb, ltb, cond, List, [], ◌∷◌, ◌++◌, length, get_or, Option, Some, None, refl, sym, ap, ◌∙◌, subst, arith, ne_eqb, eq-eqb, ⊎_elim, inl, inr}
+use Rattle.std.proofs.Common.{◌≡◌, ◌≢◌, ◌⊎◌, zero, suc, ◌^◌, ◌<◌, ◌≤◌, ℕ, Bool, true, false, ◌&&◌, eqb, leb, ltb, cond, List, [], ◌∷◌, length, get_or, Option, Some, None, refl, sym, ap, ◌∙◌, subst, arith, ne_eqb, eq-eqb, ⊎_elim, inl, inr}
 use Rattle.std.specs.Prelude.{decimal, slice_index}
-use Rattle.std.specs.Char.{is_ascii_digit}
 use Rattle.std.specs.List.{list_all}
 use Rattle.std.specs.Str.{all_ascii_digits}
 use Rattle.std.specs.Str.Parse.{digits_value}
 use borrow.Author.Tests.{leb-true}
-use Rattle.std.proofs.lemmas.Bool.{and_parts, cases_Bool, eqb-true, eqb-false, ltb-false}
+use Rattle.std.proofs.lemmas.Bool.{and_parts, cases_Bool, ltb-false}
 use Rattle.std.proofs.lemmas.List.{get_or_default}
 use Rattle.std.proofs.lemmas.Fmt.{digits_decimal, digits_value-decimal, decimal-digits_value, decimal_nonempty, length-decimal-le, first_decimal, decimal_digit}
-use Rattle.std.proofs.lemmas.List.Sums.{AllPass-from_list_all, list_all-from_AllPass}
+use Rattle.std.proofs.lemmas.List.Sums.{list_all-from_AllPass}
 use Rattle.std.proofs.lemmas.Str.Parse.{IsNumeralModel, numerals_by_value, tells_all_ascii_digits}
 use Rattle.edi_tables.specs.Tag.{is_capital, is_digit, is_tag_octet_of}
 use Rattle.edi_octets.specs.Decimal.{decimal_in}
-use Rattle.edi_octets.proofs.DecimalLemmas.{list_all-digits, digit_between, digits_value-room, decimal_in-value}
+use Rattle.edi_octets.proofs.DecimalLemmas.{digit_between, digits_value-room, decimal_in-value}
 use Rattle.dir_store.specs.Rules.{number_in}
 use Rattle.dir_store.proofs.LineLemmas.{is_plain, IsPlain, and-both}
 

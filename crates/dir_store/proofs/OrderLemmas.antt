@@ -1,5 +1,5 @@
 -- Parts in order stay as they are when they are put in order, so that a directory is compiled to itself.
-use Rattle.std.proofs.Common.{◌≡◌, ◌<◌, ℕ, Bool, true, false, cond, List, [], ◌∷◌, length, map, Result, Ok, refl, sym, ap, ◌∙◌, subst, arith, All}
+use Rattle.std.proofs.Common.{◌≡◌, ℕ, true, false, cond, List, [], ◌∷◌, map, Result, Ok, refl, sym, ap, ◌∙◌, arith, All}
 use Rattle.std.proofs.lemmas.Bool.{false_from_ne_true}
 use Rattle.std.proofs.lemmas.List.Elements.{All-head, All-tail}
 use Rattle.edi_tables.specs.Ascending.{is_before, IsAscendingBy}
@@ -7,7 +7,7 @@ use Rattle.edi_tables.specs.First.{unless_faulty}
 use Rattle.edi_tables.proofs.AscendingLemmas.{ascending-tail, before-not-back}
 use Rattle.edi_tables.specs.declared.element.CodeList.{CodeList}
 use Rattle.dir_compile.specs.declared.parts.Parts.{Parts}
-use Rattle.dir_compile.specs.Compile.{compile_faults, value_name, element_name, list_name, composite_name, segment_name, message_name}
+use Rattle.dir_compile.specs.Compile.{value_name, element_name, list_name, composite_name, segment_name, message_name}
 use Rattle.dir_compile.specs.Directory.{IsDirectory, directory_of}
 use Rattle.dir_compile.specs.InOrder.{put_in_order, ascending_by, ordered_list, ordered_parts}
 

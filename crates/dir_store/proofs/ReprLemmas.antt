@@ -1,7 +1,6 @@
 -- Representations and statuses: what is spelled is read, and what is read is spelled.
-use Rattle.std.proofs.Common.{◌≡◌, ◌≢◌, ◌+◌, ◌^◌, ◌<◌, ◌≤◌, ℕ, zero, suc, Bool, true, false, not, ◌&&◌, eqb, leb, cond, List, [], ◌∷◌, ◌++◌, length, get_or, drop, Option, Some, None, refl, sym, ap, ◌∙◌, subst, arith, ne_eqb, eq-eqb, le-leb}
+use Rattle.std.proofs.Common.{◌≡◌, ◌≢◌, ◌^◌, ◌<◌, ◌≤◌, ℕ, Bool, true, false, not, ◌&&◌, eqb, leb, cond, List, [], ◌∷◌, ◌++◌, length, drop, Option, Some, None, refl, sym, ap, ◌∙◌, subst, arith, ne_eqb, eq-eqb, le-leb}
 use Rattle.std.specs.Prelude.{decimal, slice_index, codes}
-use Rattle.std.specs.List.{list_all}
 use Rattle.std.specs.Str.{all_ascii_digits}
 use Rattle.std.specs.Str.Parse.{digits_value}
 use borrow.Author.Tests.{leb-true}
@@ -18,8 +17,8 @@ use Rattle.edi_octets.proofs.DecimalLemmas.{digit_between, digits_value-room}
 use Rattle.edi_octets.proofs.EachLemmas.{passes_if_made}
 use Rattle.edi_octets.proofs.ProfileLemmas.{repr_in-formed}
 use Rattle.dir_store.specs.Spelling.{class_text, dots_text, repr_text, status_text}
-use Rattle.dir_store.proofs.LineLemmas.{some-is, is_plain, IsPlain}
-use Rattle.dir_store.proofs.NumberLemmas.{own, decimal-plain, digits-plain}
+use Rattle.dir_store.proofs.LineLemmas.{some-is, IsPlain}
+use Rattle.dir_store.proofs.NumberLemmas.{own, decimal-plain}
 
 -- ---- lengths
 

@@ -1,7 +1,7 @@
 -- Names in order, found by halving.
-use Rattle.std.proofs.Common.{◌≡◌, ◌<◌, ◌≤◌, ◌⊎◌, ℕ, Bool, true, false, List, [], ◌∷◌, length, get_or, Option, Some, None, Result, Ok, Err, is_some, Bor, refl, sym, ap, ◌∙◌, subst, arith, inl, inr, Ordering}
+use Rattle.std.proofs.Common.{◌≡◌, ◌<◌, ◌≤◌, ℕ, Bool, true, false, List, [], ◌∷◌, length, get_or, Option, Some, None, Result, Ok, Err, is_some, Bor, refl, sym, ap, ◌∙◌, subst, arith, inl, inr, Ordering}
 use Rattle.std.specs.Prelude.{slice_get, is_ok}
-use Rattle.std.specs.List.{find, position_or_len}
+use Rattle.std.specs.List.{position_or_len}
 use Rattle.std.specs.List.Sorted.{IsBinarySearchResult, IsNonDecreasingBy, IsSearchInRange}
 use Rattle.std.specs.declared.cmp.Ordering.TheVariants.{Less, Equal, Greater}
 use Rattle.std.specs.Cmp.Lexicographic.{slice_cmp, texts_ties}

@@ -1,16 +1,15 @@
 -- Members that follow one another: what is spelled is read, and what is read is spelled.
-use Rattle.std.proofs.Common.{◌≡◌, ◌+◌, ◌-◌, ◌*◌, ◌^◌, ◌<◌, ◌≤◌, ℕ, zero, suc, Bool, true, false, List, [], ◌∷◌, ◌++◌, length, Option, Some, None, Result, Ok, Err, refl, sym, ap, ◌∙◌, subst, cond, arith}
-use Rattle.std.specs.Prelude.{decimal, slice_get, option_and_then}
+use Rattle.std.proofs.Common.{◌≡◌, ◌+◌, ◌-◌, ◌^◌, ◌<◌, ℕ, zero, suc, Bool, true, false, List, [], ◌∷◌, ◌++◌, length, Option, Some, None, Ok, refl, sym, ap, ◌∙◌, subst, cond, arith}
+use Rattle.std.specs.Prelude.{decimal, slice_get}
 use Rattle.std.specs.List.{flat_map, join_with_byte}
 use Rattle.std.specs.Option.{option_map}
 use Rattle.std.proofs.Math.Seq.{get_or-append_seam}
 use Rattle.std.proofs.lemmas.List.{append_assoc, append-nil, length-append}
-use Rattle.std.proofs.lemmas.List.Concat.{flat_map-append}
 use Rattle.std.proofs.lemmas.Option.{slice_get-get_or, option_and_then_some}
 use Rattle.dir_store.specs.Lines.{◌>>=◌, Reading, last_of, several, found_at, lined}
 use Rattle.dir_store.specs.Rules.{kept, number_in, head_with, head_in}
 use Rattle.dir_store.specs.Words.{two_in}
-use Rattle.dir_store.specs.Spelling.{line_of, listed}
+use Rattle.dir_store.specs.Spelling.{listed}
 use Rattle.dir_store.specs.Store.{headed}
 use Rattle.dir_store.proofs.LineLemmas.{bind_ok, ok-is, some-is, IsPlain, IsLine, joined-line, found-takes, lined-takes, lined-again, two-takes, two-again}
 use Rattle.dir_store.proofs.NumberLemmas.{decimal-plain, number-takes, number-again}

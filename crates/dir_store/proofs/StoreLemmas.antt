@@ -1,41 +1,36 @@
 -- The whole store: what is spelled is read, and what is read is spelled and is a directory.
-use Rattle.std.proofs.Common.{◌≡◌, ◌+◌, ◌-◌, ◌^◌, ◌<◌, ◌≤◌, ℕ, Bool, true, false, ◌&&◌, cond, List, [], ◌∷◌, ◌++◌, length, Option, Some, None, Result, Ok, Err, refl, sym, ap, ◌∙◌, subst, arith, All}
-use Rattle.std.specs.Prelude.{codes, decimal, option_and_then}
-use Rattle.std.specs.List.{list_all, flat_map, join_with_byte}
-use Rattle.std.specs.Result.{result_map_both}
+use Rattle.std.proofs.Common.{◌≡◌, ◌^◌, ◌<◌, ℕ, true, ◌&&◌, cond, List, [], ◌∷◌, ◌++◌, length, Option, Some, None, Ok, refl, sym, ap, ◌∙◌, subst, arith, All}
+use Rattle.std.specs.Prelude.{option_and_then}
+use Rattle.std.specs.List.{list_all, join_with_byte}
 use Rattle.std.specs.Str.{bytes_eq}
 use Rattle.std.proofs.lemmas.Bool.{and_parts}
-use Rattle.std.proofs.lemmas.List.{append_assoc, append-nil, length-append}
+use Rattle.std.proofs.lemmas.List.{append_assoc}
 use Rattle.std.proofs.lemmas.List.Elements.{All-cons}
 use Rattle.std.proofs.lemmas.Option.{option_and_then_some}
 use Rattle.std.proofs.lemmas.Slice.Eq.{bytes_eq-Decides}
 use Rattle.edi_tables.specs.Ascending.{IsAscendingBy}
-use Rattle.edi_tables.specs.declared.element.ElementDef.{ElementDef}
 use Rattle.edi_tables.specs.declared.element.CodeList.{CodeList}
-use Rattle.edi_tables.specs.declared.element.CompositeDef.{CompositeDef}
-use Rattle.edi_tables.specs.declared.segment.SegmentDef.{SegmentDef}
-use Rattle.edi_tables.specs.declared.segment.MessageDef.{MessageDef}
 use Rattle.edi_tables.specs.Forms.{is_label, is_element_formed, is_list_formed, is_composite_formed, is_segment_formed, is_message_formed}
 use Rattle.edi_tables.specs.Tag.{is_tag_octet_of}
 use Rattle.dir_compile.specs.declared.parts.Parts.{Parts}
-use Rattle.dir_compile.specs.Compile.{twice_in, twice_faults, list_fault, list_faults, composite_fault, composite_faults, segment_fault, segment_faults, message_fault, message_faults, compile_faults, value_name, element_name, list_name, composite_name, segment_name, message_name}
+use Rattle.dir_compile.specs.Compile.{twice_in, twice_faults, list_fault, composite_fault, segment_fault, message_fault, compile_faults, value_name, element_name, list_name, composite_name, segment_name, message_name}
 use Rattle.dir_compile.specs.Directory.{IsDirectory}
 use Rattle.dir_compile.specs.Forms.{HasForms}
 use Rattle.dir_compile.specs.Ordered.{IsInOrder}
 use Rattle.dir_compile.proofs.AscendingLemmas.{IsAscending, apart-from-ascending, pairs-from-ascending}
 use Rattle.dir_compile.proofs.Apart.{none-from-apart}
 use Rattle.dir_store.specs.declared.labels.Labels.{Labels}
-use Rattle.dir_store.specs.Lines.{◌>>=◌, Reading, lined, found_at}
-use Rattle.dir_store.specs.Rules.{first_in, labels_with, labels_in, section_in}
-use Rattle.dir_store.specs.Spelling.{first_line, line_of, listed, element_text, list_text, composite_text, segment_text, message_text, labels_text, store_text}
-use Rattle.dir_store.specs.Store.{section_of, section_at, element_at, list_at, composite_at, segment_at, message_at, ended, parts_at, store_of}
+use Rattle.dir_store.specs.Lines.{Reading, lined}
+use Rattle.dir_store.specs.Rules.{first_in, labels_with, labels_in}
+use Rattle.dir_store.specs.Spelling.{first_line, line_of, listed}
+use Rattle.dir_store.specs.Store.{section_of, section_at}
 use Rattle.dir_store.specs.Words.{three_in}
-use Rattle.dir_store.proofs.LineLemmas.{some-is, and-three, bind_ok, IsPlain, IsLine, joined-line, lined-takes, lined-again, three-takes, three-again}
+use Rattle.dir_store.proofs.LineLemmas.{some-is, and-three, IsPlain, joined-line, lined-takes, lined-again, three-takes, three-again}
 use Rattle.dir_store.proofs.NumberLemmas.{tag-octets-plain}
-use Rattle.dir_store.proofs.SeveralLemmas.{Each, IsSpelled, IsListed, headed-takes, headed-again}
-use Rattle.dir_store.proofs.KindLemmas.{passed-takes, IsElement, element-spelled}
-use Rattle.dir_store.proofs.EntryLemmas.{all-good, none-good, each-both, each-passes, each-faultless, each-weaker, nil-left, nil-right, nil-both, Rises, ascending-each, rises-each}
-use Rattle.dir_store.proofs.HeadLemmas.{IsList, list-spelled, IsComposite, composite-spelled, IsSegment, segment-spelled, IsMessage, message-spelled}
+use Rattle.dir_store.proofs.SeveralLemmas.{Each, IsSpelled, headed-takes, headed-again}
+use Rattle.dir_store.proofs.KindLemmas.{passed-takes, IsElement}
+use Rattle.dir_store.proofs.EntryLemmas.{all-good, none-good, each-weaker, nil-both, Rises, ascending-each}
+use Rattle.dir_store.proofs.HeadLemmas.{IsList, IsComposite, IsSegment, IsMessage}
 
 -- ---- sections
 

@@ -1,5 +1,5 @@
 -- The laws of stores: what is spelled is read again, what is read is spelled so and is a directory, and a spelling is of one directory alone.
-use Rattle.std.proofs.Common.{◌≡◌, ◌+◌, ◌-◌, ◌^◌, ◌<◌, ◌≤◌, ℕ, Bool, true, List, [], ◌∷◌, ◌++◌, length, Option, Some, None, Result, Ok, Err, refl, sym, ap, ◌∙◌, subst, arith, All}
+use Rattle.std.proofs.Common.{◌≡◌, ◌-◌, ◌^◌, ◌<◌, ◌≤◌, ℕ, Bool, true, List, [], ◌∷◌, ◌++◌, length, Option, Some, None, Result, Ok, Err, refl, sym, ap, ◌∙◌, subst, arith, All}
 use Rattle.std.specs.Prelude.{codes, decimal, IfSome}
 use Rattle.std.specs.List.{list_all, flat_map, join_with_byte}
 use Rattle.std.specs.Option.{option_map}
@@ -17,16 +17,16 @@ use Rattle.dir_compile.specs.declared.parts.Parts.{Parts}
 use Rattle.dir_compile.specs.Compile.{twice_faults, list_fault, list_faults, composite_fault, composite_faults, segment_fault, segment_faults, message_fault, message_faults, compile_faults, value_name, element_name, list_name, composite_name, segment_name, message_name}
 use Rattle.dir_compile.specs.Directory.{IsDirectory}
 use Rattle.dir_store.specs.declared.labels.Labels.{Labels}
-use Rattle.dir_store.specs.Lines.{◌>>=◌, Reading, lined}
+use Rattle.dir_store.specs.Lines.{◌>>=◌, lined}
 use Rattle.dir_store.specs.Rules.{first_in, labels_in}
 use Rattle.dir_store.specs.Spelling.{first_line, line_of, listed, repr_text, part_text, item_text, row_text, element_text, value_text, list_text, composite_text, segment_text, message_text, labels_text, store_text}
-use Rattle.dir_store.specs.Store.{section_at, element_at, list_at, composite_at, segment_at, message_at, ended, parts_at, store_of}
+use Rattle.dir_store.specs.Store.{section_at, element_at, list_at, composite_at, segment_at, message_at, ended, definitions_at, parts_at, store_of}
 use Rattle.dir_store.proofs.LineLemmas.{ok-is, bind_ok}
 use Rattle.dir_store.proofs.SeveralLemmas.{Each}
 use Rattle.dir_store.proofs.KindLemmas.{IsElement, element-spelled}
 use Rattle.dir_store.proofs.EntryLemmas.{all-good, each-both, each-passes, each-faultless, each-weaker, nil-left, nil-right, Rises, rises-each}
 use Rattle.dir_store.proofs.HeadLemmas.{IsList, list-spelled, IsComposite, composite-spelled, IsSegment, segment-spelled, IsMessage, message-spelled}
-use Rattle.dir_store.proofs.StoreLemmas.{IsSection, section-takes, section-again, first-takes, first-again, IsLabels, words_of, labels-takes, labels-again, AreGood, good-directory}
+use Rattle.dir_store.proofs.StoreLemmas.{section-takes, section-again, first-takes, first-again, labels-takes, labels-again, AreGood, good-directory}
 
 -- ---- what comes after each part of a store
 
@@ -58,7 +58,7 @@ abbrev after_elements : Labels → List ElementDef × List ℕ → Result Parts 
 after_elements labels elements = section_at (codes "L") (list_at elements.0) elements.1 >>= after_lists labels elements.0
 
 abbrev after_labels : Labels × List ℕ → Result Parts ℕ
-after_labels labels = section_at (codes "E") element_at labels.1 >>= after_elements labels.0
+after_labels labels = definitions_at labels.0 labels.1
 
 abbrev after_first : Unit {0} × List ℕ → Result Parts ℕ
 after_first first = lined labels_in first.1 >>= after_labels
@@ -76,7 +76,7 @@ ended-takes end (o ∷ octets) is = absurd cc
 
 -- what is read is spelled so, and its definitions are good
 parts-takes : (octets : List ℕ) (parts : Parts) → parts_at octets ≡ Ok parts → AreGood parts × (octets ≡ store_text parts)
-unfolding parts_at store_text
+unfolding parts_at definitions_at store_text
 parts-takes octets parts is =
     let first = bind_ok (lined first_in octets) after_first parts is in
     let labels = bind_ok (lined labels_in first.0.1) after_labels parts first.2 in
@@ -119,7 +119,7 @@ parts-takes octets parts is =
 
 -- what is spelled is read
 parts-again : (parts : Parts) → AreGood parts → parts_at (store_text parts) ≡ Ok parts
-unfolding parts_at store_text
+unfolding parts_at definitions_at store_text
 parts-again parts good =
     let named : Labels = record { version = parts.version; release = parts.release; agency = parts.agency } in
     let formed = good.formed_elements in

@@ -1,5 +1,5 @@
 -- Reading a store line by line, up to the first fault.
-use Rattle.std.specs.Prelude.{◌≡◌, ◌-◌, ◌+◌, ◌==◌, ℕ, zero, suc, List, [], ◌∷◌, ◌++◌, length, take, drop, slice_get, position, Option, Some, None, Result, Ok, Err, if◌then◌else◌}
+use Rattle.std.specs.Prelude.{◌-◌, ◌+◌, ◌==◌, ℕ, zero, suc, List, [], ◌∷◌, ◌++◌, length, take, drop, slice_get, position, Option, Some, None, Result, Ok, Err}
 
 infixl 10 ◌>>=◌
 -- what comes after something was read; the first fault ends it

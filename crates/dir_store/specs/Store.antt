@@ -12,6 +12,7 @@ use Rattle.edi_tables.specs.declared.segment.MessageDef.{MessageDef}
 use Rattle.edi_tables.specs.Rows.{table_faults}
 use Rattle.dir_compile.specs.declared.parts.Parts.{Parts}
 use Rattle.dir_compile.specs.Compile.{is_filled_with}
+use Rattle.dir_store.specs.declared.labels.Labels.{Labels}
 use Rattle.dir_store.specs.Lines.{◌>>=◌, Reading, found_at, lined, several}
 use Rattle.dir_store.specs.Rules.{first_in, labels_in, section_in, element_in, list_in, value_in, composite_in, part_in, segment_in, item_in, message_in, row_in}
 
@@ -77,27 +78,32 @@ abbrev pub ended : List ℕ → Result (Unit {0}) ℕ
 ended [] = Ok tt
 ended octets = Err (length octets)
 
--- the lines of a store in order
-unfoldable pub parts_at : List ℕ → Result Parts ℕ
-parts_at octets = do
-  first ← lined first_in octets
-  labels ← lined labels_in first.1
-  elements ← section_at (codes "E") element_at labels.1
+-- the sections of a store in order, after its labels
+unfoldable pub definitions_at : Labels → List ℕ → Result Parts ℕ
+definitions_at labels octets = do
+  elements ← section_at (codes "E") element_at octets
   lists ← section_at (codes "L") (list_at elements.0) elements.1
   composites ← section_at (codes "C") (composite_at elements.0) lists.1
   segments ← section_at (codes "S") (segment_at elements.0 composites.0) composites.1
   messages ← section_at (codes "T") (message_at segments.0) segments.1
   end ← ended messages.1
   Ok (record {
-    version = labels.0.version;
-    release = labels.0.release;
-    agency = labels.0.agency;
+    version = labels.version;
+    release = labels.release;
+    agency = labels.agency;
     elements = elements.0;
     lists = lists.0;
     composites = composites.0;
     segments = segments.0;
     messages = messages.0;
   })
+
+-- the lines of a store in order
+unfoldable pub parts_at : List ℕ → Result Parts ℕ
+parts_at octets = do
+  first ← lined first_in octets
+  labels ← lined labels_in first.1
+  definitions_at labels.0 labels.1
 
 -- octets give a directory, or the place of the first line that breaks a rule: of the first octet after the last line where some
 -- follow it, and of the octets' end where they end before LF ends the last line

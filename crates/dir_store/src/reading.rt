@@ -7,7 +7,7 @@ ghost use Rattle.dir_store.specs.Lines.{lined};
 ghost use Rattle.dir_store.specs.Rules.{first_in, labels_in};
 ghost use Rattle.dir_store.specs.Spelling.{store_text};
 ghost use Rattle.dir_store.specs.Stop.{fault_in, left_in};
-ghost use Rattle.dir_store.specs.Store.{ended, parts_at, store_of};
+ghost use Rattle.dir_store.specs.Store.{definitions_at, ended, parts_at, store_of};
 
 use crate::entry::read_section;
 use crate::known::Known;
@@ -46,30 +46,26 @@ fn read_parts(alloc: Global, octets: &[u8]) -> Result<Parts, Stop>
 {
     let rest = read_first(octets)?;
     let (labels, rest) = read_second(alloc, rest)?;
-    let known = Known {
+    read_definitions(alloc, labels, rest)
+}
+
+// The definitions of the sections, with these labels.
+#[tactic(auto, unfolding(crate::specs::Store::definitions_at))]
+fn read_definitions(alloc: Global, labels: Labels, octets: &[u8]) -> Result<Parts, Stop>
+    ensures { Answers (λ parts. parts) left_in result (definitions_at labels octets.now) }
+{
+    let mut known = Known {
         elements: &[],
         composites: &[],
         segments: &[],
     };
-    let (elements, rest) = read_section::<ElementDef>(alloc, &known, b"E", rest)?;
-    let known = Known {
-        elements: &elements,
-        composites: &[],
-        segments: &[],
-    };
+    let (elements, rest) = read_section::<ElementDef>(alloc, &known, b"E", octets)?;
+    known.elements = &elements;
     let (lists, rest) = read_section(alloc, &known, b"L", rest)?;
     let (composites, rest) = read_section::<CompositeDef>(alloc, &known, b"C", rest)?;
-    let known = Known {
-        elements: &elements,
-        composites: &composites,
-        segments: &[],
-    };
+    known.composites = &composites;
     let (segments, rest) = read_section::<SegmentDef>(alloc, &known, b"S", rest)?;
-    let known = Known {
-        elements: &elements,
-        composites: &composites,
-        segments: &segments,
-    };
+    known.segments = &segments;
     let (messages, rest) = read_section(alloc, &known, b"T", rest)?;
     read_end(rest)?;
     Ok(Parts {

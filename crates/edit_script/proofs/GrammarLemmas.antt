@@ -1,0 +1,185 @@
+-- How the text of a command is put together.
+use Rattle.std.proofs.Common.{◌≡◌, ◌++◌, ◌≤◌, ℕ, List, [], ◌∷◌, length, replicate, decimal, refl, sym, ap, ◌∙◌, subst, arith, append_assoc}
+use Rattle.std.proofs.lemmas.List.{length-replicate}
+use Rattle.contrl_writer.specs.declared.stamp.Stamp.{Stamp}
+use Rattle.contrl_writer.specs.Stamp.{stamp_text}
+use Rattle.edit_script.specs.declared.command.Command.{Command}
+use Rattle.edit_script.specs.declared.command.Command.TheVariants as command
+use Rattle.edit_script.specs.declared.name.Name.{Name}
+use Rattle.edit_script.specs.declared.name.Name.TheVariants.{Replace, Errors, Tree, Contrl, Text, End}
+use Rattle.edit_script.specs.Command.{command_text, IsTextOf}
+use Rattle.edit_script.specs.Texts.{name_text, IsNameText, name_of, rest_text, IsRestText, IsNumberText, IsDigitsText, IsStampText, IsReferenceText, IsDataText, IsPutText}
+use Rattle.edit_script.proofs.ChainLemmas.{IsChain, chain_once}
+use Rattle.edit_script.proofs.OnceLemmas.{IsOnce}
+use Rattle.edit_script.proofs.DataLemmas.{data_once}
+use Rattle.edit_script.proofs.DigitLemmas.{digits_once}
+use Rattle.edit_script.proofs.NameLemmas.{name_once}
+use Rattle.edit_script.proofs.NumberLemmas.{number_once}
+use Rattle.edit_script.proofs.ReferenceLemmas.{reference_once}
+
+-- a word and the octet that ends it, before other octets
+ended : (s word t : List ℕ) (end : ℕ) → s ≡ word ++ end ∷ [] → s ++ t ≡ word ++ end ∷ t
+ended s word t end is = ap (λ (xs : List ℕ). xs ++ t) is ∙ append_assoc word (end ∷ []) t
+
+-- ---- stamps
+
+stamp_along : (date time : List ℕ) → date ++ 58 ∷ (time ++ 32 ∷ []) ≡ (date ++ 58 ∷ time) ++ 32 ∷ []
+stamp_along date time = sym (append_assoc date (58 ∷ time) (32 ∷ []))
+
+pub stamp_chain : IsChain (IsDigitsText 6 58) (λ date. IsDigitsText 4 32) IsStampText (λ date time. record { date = date; time = time })
+stamp_chain = record {
+  joins = λ date time s t first next. ((first.0, next.0), ended s date t 58 first.1 ∙ ap (λ (xs : List ℕ). date ++ 58 ∷ xs) next.1 ∙ stamp_along date time);
+  splits = λ stamp text is. (stamp.date, stamp.time, stamp.date ++ 58 ∷ [], stamp.time ++ 32 ∷ [], (is.0.0, refl), (is.0.1, refl), refl, is.1 ∙ sym (ended (stamp.date ++ 58 ∷ []) stamp.date (stamp.time ++ 32 ∷ []) 58 refl ∙ stamp_along stamp.date stamp.time));
+  fills = λ date s is. (48 ∷ 48 ∷ 48 ∷ 48 ∷ [], 48 ∷ 48 ∷ 48 ∷ 48 ∷ 32 ∷ [], (refl, refl));
+  once = digits_once 6 58 refl;
+}
+
+pub stamp_once : IsOnce IsStampText
+stamp_once = chain_once (IsDigitsText 6 58) (λ date. IsDigitsText 4 32) IsStampText (λ date time. record { date = date; time = time }) stamp_chain (λ date. digits_once 4 32 refl)
+
+contrl_along : (stamp : Stamp) (reference s t : List ℕ) → IsStampText stamp s → IsReferenceText reference t → s ++ t ≡ rest_text (command.Contrl stamp reference)
+contrl_along stamp reference s t first next =
+    ended s (stamp.date ++ 58 ∷ stamp.time) t 32 first.1 ∙ ap (λ (xs : List ℕ). (stamp.date ++ 58 ∷ stamp.time) ++ 32 ∷ xs) next.1
+
+contrl_splits : (c : Command) (text : List ℕ) → IsRestText Contrl c text → (stamp : Stamp) × (reference : List ℕ) × (s : List ℕ) × (t : List ℕ) × IsStampText stamp s × IsReferenceText reference t × (c ≡ command.Contrl stamp reference) × (text ≡ s ++ t)
+contrl_splits (command.Replace at cut put) text is = absurd (cc (is.0))
+contrl_splits command.Errors text is = absurd (cc (is.0))
+contrl_splits command.Tree text is = absurd (cc (is.0))
+contrl_splits (command.Contrl stamp reference) text is =
+    let front : IsStampText stamp (stamp_text stamp ++ 32 ∷ []) = (is.1.0, refl) in
+    let rest : IsReferenceText reference (reference ++ 10 ∷ []) = (is.1.1, refl) in
+    (stamp, reference, stamp_text stamp ++ 32 ∷ [], reference ++ 10 ∷ [], front, rest, refl, is.2 ∙ sym (contrl_along stamp reference (stamp_text stamp ++ 32 ∷ []) (reference ++ 10 ∷ []) front rest))
+contrl_splits command.Text text is = absurd (cc (is.0))
+contrl_splits command.End text is = absurd (cc (is.0))
+
+pub contrl_chain : IsChain IsStampText (λ stamp. IsReferenceText) (IsRestText Contrl) (λ stamp reference. command.Contrl stamp reference)
+contrl_chain = record {
+  joins = λ stamp reference s t first next. (refl, (first.0, next.0), contrl_along stamp reference s t first next);
+  splits = contrl_splits;
+  fills = λ stamp s is. (65 ∷ [], 65 ∷ 10 ∷ [], (refl, refl));
+  once = stamp_once;
+}
+
+-- ---- what `replace` puts
+
+put_along : (put s t : List ℕ) (n : ℕ) → length put ≡ n → s ≡ decimal n ++ 10 ∷ [] → t ≡ put ++ 10 ∷ [] → s ++ t ≡ decimal (length put) ++ 10 ∷ (put ++ 10 ∷ [])
+put_along put s t n long first next =
+    ended s (decimal n) t 10 first ∙ ap (λ (m : ℕ). decimal m ++ 10 ∷ t) (sym long) ∙ ap (λ (xs : List ℕ). decimal (length put) ++ 10 ∷ xs) next
+
+pub put_chain : IsChain (IsNumberText 4194304 10) IsDataText IsPutText (λ n put. put)
+put_chain = record {
+  joins = λ n put s t first next. (omega (arith, first.0, next.0), put_along put s t n next.0 first.1 next.1);
+  splits = λ put text is. (length put, put, decimal (length put) ++ 10 ∷ [], put ++ 10 ∷ [], (is.0, refl), (refl, refl), refl, is.1 ∙ sym (put_along put (decimal (length put) ++ 10 ∷ []) (put ++ 10 ∷ []) (length put) refl refl refl));
+  fills = λ n s is. (replicate n 0, replicate n 0 ++ 10 ∷ [], (length-replicate n 0, refl));
+  once = number_once 4194304 10 (omega arith) refl;
+}
+
+pub put_once : IsOnce IsPutText
+put_once = chain_once (IsNumberText 4194304 10) IsDataText IsPutText (λ n put. put) put_chain data_once
+
+-- how many octets are cut, and what is put
+abbrev pub IsCutText : (ℕ × List ℕ) → List ℕ → Type 0
+IsCutText (cut, put) text =
+    (cut ≤ 9999999999999999999) × (length put ≤ 4194304) × (text ≡ decimal cut ++ 32 ∷ (decimal (length put) ++ 10 ∷ (put ++ 10 ∷ [])))
+
+pub cut_chain : IsChain (IsNumberText 9999999999999999999 32) (λ cut. IsPutText) IsCutText (λ cut put. (cut, put))
+cut_chain = record {
+  joins = λ cut put s t first next. (first.0, next.0, ended s (decimal cut) t 32 first.1 ∙ ap (λ (xs : List ℕ). decimal cut ++ 32 ∷ xs) next.1);
+  splits = λ both text is. (both.0, both.1, decimal both.0 ++ 32 ∷ [], decimal (length both.1) ++ 10 ∷ (both.1 ++ 10 ∷ []), (is.0, refl), (is.1, refl), refl, is.2 ∙ sym (ended (decimal both.0 ++ 32 ∷ []) (decimal both.0) (decimal (length both.1) ++ 10 ∷ (both.1 ++ 10 ∷ [])) 32 refl));
+  fills = λ cut s is. ([], decimal 0 ++ 10 ∷ 10 ∷ [], (omega arith, refl));
+  once = number_once 9999999999999999999 32 (omega arith) refl;
+}
+
+pub cut_once : IsOnce IsCutText
+cut_once = chain_once (IsNumberText 9999999999999999999 32) (λ cut. IsPutText) IsCutText (λ cut put. (cut, put)) cut_chain (λ cut. put_once)
+
+replace_splits : (c : Command) (text : List ℕ) → IsRestText Replace c text → (at : ℕ) × (both : ℕ × List ℕ) × (s : List ℕ) × (t : List ℕ) × IsNumberText 9999999999999999999 32 at s × IsCutText both t × (c ≡ command.Replace at both.0 both.1) × (text ≡ s ++ t)
+replace_splits (command.Replace at cut put) text is =
+    let t : List ℕ = decimal cut ++ 32 ∷ (decimal (length put) ++ 10 ∷ (put ++ 10 ∷ [])) in
+    (at, (cut, put), decimal at ++ 32 ∷ [], t, (omega (arith, is.1.0), refl), (omega (arith, is.1.1), is.1.2, refl), refl, is.2 ∙ sym (ended (decimal at ++ 32 ∷ []) (decimal at) t 32 refl))
+replace_splits command.Errors text is = absurd (cc (is.0))
+replace_splits command.Tree text is = absurd (cc (is.0))
+replace_splits (command.Contrl stamp reference) text is = absurd (cc (is.0))
+replace_splits command.Text text is = absurd (cc (is.0))
+replace_splits command.End text is = absurd (cc (is.0))
+
+pub replace_chain : IsChain (IsNumberText 9999999999999999999 32) (λ at. IsCutText) (IsRestText Replace) (λ at both. command.Replace at both.0 both.1)
+replace_chain = record {
+  joins = λ at both s t first next. (refl, (omega (arith, first.0), omega (arith, next.0), next.1), ended s (decimal at) t 32 first.1 ∙ ap (λ (xs : List ℕ). decimal at ++ 32 ∷ xs) next.2);
+  splits = replace_splits;
+  fills = λ at s is. ((0, []), decimal 0 ++ 32 ∷ (decimal 0 ++ 10 ∷ 10 ∷ []), (omega arith, omega arith, refl));
+  once = number_once 9999999999999999999 32 (omega arith) refl;
+}
+
+-- ---- whole commands
+
+-- the command of a name that nothing follows
+plain_of : Name → Command
+plain_of Replace = command.Errors
+plain_of Errors = command.Errors
+plain_of Tree = command.Tree
+plain_of Contrl = command.Errors
+plain_of Text = command.Text
+plain_of End = command.End
+
+abbrev IsPlain : Name → Type 0
+IsPlain Replace = ⊥
+IsPlain Errors = Unit {0}
+IsPlain Tree = Unit {0}
+IsPlain Contrl = ⊥
+IsPlain Text = Unit {0}
+IsPlain End = Unit {0}
+
+plain_is : (c : Command) (name : Name) → name_of c ≡ name → IsPlain name → (c ≡ plain_of name) × (rest_text c ≡ [])
+unfolding plain_of
+plain_is (command.Replace at cut put) name is plain = absurd (subst (λ n. IsPlain n) (sym is) plain)
+plain_is command.Errors name is plain = (ap plain_of is, refl)
+plain_is command.Tree name is plain = (ap plain_of is, refl)
+plain_is (command.Contrl stamp reference) name is plain = absurd (subst (λ n. IsPlain n) (sym is) plain)
+plain_is command.Text name is plain = (ap plain_of is, refl)
+plain_is command.End name is plain = (ap plain_of is, refl)
+
+plain_once : (name : Name) → IsPlain name → IsOnce (IsRestText name)
+plain_once name plain v w s t more rest first second same =
+    let one = plain_is v name first.0 plain in
+    let two = plain_is w name second.0 plain in
+    (one.0 ∙ sym two.0, first.2 ∙ one.1 ∙ sym two.1 ∙ sym second.2)
+
+pub rest_once : (name : Name) → IsOnce (IsRestText name)
+rest_once Replace = chain_once (IsNumberText 9999999999999999999 32) (λ at. IsCutText) (IsRestText Replace) (λ at both. command.Replace at both.0 both.1) replace_chain (λ at. cut_once)
+rest_once Errors = plain_once Errors tt
+rest_once Tree = plain_once Tree tt
+rest_once Contrl = chain_once IsStampText (λ stamp. IsReferenceText) (IsRestText Contrl) (λ stamp reference. command.Contrl stamp reference) contrl_chain (λ stamp. reference_once)
+rest_once Text = plain_once Text tt
+rest_once End = plain_once End tt
+
+-- a command's text is that of its name and what follows it
+pub name_and_rest : (c : Command) → command_text c ≡ name_text (name_of c) ++ rest_text c
+name_and_rest (command.Replace at cut put) = refl
+name_and_rest command.Errors = refl
+name_and_rest command.Tree = refl
+name_and_rest (command.Contrl stamp reference) = refl
+name_and_rest command.Text = refl
+name_and_rest command.End = refl
+
+command_fills : (name : Name) → (c : Command) × (t : List ℕ) × IsRestText name c t
+command_fills Replace = (command.Replace 0 0 [], decimal 0 ++ 32 ∷ (decimal 0 ++ 32 ∷ (decimal 0 ++ 10 ∷ 10 ∷ [])), (refl, (omega arith, omega arith, omega arith), refl))
+command_fills Errors = (command.Errors, [], (refl, tt, refl))
+command_fills Tree = (command.Tree, [], (refl, tt, refl))
+command_fills Contrl =
+    let stamp : Stamp = record { date = 48 ∷ 48 ∷ 48 ∷ 48 ∷ 48 ∷ 48 ∷ []; time = 48 ∷ 48 ∷ 48 ∷ 48 ∷ [] } in
+    (command.Contrl stamp (65 ∷ []), stamp_text stamp ++ 32 ∷ 65 ∷ 10 ∷ [], (refl, ((refl, refl), refl), refl))
+command_fills Text = (command.Text, [], (refl, tt, refl))
+command_fills End = (command.End, [], (refl, tt, refl))
+
+pub command_chain : IsChain IsNameText IsRestText IsTextOf (λ name c. c)
+command_chain = record {
+  joins = λ name c s t first next. (next.1, ap (λ (xs : List ℕ). xs ++ t) first ∙ ap (λ n. name_text n ++ t) (sym next.0) ∙ ap (λ (xs : List ℕ). name_text (name_of c) ++ xs) next.2 ∙ sym (name_and_rest c));
+  splits = λ c text is. (name_of c, c, name_text (name_of c), rest_text c, refl, (refl, is.0, refl), refl, is.1 ∙ name_and_rest c);
+  fills = λ name s is. command_fills name;
+  once = name_once;
+}
+
+-- commands are told from each other by what they begin: none is a front of another
+pub command_once : IsOnce IsTextOf
+command_once = chain_once IsNameText IsRestText IsTextOf (λ name c. c) command_chain rest_once

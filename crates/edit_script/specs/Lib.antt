@@ -1,0 +1,7 @@
+pub mod Beginnings
+pub mod Command
+pub mod Next
+pub mod Reading
+pub mod Script
+pub mod Stop
+pub mod Texts

@@ -1,0 +1,14 @@
+-- The text of a script.
+use Rattle.std.specs.Prelude.{List, [], ◌∷◌, ◌++◌, ℕ, ⊤}
+use Rattle.edit_script.specs.declared.command.Command.{Command}
+use Rattle.edit_script.specs.Command.{command_text, IsCommand}
+
+-- the one text of a list of commands
+abbrev pub script_text : List Command → List ℕ
+script_text [] = []
+script_text (c ∷ cs) = command_text c ++ script_text cs
+
+-- each of them is a command of the grammar
+abbrev pub AreCommands : List Command → Type 0
+AreCommands [] = ⊤
+AreCommands (c ∷ cs) = IsCommand c × AreCommands cs

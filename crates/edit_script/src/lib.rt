@@ -1,0 +1,16 @@
+//! The script of an edit: its commands, read from any source.
+#![tactic(auto)]
+
+mod allowance;
+mod command;
+mod data;
+mod name;
+mod reader;
+mod stop;
+#[cfg(test)]
+mod tests;
+mod words;
+
+pub use command::Command;
+pub use reader::ScriptReader;
+pub use stop::ScriptStop;

@@ -1,0 +1,137 @@
+//! Reading a script, command by command.
+ghost use Rattle.std.specs.Prelude.{◌≡◌, ◌≤◌, IsErrOf};
+ghost use Rattle.edi_ports.specs.Faults.{HasRisen};
+ghost use Rattle.edit_script.specs.Command.{IsTextOf};
+ghost use Rattle.edit_script.specs.Next.{IsNext};
+ghost use Rattle.edit_script.specs.Reading.{Reads};
+ghost use Rattle.edit_script.specs.Texts.{IsRestText};
+ghost use Rattle.edit_script.specs.declared.name.Name.TheVariants as name;
+
+use crate::allowance::Allowance;
+use crate::data::take_put;
+use crate::name::{Name, take_name};
+use crate::stop::Halt;
+use crate::words::{take_number, take_reference, take_stamp};
+use crate::{Command, ScriptStop};
+use edi_ports::Source;
+use std::alloc::Global;
+use std::marker::Model;
+
+/// The greatest number of a command's line, of 19 digits.
+const MOST: u64 = 9_999_999_999_999_999_999;
+
+/// Reads a script of at most so many octets, and counts its commands.
+#[derive(Debug, Drop)]
+pub struct ScriptReader {
+    allowance: Allowance,
+    number: u32,
+}
+
+impl Model for ScriptReader {
+    ghost use Rattle.std.specs.Prelude.{◌≤◌, ◌+◌};
+    ghost use Rattle.edit_script.specs.Next.{Reader};
+
+    ghost Value = { Reader };
+
+    ghost view = { λ r. record { left = r.allowance.left; number = r.number } };
+
+    ghost invariant = { λ r. r.allowance.left + r.number ≤ 1073741825 };
+}
+
+impl ScriptReader {
+    /// A reader of a script of at most `limit` octets.
+    pub fn new(limit: u64) -> ScriptReader
+        requires { limit ≤ 1073741824 }
+        ensures { result ≡ record { left = limit; number = 1 } }
+    {
+        ScriptReader {
+            allowance: Allowance {
+                left: limit as usize,
+            },
+            number: 1,
+        }
+    }
+
+    /// The next command, whose octets alone are taken. A bad line is told at the first octet that makes it one. Once
+    /// no octet may be taken the source isn't asked again, so `TooLong` comes there and `CutShort` doesn't. `Fault`
+    /// comes only where the source failed. What was taken before a stop is gone.
+    pub fn next_command<I: Source>(
+        &mut self,
+        alloc: Global,
+        input: &mut I,
+    ) -> Result<Command, ScriptStop>
+        ensures next { IsNext (I.rest input.old) (I.rest input.new) self.old self.new result }
+        ensures counted { I.faults input.old ≤ I.faults input.new }
+        ensures cause { IsErrOf result ScriptStop.Fault
+            → HasRisen (I.faults input.old) (I.faults input.new) }
+        ensures steady { I.is_steady input.old
+            → (IsErrOf result ScriptStop.Fault → ⊥) × I.is_steady input.new }
+    {
+        match take_command(&mut self.allowance, alloc, input) {
+            Ok(command) => {
+                self.number += 1;
+                Ok(command)
+            }
+            Err(halt) => Err(halt.at_command(self.number)),
+        }
+    }
+}
+
+fn take_command<I: Source>(
+    allowance: &mut Allowance,
+    alloc: Global,
+    input: &mut I,
+) -> Result<Command, Halt>
+    ensures reads { Reads IsTextOf (I.rest input.old) (I.rest input.new)
+        allowance.old.left allowance.new.left result }
+    ensures counted { I.faults input.old ≤ I.faults input.new }
+    ensures cause { IsErrOf result Halt.Fault → HasRisen (I.faults input.old) (I.faults input.new) }
+    ensures steady { I.is_steady input.old
+        → (IsErrOf result Halt.Fault → ⊥) × I.is_steady input.new }
+{
+    match take_name(allowance, input)? {
+        Name::Replace => take_replace(allowance, alloc, input),
+        Name::Errors => Ok(Command::Errors),
+        Name::Tree => Ok(Command::Tree),
+        Name::Contrl => take_contrl(allowance, alloc, input),
+        Name::Text => Ok(Command::Text),
+        Name::End => Ok(Command::End),
+    }
+}
+
+// What follows the name of a `replace`.
+fn take_replace<I: Source>(
+    allowance: &mut Allowance,
+    alloc: Global,
+    input: &mut I,
+) -> Result<Command, Halt>
+    ensures reads { Reads (IsRestText name.Replace) (I.rest input.old) (I.rest input.new)
+        allowance.old.left allowance.new.left result }
+    ensures counted { I.faults input.old ≤ I.faults input.new }
+    ensures cause { IsErrOf result Halt.Fault → HasRisen (I.faults input.old) (I.faults input.new) }
+    ensures steady { I.is_steady input.old
+        → (IsErrOf result Halt.Fault → ⊥) × I.is_steady input.new }
+{
+    let at = take_number(allowance, input, MOST, b' ')?;
+    let cut = take_number(allowance, input, MOST, b' ')?;
+    let put = take_put(allowance, alloc, input)?;
+    Ok(Command::Replace { at, cut, put })
+}
+
+// What follows the name of a `contrl`.
+fn take_contrl<I: Source>(
+    allowance: &mut Allowance,
+    alloc: Global,
+    input: &mut I,
+) -> Result<Command, Halt>
+    ensures reads { Reads (IsRestText name.Contrl) (I.rest input.old) (I.rest input.new)
+        allowance.old.left allowance.new.left result }
+    ensures counted { I.faults input.old ≤ I.faults input.new }
+    ensures cause { IsErrOf result Halt.Fault → HasRisen (I.faults input.old) (I.faults input.new) }
+    ensures steady { I.is_steady input.old
+        → (IsErrOf result Halt.Fault → ⊥) × I.is_steady input.new }
+{
+    let stamp = take_stamp(allowance, input)?;
+    let reference = take_reference(allowance, alloc, input)?;
+    Ok(Command::Contrl { stamp, reference })
+}

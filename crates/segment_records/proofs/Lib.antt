@@ -1,0 +1,19 @@
+pub mod BodyLaws
+pub mod Counted
+pub mod Ends
+pub mod FaultLaws
+pub mod Forgets
+pub mod Held
+pub mod Keeping
+pub mod MessageFaults
+pub mod ModeLaws
+pub mod PlaceLaws
+pub mod Prefixes
+pub mod Sites
+pub mod Stepping
+pub mod Tables
+pub mod Taking
+pub mod Told
+pub mod Turns
+pub mod Walks
+mod Worked

@@ -1,0 +1,35 @@
+-- The cases of a step, as its code tells them apart, and the mode after a segment of a message.
+use Rattle.std.proofs.Common.{◌≡◌, ℕ, ◌<◌, Bool, true, false, List, length, sym, subst, ap, ◌∙◌}
+use Rattle.std.specs.Prelude.{codes, if◌then◌else◌}
+use Rattle.dir_compile.specs.declared.parts.Parts.{Parts}
+use Rattle.dir_compile.specs.Directory.{tables_of}
+use Rattle.table_walk.specs.Steps.{AreCountsUpTo, IsShaped}
+use Rattle.segment_records.specs.Messages.{nodes_at, table_for}
+use Rattle.segment_records.specs.Records.{IsModeOf}
+use Rattle.segment_records.specs.Segments.{Segment}
+use Rattle.segment_records.specs.Steps.{Step, inner_step, is_named, is_no_part, opening_step, plain_step, step_of}
+use Rattle.segment_records.specs.declared.mode.Mode.{Mode}
+use Rattle.segment_records.specs.declared.mode.Mode.TheVariants.{Outside, Within}
+
+module _ (dir : Parts) (before : Mode) (segment : Segment) where
+  pub step_at_unh : is_named (codes "UNH") segment ≡ true → step_of dir before segment ≡ opening_step dir (table_for dir segment.components)
+  unfolding step_of
+  step_at_unh is =
+      ap (λ (b : Bool). if b then opening_step dir (table_for dir segment.components) else (if is_no_part segment then plain_step Outside else inner_step dir before segment)) is
+
+  step_after_unh : is_named (codes "UNH") segment ≡ false → step_of dir before segment ≡ (if is_no_part segment then plain_step Outside else inner_step dir before segment)
+  unfolding step_of
+  step_after_unh is =
+      ap (λ (b : Bool). if b then opening_step dir (table_for dir segment.components) else (if is_no_part segment then plain_step Outside else inner_step dir before segment)) is
+
+  pub step_outside : is_named (codes "UNH") segment ≡ false → is_no_part segment ≡ true → step_of dir before segment ≡ plain_step Outside
+  step_outside is out = step_after_unh is ∙ ap (λ (b : Bool). if b then plain_step Outside else inner_step dir before segment) out
+
+  pub step_inside : is_named (codes "UNH") segment ≡ false → is_no_part segment ≡ false → step_of dir before segment ≡ inner_step dir before segment
+  step_inside is out = step_after_unh is ∙ ap (λ (b : Bool). if b then plain_step Outside else inner_step dir before segment) out
+
+-- the mode of a message with a table, unless a segment closes it
+pub mode_unless : (dir : Parts) (most table : ℕ) (pairs : List (ℕ × ℕ)) (closes : Bool) (after : Mode) → after ≡ (if closes then Outside else Within table pairs)
+    → table < length (tables_of dir) → IsShaped (nodes_at dir table) pairs → AreCountsUpTo most pairs → IsModeOf dir most after
+mode_unless dir most table pairs true after is within shaped counts = subst (IsModeOf dir most) (sym is) tt
+mode_unless dir most table pairs false after is within shaped counts = subst (IsModeOf dir most) (sym is) (within, shaped, counts)

@@ -1,0 +1,208 @@
+//! What is kept of one segment.
+ghost use Rattle.std.specs.Prelude.{◌≡◌, ◌+◌, ◌<◌, ◌≤◌, ℕ, length, IfOk};
+ghost use Rattle.edi_octets.specs.declared.octets.Octets.{Ghosts};
+ghost use Rattle.seg_lexer.specs.Service.{IsUsable};
+ghost use Rattle.seg_lexer.specs.declared.TheConstants.{LONGEST_TEXT};
+ghost use Rattle.segment_records.specs.Records.{IsModeOf, kept_of};
+ghost use Rattle.segment_records.specs.Seen.{local_in, missing_in};
+ghost use Rattle.segment_records.specs.Segments.{segment_read};
+
+use crate::mode::Mode;
+use crate::step::take_step;
+use dir_compile::Directory;
+use edi_octets::Octets;
+use edi_tables::Tag;
+use element_check::{LocalError, check_segment};
+use seg_lexer::{Context, fields, read_tag};
+use seq_tree::Measured;
+use smallvec::SmallVec;
+use std::alloc::{AllocError, Global};
+use std::marker::Model;
+use std::sync::ledger::Ledger;
+use step_counter::Steps;
+
+/// Where a segment is in a text: the boundary before it, its first octet, and the place of its terminator.
+#[derive(Clone, Copy, Debug, PartialEq, Eq)]
+pub struct Place {
+    pub from: usize,
+    pub start: usize,
+    pub end: usize,
+}
+
+/// What a reading keeps of a segment: how long it is, its tag, its local errors, where it is in its message, and the mode
+/// after it.
+///
+/// Nothing of it changes by an edit outside of the segment's stretch, except by the mode before the segment. Its weight is
+/// the octets of its stretch, line ends in front and terminator included.
+pub struct Record {
+    octets: u32,
+    breaks: u32,
+    tag: Option<Tag>,
+    entry: Option<u16>,
+    over: bool,
+    mode: Mode,
+    // Few segments have any: they need not lie in each record.
+    faults: Option<Box<Faults>>,
+}
+
+// The local errors of a segment, and the nodes that are missing before it.
+#[derive(Drop)]
+struct Faults {
+    local: SmallVec<LocalError, 4>,
+    missing: SmallVec<u16, 4>,
+}
+
+impl Model for Record {
+    ghost use Rattle.segment_records.specs.Records.{Kept};
+
+    ghost Value = { Kept };
+
+    ghost use Rattle.segment_records.specs.Seen.{seen};
+
+    ghost view = { seen };
+}
+
+// Written by hand so that a drop is one call to its caller's proof.
+impl Drop for Record {
+    fn drop(self) {
+        let Record {
+            octets: _,
+            breaks: _,
+            tag: _,
+            entry: _,
+            over: _,
+            mode,
+            faults,
+        } = self;
+        drop(mode);
+        drop(faults);
+    }
+}
+
+impl Measured for Record {
+    ghost measure = { λ kept. kept.octets };
+
+    fn weight(&self) -> u32 {
+        self.octets
+    }
+}
+
+impl Record {
+    /// Reads the segment at a place of a text after a mode: its local errors, and where it is in its message. At most one
+    /// call of the walk is counted. Only want of memory is an error.
+    pub fn read<O: Octets, L: Ledger>(
+        alloc: Global,
+        directory: &Directory,
+        context: &Context,
+        before: &Mode,
+        text: &O,
+        place: Place,
+        placed: &mut Steps<L>,
+    ) -> Result<Record, AllocError>
+        requires usable { IsUsable context.now.service (O.octets text.now) }
+        requires short { length (O.octets text.now) ≤ LONGEST_TEXT }
+        requires in_order { place.from ≤ place.start }
+        requires ordered { place.start ≤ place.end }
+        requires within { place.end < length (O.octets text.now) }
+        requires mode { IsModeOf directory.now 4194303 before.now }
+        ensures kept { IfOk result (λ kept. kept ≡ kept_of directory.now context.now before.now
+            (segment_read context.now.service (O.octets text.now) place.from place.start place.end)) }
+        ensures mode { (most : ℕ)
+            → IsModeOf directory.now most before.now
+            → IfOk result (λ kept. IsModeOf directory.now (most + 1) kept.step.after) }
+        ensures counted { placed.new ≤ placed.old + 1 }
+    {
+        let Place { from, start, end } = place;
+        let tag = read_tag(text, &context.service, start, end);
+        let components = fields(text, &context.service, start, end);
+        let step = take_step(alloc, directory, before, tag, components, placed)?;
+        let local = check_segment(alloc, directory, context, text, start, end)?;
+        Ok(Record {
+            octets: (end + 1 - from) as u32,
+            breaks: (start - from) as u32,
+            tag,
+            entry: step.entry,
+            over: step.over,
+            mode: step.after,
+            faults: keep_faults(alloc, local, step.missing)?,
+        })
+    }
+
+    /// How many octets its stretch has, line ends in front and terminator included.
+    pub fn octets(&self) -> u32
+        ensures { result ≡ self.now.octets }
+    {
+        self.octets
+    }
+
+    /// How many of them are line ends in front.
+    pub fn breaks(&self) -> u32
+        ensures { result ≡ self.now.breaks }
+    {
+        self.breaks
+    }
+
+    /// Its tag, if it has one.
+    pub fn tag(&self) -> Option<Tag>
+        ensures { result ≡ self.now.tag }
+    {
+        self.tag
+    }
+
+    /// The entry of its message's table that it is at, if it is at one.
+    pub fn entry(&self) -> Option<u16>
+        ensures { result ≡ self.now.step.entry }
+    {
+        self.entry
+    }
+
+    /// Whether it is one too many there.
+    pub fn is_over(&self) -> bool
+        ensures { result ≡ self.now.step.over }
+    {
+        self.over
+    }
+
+    /// Its local errors.
+    pub fn local(&self) -> &[LocalError]
+        ensures { result.now ≡ self.now.local }
+    {
+        match &self.faults {
+            Some(faults) => faults.local.as_slice(),
+            None => &[],
+        }
+    }
+
+    /// The mandatory nodes that are missing before it.
+    pub fn missing(&self) -> &[u16]
+        ensures { result.now ≡ self.now.step.missing }
+    {
+        match &self.faults {
+            Some(faults) => faults.missing.as_slice(),
+            None => &[],
+        }
+    }
+
+    /// The mode after it.
+    pub fn mode(&self) -> &Mode
+        ensures { result.now ≡ self.now.step.after }
+    {
+        &self.mode
+    }
+}
+
+// What is wrong with a segment, where something is.
+fn keep_faults(
+    alloc: Global,
+    local: SmallVec<LocalError, 4>,
+    missing: SmallVec<u16, 4>,
+) -> Result<Option<Box<Faults>>, AllocError>
+    ensures local { IfOk result (λ faults. local_in faults ≡ local.items) }
+    ensures missing { IfOk result (λ faults. missing_in faults ≡ missing.items) }
+{
+    if local.is_empty() && missing.is_empty() {
+        return Ok(None);
+    }
+    let faults = Box::new(alloc, Faults { local, missing })?;
+    Ok(Some(faults))
+}

@@ -1,0 +1,135 @@
+//! One segment after another: where a segment is by the mode before it, and the mode after it.
+ghost use Rattle.std.specs.Prelude.{◌≡◌, ◌+◌, ◌∷◌, ◌<◌, ◌≤◌, [], ℕ, codes, length, IfOk, IfSome, if◌then◌else◌};
+ghost use Rattle.edi_tables.specs.Rows.{has_name};
+ghost use Rattle.dir_compile.specs.Directory.{tables_of};
+ghost use Rattle.seg_lexer.specs.Left.{components_left};
+ghost use Rattle.segment_records.specs.Records.{IsModeOf};
+ghost use Rattle.segment_records.specs.Steps.{inner_step, opening_step, plain_step as step_to, step_of};
+ghost use Rattle.segment_records.specs.Taken.{read_as, taken};
+
+use crate::mode::Mode;
+
+use crate::tags::{is_named, is_no_part};
+use crate::values::find_table;
+use dir_compile::Directory;
+use edi_octets::Octets;
+use edi_tables::Tag;
+use seg_lexer::Fields;
+use smallvec::SmallVec;
+use std::alloc::{AllocError, Global};
+use std::sync::ledger::Ledger;
+use step_counter::Steps;
+use table_walk::{State, start};
+
+/// Where a segment is, what is missing before it, whether it is one too many, and the mode after it.
+#[derive(Debug, Drop)]
+pub(crate) struct Step {
+    pub(crate) entry: Option<u16>,
+    pub(crate) missing: SmallVec<u16, 4>,
+    pub(crate) over: bool,
+    pub(crate) after: Mode,
+}
+
+/// The step of a segment with this tag and these components, after this mode. At most one call of the walk is counted.
+pub(crate) fn take_step<O: Octets, L: Ledger>(
+    alloc: Global,
+    directory: &Directory,
+    before: &Mode,
+    tag: Option<Tag>,
+    components: Fields<'_, O>,
+    placed: &mut Steps<L>,
+) -> Result<Step, AllocError>
+    requires mode { IsModeOf directory.now 4194303 before.now }
+    ensures step { IfOk result (λ step. taken step ≡ step_of directory.now before.now (read_as tag (components_left components.entry))) }
+    ensures mode { (most : ℕ) → IsModeOf directory.now most before.now → IfOk result (λ step. IsModeOf directory.now (most + 1) step.after) }
+    ensures counted { placed.new ≤ placed.old + 1 }
+{
+    if is_named(b"UNH", tag) {
+        let table = find_table(alloc, directory, components)?;
+        return open_message(alloc, directory, table);
+    }
+    if is_no_part(tag) {
+        return Ok(plain_step(alloc, Mode::Outside));
+    }
+    match before {
+        Mode::Outside => Ok(plain_step(alloc, Mode::Outside)),
+        Mode::Untabled => Ok(plain_step(alloc, unless_closed(tag, Mode::Untabled))),
+        Mode::Within { table, state } => go_on(alloc, directory, *table, state, tag, placed),
+    }
+}
+
+// The step of a UNH, which is at entry 0 of the table that it names, if there is one.
+fn open_message(
+    alloc: Global,
+    directory: &Directory,
+    table: Option<u32>,
+) -> Result<Step, AllocError>
+    requires within { IfSome table (λ i. i < length (tables_of directory.now)) }
+    ensures step { IfOk result (λ step. taken step ≡ opening_step directory.now table) }
+    ensures mode { IfOk result (λ step. IsModeOf directory.now 1 step.after) }
+{
+    let Some(table) = table else {
+        return Ok(plain_step(alloc, Mode::Untabled));
+    };
+    let state = start(alloc, directory.table(table as usize))?;
+    Ok(Step {
+        entry: Some(0),
+        missing: SmallVec::new(alloc),
+        over: false,
+        after: Mode::Within { table, state },
+    })
+}
+
+// The step of a segment of a message with a table.
+fn go_on<L: Ledger>(
+    alloc: Global,
+    directory: &Directory,
+    table: u32,
+    state: &State,
+    tag: Option<Tag>,
+    placed: &mut Steps<L>,
+) -> Result<Step, AllocError>
+    requires mode { IsModeOf directory.now 4194303 (Mode.Within table state.now) }
+    ensures step { IfOk result (λ step. taken step ≡ inner_step directory.now (Mode.Within table state.now) (read_as tag [])) }
+    ensures mode { (most : ℕ)
+        → IsModeOf directory.now most (Mode.Within table state.now)
+        → IfOk result (λ step. IsModeOf directory.now (most + 1) step.after) }
+    ensures counted { placed.new ≤ placed.old + 1 }
+{
+    let next = state.place(alloc, directory.table(table as usize), tag, placed)?;
+    Ok(Step {
+        entry: next.entry,
+        missing: next.missing,
+        over: next.over,
+        after: unless_closed(
+            tag,
+            Mode::Within {
+                table,
+                state: next.state,
+            },
+        ),
+    })
+}
+
+// A step that nothing is said of but the mode after it.
+fn plain_step(alloc: Global, after: Mode) -> Step
+    ensures { taken result ≡ step_to after }
+{
+    Step {
+        entry: None,
+        missing: SmallVec::new(alloc),
+        over: false,
+        after,
+    }
+}
+
+// The mode after a segment of a message: UNT closes it.
+fn unless_closed(tag: Option<Tag>, after: Mode) -> Mode
+    ensures { result ≡ (if has_name (codes "UNT") tag then Mode.Outside else after) }
+{
+    if is_named(b"UNT", tag) {
+        Mode::Outside
+    } else {
+        after
+    }
+}

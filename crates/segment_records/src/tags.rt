@@ -1,0 +1,23 @@
+//! The tags that bound messages.
+ghost use Rattle.std.specs.Prelude.{◌≡◌, ◌∷◌, [], codes};
+ghost use Rattle.std.specs.List.{list_any};
+ghost use Rattle.edi_tables.specs.Rows.{has_name};
+
+use edi_tables::Tag;
+
+/// Whether a segment has the tag of this name.
+pub fn is_named(name: &[u8; 3], tag: Option<Tag>) -> bool
+    ensures { result ≡ has_name name.now tag }
+{
+    match tag {
+        Some(tag) => tag.octets == *name,
+        None => false,
+    }
+}
+
+/// Whether a segment with this tag is in no message, as UNB, UNG, UNE and UNZ.
+pub fn is_no_part(tag: Option<Tag>) -> bool
+    ensures { result ≡ list_any (λ name. has_name name tag) (codes "UNB" ∷ codes "UNG" ∷ codes "UNE" ∷ codes "UNZ" ∷ []) }
+{
+    is_named(b"UNB", tag) || is_named(b"UNG", tag) || is_named(b"UNE", tag) || is_named(b"UNZ", tag)
+}

@@ -8,7 +8,6 @@ ghost use Rattle.segment_records.specs.Steps.{inner_step, opening_step, plain_st
 ghost use Rattle.segment_records.specs.Taken.{read_as, taken};
 
 use crate::mode::Mode;
-
 use crate::tags::{is_named, is_no_part};
 use crate::values::find_table;
 use dir_compile::Directory;

@@ -1,0 +1,133 @@
+-- The first segment of a text, and what is after its last.
+use Rattle.std.proofs.Common.{◌≡◌, ℕ, zero, suc, ◌+◌, ◌-◌, ◌<◌, ◌≤◌, Bool, true, false, cond, ltb, List, [], ◌∷◌, ◌++◌, length, get_or, Option, Some, None, refl, sym, ap, ◌∙◌, subst, arith}
+use Rattle.std.specs.Prelude.{map, codes, if◌then◌else◌}
+use Rattle.std.specs.Iterator.{YieldsFirstBy}
+use Rattle.std.specs.List.{slice_get, enumerate_from, flat_map}
+use Rattle.std.proofs.lemmas.Bool.{ltb-true}
+use Rattle.std.proofs.lemmas.List.{append-nil, length-map}
+use Rattle.std.proofs.lemmas.Option.{cond_some, slice_get-get_or, slice_get_within}
+use Rattle.edi_tables.specs.Rows.{has_name, when}
+use Rattle.dir_compile.specs.declared.parts.Parts.{Parts}
+use Rattle.dir_compile.specs.Directory.{IsDirectory}
+use Rattle.envelope_check.specs.Envelope.{envelope_errors_of}
+use Rattle.error_ledger.specs.declared.error.ErrorLine.{ErrorLine}
+use Rattle.error_ledger.specs.declared.kind.Kind.TheVariants as kind
+use Rattle.seg_lexer.specs.Context.{context_of}
+use Rattle.seg_lexer.specs.Fields.{Component, components_at}
+use Rattle.seg_lexer.specs.Segments.{IsSegment, boundaries_of, ends_of, segments_of, tail_of}
+use Rattle.seg_lexer.specs.Service.{service_of}
+use Rattle.seg_lexer.specs.declared.service.Service.{Service}
+use Rattle.segment_records.specs.Segments.{Segment, segments_in, value_in}
+use Rattle.edi_engine.specs.Engine.{segment_count_of}
+use Rattle.edi_engine.specs.Errors.{advice_lines, error_with, errors_found, is_unknown, levels, opening_lines, segment_lines, syntax_lines, tail_lines, versions}
+use Rattle.edi_engine.specs.Heads.{heads_of, marks_of}
+use Rattle.edi_engine.specs.Line.{opening_seen}
+use Rattle.edi_engine.specs.Look.{seen_of}
+use Rattle.edi_engine.specs.declared.seen.Seen.{Seen}
+use Rattle.edi_engine.specs.Seen.{SeenSegment, as_segment, seen_at, seen_in}
+use Rattle.edi_engine.proofs.Following.{stretch_in}
+use Rattle.edi_engine.proofs.Headed.{components_alike, place_in, starts_alike}
+use Rattle.edi_engine.proofs.Looking.{seen_is}
+use Rattle.edi_engine.proofs.Rests.{length_segments, same_count}
+use Rattle.edi_engine.proofs.Stretches.{context_service, few_segments}
+
+-- the last boundary is one
+pub last_at : (s : Service) (text : List ℕ) (from : ℕ) → from ≡ get_or (boundaries_of s text) (length (ends_of s text)) 0
+    → slice_get (boundaries_of s text) (length (ends_of s text)) ≡ Some from
+unfolding boundaries_of
+last_at s text from is =
+    let all = length-map (ends_of s text) (λ (e : ℕ). e + 1) in
+    slice_get-get_or (s.body ∷ map (λ e. e + 1) (ends_of s text)) (length (ends_of s text)) 0 (omega arith) ∙ ap Some (sym is)
+
+-- after it there is no segment
+pub none_past : (s : Service) (text : List ℕ) (from start end : ℕ) → IsSegment s text (length (ends_of s text)) from start end → ⊥
+none_past s text from start end it =
+    let within = slice_get_within (segments_of s text) (length (ends_of s text)) _ it.segment in
+    let count = same_count s text in
+    let ends = length_segments s text in
+    omega arith
+
+-- nothing is left where no segment comes
+pub none_left : (left rest : List SeenSegment) (next : Option Seen) → next ≡ None → YieldsFirstBy seen_of (λ (xs : List SeenSegment). xs) left next rest → left ≡ []
+none_left left rest None none step = step.0
+none_left left rest (Some seen) none step = absurd (let no : ⊥ = cc in no)
+
+-- a tail begins inside the text
+pub tail_within : (s : Service) (text : List ℕ) (start : ℕ) → tail_of s text ≡ Some start → start < length text
+unfolding tail_of
+tail_within s text start is =
+    let found = cond_some _ _ _ is in
+    subst (λ (x : ℕ). x < length text) found.1 (ltb-true _ _ found.0)
+
+pub few_counted : (text : List ℕ) → segment_count_of text ≤ length text
+few_counted text =
+    let count = same_count (service_of text) text in
+    let few = few_segments (service_of text) text in omega arith
+
+module _ (dir : Parts) (directory : IsDirectory dir) (text : List ℕ) where
+  -- no segment is first
+  none_first : (segments : List Segment) → map (seen_at dir (context_of text) (segments_in text)) (enumerate_from 0 segments) ≡ [] → slice_get segments 0 ≡ None
+  none_first [] is = refl
+  none_first (segment ∷ more) is = absurd (let no : ⊥ = cc in no)
+
+  some_first : (segments : List Segment) (seen : SeenSegment) (rest : List SeenSegment)
+      → map (seen_at dir (context_of text) (segments_in text)) (enumerate_from 0 segments) ≡ seen ∷ rest
+      → (segment : Segment) × (slice_get segments 0 ≡ Some segment) × (seen ≡ seen_at dir (context_of text) (segments_in text) (0, segment))
+  some_first [] seen rest is = absurd (let no : ⊥ = cc in no)
+  some_first (segment ∷ more) seen rest is = (segment, refl, cc)
+
+  pub syntax_none : seen_in dir text ≡ [] → (list : List ErrorLine) → list ≡ list ++ syntax_lines (slice_get (segments_in text) 0)
+  syntax_none none list =
+      let first = none_first (segments_in text) (sym (seen_is dir directory text) ∙ none) in
+      sym (append-nil list) ∙ ap (λ (o : Option Segment). list ++ syntax_lines o) (sym first)
+
+  module _ (seen : SeenSegment) (rest : List SeenSegment) (is : seen_in dir text ≡ seen ∷ rest) where
+    abbrev found : (segment : Segment) × (slice_get (segments_in text) 0 ≡ Some segment) × (seen ≡ seen_at dir (context_of text) (segments_in text) (0, segment))
+    found = some_first (segments_in text) seen rest (sym (seen_is dir directory text) ∙ is)
+
+    judged : (named : Bool) → has_name (codes "UNB") seen.kept.tag ≡ named
+        → syntax_lines (slice_get (segments_in text) 0) ≡ (if named then opening_lines found.0 else [])
+    judged named same =
+        ap syntax_lines found.1
+        ∙ ap (λ (b : Bool). if b then opening_lines found.0 else []) (ap (λ (s : SeenSegment). has_name (codes "UNB") s.kept.tag) (sym found.2) ∙ same)
+
+    pub syntax_past : has_name (codes "UNB") seen.kept.tag ≡ false → (list : List ErrorLine) → list ≡ list ++ syntax_lines (slice_get (segments_in text) 0)
+    syntax_past other list = sym (append-nil list) ∙ ap (λ (lines : List ErrorLine). list ++ lines) (sym (judged false other))
+
+    -- what is wrong with the opening, by the components at its places
+    abbrev opening_by : List Component → ℕ → List ErrorLine
+    opening_by components start =
+        when (is_unknown (value_in components 1 1) levels) (error_with 1 start found.0.tag 1 1 kind.Syntax)
+        ++ when (is_unknown (value_in components 1 2) versions) (error_with 1 start found.0.tag 1 2 kind.Syntax)
+
+    pub opening_is : has_name (codes "UNB") seen.kept.tag ≡ true → opening_seen (service_of text) text seen ≡ syntax_lines (slice_get (segments_in text) 0)
+    opening_is named =
+        let segment : Segment = found.0 in
+        let segments : List Segment = segments_in text in
+        let context = context_of text in
+        let s = service_of text in
+        let it = stretch_in dir directory text 0 segment found.1 in
+        let place = place_in text 0 segment found.1 in
+        ap (opening_seen s text) found.2
+        ∙ ap (λ (components : List Component). opening_by components (as_segment (seen_at dir context segments (0, segment))).start) (components_alike dir context s text segments 0 segment it place)
+        ∙ ap (opening_by segment.components) (starts_alike dir context s text segments 0 segment it place)
+        ∙ sym (judged true named)
+
+-- errors that are gathered so are those that are found
+pub gathered : (dir : Parts) (text : List ℕ) (a b c d e : List ErrorLine)
+    → a ≡ envelope_errors_of (heads_of dir (segments_in text)) (marks_of (segments_in text))
+    → b ≡ a ++ advice_lines (service_of text).sound
+    → c ≡ b ++ tail_lines (segment_count_of text) (tail_of (service_of text) text)
+    → d ≡ c ++ syntax_lines (slice_get (segments_in text) 0)
+    → e ≡ d ++ flat_map (segment_lines dir (context_of text) (segments_in text)) (enumerate_from 0 (segments_in text))
+    → e ≡ errors_found dir text
+unfolding errors_found segments_in
+gathered dir text a b c d e a_is b_is c_is d_is e_is =
+    let segments : List Segment = segments_in text in
+    let lines = flat_map (segment_lines dir (context_of text) segments) (enumerate_from 0 segments) in
+    e_is ∙ ap (λ (xs : List ErrorLine). xs ++ lines)
+    (d_is ∙ ap (λ (xs : List ErrorLine). xs ++ syntax_lines (slice_get segments 0))
+    (c_is ∙ ap (λ (n : ℕ). b ++ tail_lines n (tail_of (service_of text) text)) (same_count (service_of text) text)
+    ∙ ap (λ (xs : List ErrorLine). xs ++ tail_lines (length segments) (tail_of (service_of text) text))
+    (b_is ∙ ap (λ (s : Service). a ++ advice_lines s.sound) (sym (context_service text))
+    ∙ ap (λ (xs : List ErrorLine). xs ++ advice_lines (context_of text).service.sound) a_is)))

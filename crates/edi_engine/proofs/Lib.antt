@@ -1,0 +1,16 @@
+pub mod Begun
+pub mod Bounds
+pub mod Counts
+pub mod Ending
+pub mod Following
+pub mod Headed
+pub mod Likeness
+pub mod Looking
+pub mod Nearby
+pub mod Nodes
+pub mod Passing
+pub mod Readings
+pub mod Rests
+pub mod Stretches
+pub mod Treed
+pub mod Walking

@@ -1,0 +1,21 @@
+use Rattle.std.proofs.Common.{◌∙◌, List, length, sym, ap, subst}
+use Rattle.std.proofs.lemmas.List.{length-map}
+use Rattle.envelope_check.specs.declared.head.Head.{Head}
+use Rattle.envelope_check.specs.declared.head.SegmentMark.{SegmentMark}
+use Rattle.envelope_check.specs.Heads.{Fits}
+use Rattle.seg_lexer.specs.Service.{service_of}
+use Rattle.segment_records.specs.Segments.{Segment, segments_in}
+use Rattle.edi_engine.specs.Heads.{heads_of}
+use Rattle.edi_engine.proofs.Headed.{count_marks, fits_are}
+use Rattle.edi_engine.proofs.engine.Engine.envelope_errors.Goals as goal
+
+pub envelope_errors-requires-clause-fits : goal.envelope_errors-requires-clause-fits
+envelope_errors-requires-clause-fits c =
+    let dir = c.args.self.now.directory in
+    let segments = segments_in c.args.self.now.text in
+    subst (λ (heads : List Head). Fits heads c.in_ok-marks.marks) (sym (c.deref.ensures.value ∙ c.in_ok-heads.ensures))
+    (subst (Fits (heads_of dir segments)) (sym c.in_ok-marks.ensures) (fits_are dir segments))
+
+pub envelope_errors-requires-clause-total : goal.envelope_errors-requires-clause-total
+envelope_errors-requires-clause-total c =
+    c.segment_count.ensures ∙ count_marks c.args.self.now.text ∙ ap length (sym c.in_ok-marks.ensures)

@@ -1,0 +1,13 @@
+use Rattle.std.proofs.Common.{◌∙◌, ap, arith}
+use Rattle.edi_engine.specs.Engine.{Reading, segment_count_of}
+use Rattle.edi_engine.proofs.Readings.{count_is, few_records}
+use Rattle.edi_engine.proofs.engine.Engine.segment_count.Goals as goal
+
+pub overflow_cast-result : goal.overflow_cast-result
+overflow_cast-result c =
+    let few = few_records c.self.inside c.self.invariant in
+    let short = c.self.invariant.short in
+    omega (arith, c.len.ensures)
+
+pub returns : goal.returns
+returns c = c.len.ensures ∙ count_is c.self.inside c.self.invariant ∙ ap (λ (r : Reading). segment_count_of r.text) c.self.view_is

@@ -1,0 +1,40 @@
+use Rattle.std.proofs.Common.{◌≡◌, ◌∙◌, map, sym, ap, subst}
+use Rattle.std.specs.Prelude.{All}
+use Rattle.error_ledger.specs.declared.tree.TreeLine.{TreeLine}
+use Rattle.error_ledger.specs.Printing.{IsWellPlaced}
+use Rattle.dir_compile.specs.declared.parts.Parts.{Parts}
+use Rattle.edi_engine.specs.Look.{seen_of}
+use Rattle.edi_engine.specs.Seen.{Follows, seen_in}
+use Rattle.edi_engine.specs.Told.{line_in_tree}
+use Rattle.edi_engine.proofs.Passing.{map_done, map_left, rest_all}
+use Rattle.edi_engine.proofs.Treed.{line_is, tree_is, well_all}
+use Rattle.edi_engine.proofs.engine.Engine.tree.Goals as goal
+
+pub loop-seen-preserved : goal.loop-seen-preserved
+loop-seen-preserved c =
+    let dir = c.directory-directory.result.now in
+    let seen = seen_of c.in-Some.seen in
+    let step = c.in-Some.ensures.steps in
+    record {
+      left = map_left _ seen c.next.new.self step (line_in_tree dir) c.loop-seen.tree.items c.push.new.self.items _ _ c.in_ok-push.ensures.items
+          (line_is dir seen c.tag.result c.place_of.result c.tag.ensures c.place_of.ensures) c.loop-seen.invariant.left;
+      follow = rest_all _ seen c.next.new.self step (Follows dir) c.loop-seen.invariant.follow;
+    }
+
+pub returns-clause-exact : goal.returns-clause-exact
+returns-clause-exact c =
+    let dir = c.args.self.now.directory in
+    let text = c.args.self.now.text in
+    map_done c.loop-seen.seen-iterator c.in-None.ensures.steps.0 c.loop-seen.tree.items _ (line_in_tree c.directory-directory.result.now) c.loop-seen.invariant.left
+    ∙ ap (map (line_in_tree c.directory-directory.result.now)) (c.into_iter-seen-iterator.ensures.into_iter_gives ∙ c.segments-seen-items.ensures.segments)
+    ∙ ap (λ (d : Parts). map (line_in_tree d) (seen_in dir text)) c.directory-directory.ensures
+    ∙ tree_is dir c.segments-seen-items.ensures.lawful text
+
+pub returns-clause-well : goal.returns-clause-well
+returns-clause-well c =
+    let dir = c.args.self.now.directory in
+    let text = c.args.self.now.text in
+    let all = map_done c.loop-seen.seen-iterator c.in-None.ensures.steps.0 c.loop-seen.tree.items _ (line_in_tree c.directory-directory.result.now) c.loop-seen.invariant.left
+    ∙ ap (map (line_in_tree c.directory-directory.result.now)) c.into_iter-seen-iterator.ensures.into_iter_gives
+    ∙ ap (λ (d : Parts). map (line_in_tree d) c.segments-seen-items.result) c.directory-directory.ensures in
+    subst (All IsWellPlaced) (sym all) (well_all dir c.segments-seen-items.ensures.lawful c.segments-seen-items.result c.segments-seen-items.ensures.follow)

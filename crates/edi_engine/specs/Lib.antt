@@ -1,0 +1,11 @@
+pub mod Engine
+pub mod Errors
+pub mod Groups
+pub mod Heads
+pub mod Line
+pub mod Look
+pub mod Reading
+pub mod Seen
+pub mod Told
+pub mod Tree
+pub mod Walked

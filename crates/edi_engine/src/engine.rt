@@ -1,0 +1,157 @@
+//! The engine: a text with what is kept of its segments.
+ghost use Rattle.std.specs.Prelude.{◌≡◌, ◌+◌, ◌≤◌, All, length, slice_index, IfOk};
+ghost use Rattle.dir_compile.specs.Directory.{IsDirectory};
+ghost use Rattle.seg_lexer.specs.Segments.{boundaries_of, ends_of};
+ghost use Rattle.seg_lexer.specs.Service.{IsUsable, service_of};
+ghost use Rattle.segment_records.specs.Messages.{mode_after};
+ghost use Rattle.segment_records.specs.Segments.{segments_in};
+ghost use Rattle.edi_engine.specs.Engine.{segment_count_of};
+ghost use Rattle.edi_engine.specs.Seen.{Follows, LiesIn, seen_in};
+
+use crate::read::read_text;
+use crate::seen::Segments;
+use dir_compile::Directory;
+use edi_tables::Chunk;
+use piece_text::{Text, View};
+use seg_lexer::{Context, Service};
+use segment_records::{Mode, Record};
+use seq_tree::Seq;
+use std::alloc::{AllocError, Global};
+use std::marker::Model;
+use std::sync::ledger::Ledger;
+use step_counter::Steps;
+
+/// The reading of a text by a directory, seen as these two.
+///
+/// It keeps the text in pieces, and a record of each segment. Numbers, places and groups are worked out when they are asked
+/// for.
+#[derive(Drop)]
+pub struct Engine<'d> {
+    directory: &'d Directory,
+    text: Text,
+    context: Context,
+    records: Seq<Record>,
+    // The mode before the first segment.
+    outside: Mode,
+}
+
+impl<'d> Model for Engine<'d> {
+    ghost use Rattle.edi_engine.specs.Engine.{Reading};
+
+    ghost Value = { Reading };
+
+    ghost use Rattle.edi_engine.specs.Reading.{IsReading, reading};
+
+    ghost view = { reading };
+
+    ghost invariant = { IsReading };
+}
+
+impl<'d> Engine<'d> {
+    /// Reads a text. Each call of the lexer and of the walk is counted. Only want of memory is an error.
+    pub fn open<L: Ledger, M: Ledger>(
+        directory: &'d Directory,
+        alloc: Global,
+        octets: &[u8],
+        lexed: &mut Steps<L>,
+        placed: &mut Steps<M>,
+    ) -> Result<Engine<'d>, AllocError>
+        requires { length octets.now ≤ 4194304 }
+        ensures opened { IfOk result (λ e. e ≡ record { directory = directory.now; text = octets.now }) }
+        ensures lexed { lexed.new ≤ lexed.old + (segment_count_of octets.now + 2) }
+        ensures placed { placed.new ≤ placed.old + segment_count_of octets.now }
+    {
+        // What it keeps is of a directory.
+        let _parts = directory.parts();
+        let text = Text::of_bytes(alloc, octets)?;
+        let (context, records) = read_text(alloc, directory, octets, lexed, placed)?;
+        Ok(Engine {
+            directory,
+            text,
+            context,
+            records: Seq::of_items(alloc, records)?,
+            outside: Mode::Outside,
+        })
+    }
+
+    /// The directory that it checks by.
+    pub fn directory(&self) -> &'d Directory
+        ensures { result.now ≡ self.now.directory }
+    {
+        self.directory
+    }
+
+    /// How many octets the text has.
+    pub fn text_len(&self) -> u64
+        ensures { result ≡ length self.now.text }
+    {
+        self.text.len() as u64
+    }
+
+    /// How many segments it has.
+    pub fn segment_count(&self) -> u32
+        ensures { result ≡ segment_count_of self.now.text }
+    {
+        self.records.len() as u32
+    }
+
+    /// A copy of the text.
+    pub fn copy_text(&self, alloc: Global) -> Result<Chunk, AllocError>
+        ensures { IfOk result (λ octets. octets ≡ self.now.text) }
+    {
+        self.text.copy(alloc)
+    }
+
+    /// The mode after the first `k` segments.
+    pub fn state_after(&self, k: u32) -> &Mode
+        requires { k ≤ segment_count_of self.now.text }
+        ensures { result.now ≡ mode_after self.now.directory (segments_in self.now.text) k }
+    {
+        if k == 0 {
+            return &self.outside;
+        }
+        let Some(record) = self.records.iter_from(k as usize - 1).next() else {
+            unreachable!();
+        };
+        record.mode()
+    }
+
+    // Its segments, with what is worked out of their records.
+    pub(crate) fn segments(&self) -> Segments<'_>
+        ensures segments { result ≡ seen_in self.now.directory self.now.text }
+        ensures follow { All (Follows self.now.directory) result }
+        ensures inside { All (LiesIn self.now.text) result }
+        ensures few { length result ≤ 4194304 }
+        ensures lawful { IsDirectory self.now.directory }
+    {
+        Segments::of(
+            &self.records,
+            self.context.service.body as u32,
+            &self.outside,
+        )
+    }
+
+    // The whole text.
+    pub(crate) fn whole(&self) -> View<'_>
+        ensures text { result ≡ self.now.text }
+        ensures short { length self.now.text ≤ 4194304 }
+    {
+        self.text.view(0, self.text.len())
+    }
+
+    // The service characters that its segments are read by.
+    pub(crate) fn service(&self) -> &Service
+        ensures service { result.now ≡ service_of self.now.text }
+        ensures usable { IsUsable result.now self.now.text }
+    {
+        &self.context.service
+    }
+
+    // The boundary after the last segment.
+    pub(crate) fn last_boundary(&self) -> usize
+        ensures { result ≡ slice_index (boundaries_of (service_of self.now.text) self.now.text)
+            (length (ends_of (service_of self.now.text) self.now.text)) }
+    {
+        self.context.service.body + self.records.total() as usize
+    }
+}

@@ -1,0 +1,120 @@
+//! All errors of a text, in order.
+ghost use Rattle.std.specs.Prelude.{◌≡◌, ◌++◌, IfOk, OnOk, map};
+ghost use Rattle.std.specs.List.{enumerate_from, flat_map};
+ghost use Rattle.std.specs.List.Sorted.{IsPermutation};
+ghost use Rattle.error_ledger.specs.Order.{IsAscending};
+ghost use Rattle.envelope_check.specs.Envelope.{envelope_errors_of};
+ghost use Rattle.seg_lexer.specs.Context.{context_of};
+ghost use Rattle.segment_records.specs.Segments.{segments_in};
+ghost use Rattle.edi_engine.specs.Errors.{error_with, errors_found, errors_of, segment_lines};
+ghost use Rattle.edi_engine.specs.Heads.{heads_of, marks_of};
+ghost use Rattle.edi_engine.specs.Line.{local_seen, seen_error};
+ghost use Rattle.edi_engine.specs.Look.{seen_of};
+
+use crate::engine::Engine;
+use crate::seen::Seen;
+use crate::structure::put_structure;
+use edi_tables::Tag;
+use envelope_check::envelope_errors;
+use error_ledger::{ErrorLine, Kind, order_errors};
+use std::alloc::{AllocError, Global};
+
+impl Engine<'_> {
+    /// All errors of the text, in ascending order. Only want of memory is an error. The work grows with the number of
+    /// segments.
+    pub fn errors(&self, alloc: Global) -> Result<Vec<ErrorLine>, AllocError>
+        ensures exact { IfOk result (λ list. list.items ≡ errors_of self.now.directory self.now.text) }
+        ensures ascending { IfOk result (λ list. IsAscending list.items) }
+        ensures same { IfOk result
+            (λ list. IsPermutation (errors_found self.now.directory self.now.text) list.items) }
+    {
+        let mut list = self.find_errors(alloc)?;
+        order_errors(&mut list)?;
+        Ok(list)
+    }
+
+    // All errors, as they are found.
+    fn find_errors(&self, alloc: Global) -> Result<Vec<ErrorLine>, AllocError>
+        ensures { IfOk result (λ list. list.items ≡ errors_found self.now.directory self.now.text) }
+    {
+        let mut list = self.envelope_errors(alloc)?;
+        self.put_advice(&mut list)?;
+        self.put_tail(&mut list)?;
+        self.put_syntax(&mut list)?;
+        self.put_segments(alloc, &mut list)?;
+        Ok(list)
+    }
+
+    // The errors of its envelopes.
+    fn envelope_errors(&self, alloc: Global) -> Result<Vec<ErrorLine>, AllocError>
+        ensures { IfOk result (λ errors. let segments = segments_in self.now.text in
+            errors.items ≡ envelope_errors_of (heads_of self.now.directory segments) (marks_of segments)) }
+    {
+        let heads = self.heads(alloc)?;
+        let marks = self.marks(alloc)?;
+        envelope_errors(alloc, &heads, self.segment_count(), &marks)
+    }
+
+    // Puts the errors of each segment by itself and by its message.
+    fn put_segments(&self, alloc: Global, list: &mut Vec<ErrorLine>) -> Result<(), AllocError>
+        ensures { OnOk result (list.new.items ≡ list.old.items
+            ++ (let segments = segments_in self.now.text in
+            flat_map (segment_lines self.now.directory (context_of self.now.text) segments) (enumerate_from 0 segments))) }
+    {
+        let directory = self.directory();
+        for seen in self.segments() {
+            put_structure(alloc, directory, &seen, list)?;
+            put_local(&seen, list)?;
+        }
+        Ok(())
+    }
+}
+
+// Puts the local errors of a segment.
+fn put_local(seen: &Seen<'_>, list: &mut Vec<ErrorLine>) -> Result<(), AllocError>
+    ensures { OnOk result (list.new.items ≡ list.old.items ++ local_seen (seen_of seen.now)) }
+{
+    for error in seen.record.local() {
+        list.push(seen.error(error.element, error.component, error.kind))?;
+    }
+    Ok(())
+}
+
+/// An error of segment `k` at a component of an element: 0 is the whole segment, or the whole element.
+pub(crate) fn error_with(
+    k: u32,
+    start: u32,
+    tag: Option<Tag>,
+    element: u32,
+    component: u32,
+    kind: Kind,
+) -> ErrorLine
+    ensures { result ≡ error_with k start tag element component kind }
+{
+    ErrorLine {
+        segment: k,
+        start,
+        tag,
+        element,
+        component,
+        kind,
+        node: 0,
+        missing: None,
+    }
+}
+
+impl Seen<'_> {
+    /// An error of the segment at a component of an element.
+    pub(crate) fn error(&self, element: u32, component: u32, kind: Kind) -> ErrorLine
+        ensures { result ≡ seen_error (seen_of self.now) element component kind }
+    {
+        error_with(
+            self.number,
+            self.start(),
+            self.record.tag(),
+            element,
+            component,
+            kind,
+        )
+    }
+}

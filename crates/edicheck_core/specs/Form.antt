@@ -7,18 +7,20 @@ use Rattle.text_printer.specs.declared.text.Detail.TheVariants.{Segments, Values
 use Rattle.edicheck_core.specs.declared.form.Form.{Form}
 use Rattle.edicheck_core.specs.declared.form.Form.TheVariants as form
 
--- what words ask for: help, the version, a text in some detail, or the tables of the directory of a manifest
+-- what words ask for: help, the version, a text in some detail, the tables of the directory of a manifest, or the check of a text by that directory
 pub data Asked : Type 0 where
   Help : Asked
   Version : Asked
   Text : (detail : Detail) → Asked
   Tables : (manifest : List ℕ) → Asked
+  Check : (manifest : List ℕ) → (text : List ℕ) → Asked
 
 abbrev pub form_shown : Form → Asked
 form_shown form.Help = Help
 form_shown form.Version = Version
 form_shown (form.Text detail) = Text detail
 form_shown (form.Tables manifest) = Tables manifest.now
+form_shown (form.Check manifest text) = Check manifest.now text.now
 
 -- `--help`, `--version`, `segments` or `values`
 abbrev pub lone_word : List ℕ → Option Asked
@@ -32,10 +34,16 @@ lone_word word =
 abbrev pub with_manifest : List ℕ → List ℕ → Option Asked
 with_manifest word manifest = if bytes_eq word (codes "tables") && is_name_of manifest then Some (Tables manifest) else None
 
+-- `check`, and the names of a manifest and of a text
+abbrev pub with_text : List ℕ → List ℕ → List ℕ → Option Asked
+with_text word manifest text =
+    if bytes_eq word (codes "check") && is_name_of manifest && is_name_of text then Some (Check manifest text) else None
+
 -- what words ask for, if they are of a form
 abbrev pub form_of : List (List ℕ) → Option Asked
 form_of (word ∷ []) = lone_word word
 form_of (word ∷ manifest ∷ []) = with_manifest word manifest
+form_of (word ∷ manifest ∷ text ∷ []) = with_text word manifest text
 form_of words = None
 
 -- what a run takes for what words ask for: the input, the shelf, memory
@@ -50,3 +58,4 @@ needs_of (Some Help) = record { input = false; shelf = false; memory = false }
 needs_of (Some Version) = record { input = false; shelf = false; memory = false }
 needs_of (Some (Text detail)) = record { input = true; shelf = false; memory = true }
 needs_of (Some (Tables manifest)) = record { input = false; shelf = true; memory = true }
+needs_of (Some (Check manifest text)) = record { input = false; shelf = true; memory = true }

@@ -1,7 +1,7 @@
 -- What a run comes to before its first octet is put.
 use Rattle.std.specs.Prelude.{ℕ, List, [], ◌∷◌, ◌++◌, codes}
 use Rattle.edicheck_core.specs.declared.status.Status.{Status}
-use Rattle.edicheck_core.specs.declared.status.Status.TheVariants.{Done, Words, ReadFault, TooLarge, Memory}
+use Rattle.edicheck_core.specs.declared.status.Status.TheVariants.{Done, Found, Words, ReadFault, TooLarge, Memory}
 
 -- a status, and the whole output that goes with it
 pub record Outcome : Type 0 where
@@ -11,6 +11,10 @@ pub record Outcome : Type 0 where
 -- all was done, and this is printed
 abbrev pub done : List ℕ → Outcome
 done output = record { status = Done; output = output }
+
+-- all was done, something was found in a text, and this is printed
+abbrev pub found : List ℕ → Outcome
+found output = record { status = Found; output = output }
 
 -- a refusal: one line that tells it
 abbrev pub refused : Status → List ℕ → Outcome

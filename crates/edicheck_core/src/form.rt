@@ -1,7 +1,7 @@
 //! The forms of words.
 ghost use Rattle.std.specs.Prelude.{◌≡◌};
 ghost use Rattle.std.specs.Option.{option_map};
-ghost use Rattle.edicheck_core.specs.Form.{form_of, form_shown, lone_word, with_manifest};
+ghost use Rattle.edicheck_core.specs.Form.{form_of, form_shown, lone_word, with_manifest, with_text};
 
 use edi_octets::is_name;
 use edi_tables::Chunk;
@@ -18,6 +18,8 @@ pub enum Form<'a> {
     Text(Detail),
     /// The segment tables of the directory of the manifest of this name.
     Tables(&'a [u8]),
+    /// The errors and the tree of the text of this name, by the directory of the manifest of this name.
+    Check { manifest: &'a [u8], text: &'a [u8] },
 }
 
 /// The form of the words; `None` where they are of no form.
@@ -27,6 +29,7 @@ pub fn read_form(words: &[Chunk]) -> Option<Form<'_>>
     match words {
         [word] => read_lone_word(word.octets()),
         [word, manifest] => read_with_manifest(word.octets(), manifest.octets()),
+        [word, manifest, text] => read_with_text(word.octets(), manifest.octets(), text.octets()),
         _ => None,
     }
 }
@@ -52,6 +55,16 @@ fn read_with_manifest<'a>(word: &[u8], manifest: &'a [u8]) -> Option<Form<'a>>
 {
     if word == b"tables".as_slice() && is_name(manifest) {
         Some(Form::Tables(manifest))
+    } else {
+        None
+    }
+}
+
+fn read_with_text<'a>(word: &[u8], manifest: &'a [u8], text: &'a [u8]) -> Option<Form<'a>>
+    ensures { option_map form_shown result ≡ with_text word.now manifest.now text.now }
+{
+    if word == b"check".as_slice() && is_name(manifest) && is_name(text) {
+        Some(Form::Check { manifest, text })
     } else {
         None
     }

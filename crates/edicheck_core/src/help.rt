@@ -3,19 +3,20 @@
 /// What `--help` prints.
 pub const HELP: &[u8] = b"edicheck checks UN/EDIFACT interchanges and directories.
 
-edicheck segments < TEXT     print the segments of a text
-edicheck values < TEXT       print its segments with their values
-edicheck tables MANIFEST     print the segment tables of a directory, and where they are ambiguous
-edicheck --help              print this help
-edicheck --version           print the version
+edicheck check MANIFEST TEXT   print the errors of a text, and where its segments are
+edicheck segments < TEXT       print the segments of a text
+edicheck values < TEXT         print its segments with their values
+edicheck tables MANIFEST       print the segment tables of a directory, and where they are ambiguous
+edicheck --help                print this help
+edicheck --version             print the version
 
-MANIFEST is the name of a file in the folder that edicheck runs in. Output ends with a line
-'fault ..' where something is refused.
+MANIFEST, and TEXT after it, are names of files in the folder that edicheck runs in. Output ends
+with a line 'fault ..' where something is refused.
 
-exit status: 0 done, 2 words of no form, 3 bad directory, 4 read fault, 5 write fault,
-7 too large, 8 out of memory, 9 no such file
+exit status: 0 done, 1 a text has errors, 2 words of no form, 3 bad directory, 4 read fault,
+5 write fault, 7 too large, 8 out of memory, 9 no such file
 
-example: edicheck segments < order.edi
+example: edicheck check m order.edi
 ";
 
 /// What `--version` prints: the version of the crate `edicheck`, and of the toolchain that it is proved with, which that

@@ -1,6 +1,7 @@
 //! All that the program does, over any source, sink and shelf.
 #![tactic(auto)]
 
+mod check;
 mod form;
 mod help;
 mod outcome;

@@ -105,6 +105,16 @@ impl Made {
         }
     }
 
+    /// A status with a printed head and the printed lines after it.
+    pub fn headed(status: Status, head: Chunk, lines: Chunk) -> Made
+        ensures { result ≡ record { status = status; output = head ++ lines } }
+    {
+        Made {
+            status,
+            output: Output::Headed { head, lines },
+        }
+    }
+
     /// That all was done, with a printed text, unless memory was refused for that.
     pub fn text(printed: Result<PrintedText, AllocError>) -> Made
         ensures { MatchResult printed (λ text. result ≡ done (text.head ++ text.lines)) (λ _. result ≡ memory_refused) }

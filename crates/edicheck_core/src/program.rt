@@ -9,6 +9,7 @@ ghost use Rattle.edicheck_core.specs.Inputs.{inputs_of, held_of};
 ghost use Rattle.edicheck_core.specs.Answer.{Grew, HasFailed, IsAnswer, IsDue, IsFinish, Takes};
 ghost use Rattle.edicheck_core.specs.Made.{made_by};
 
+use crate::check::check_text;
 use crate::help::{HELP, VERSION};
 use crate::outcome::Made;
 use crate::tables::tell_tables;
@@ -22,10 +23,11 @@ use std::alloc::Global;
 ///
 /// `segments` and `values` read the text on the input and print its segments, or these with their values.
 /// `tables MANIFEST` loads the directory of that manifest from the shelf and prints its segment tables with their
-/// collisions. `--help` and `--version` print a text for people. The whole output, or the line of a refusal, is made
+/// collisions. `check MANIFEST TEXT` loads that directory, reads the file TEXT, and prints its errors and its tree.
+/// `--help` and `--version` print a text for people. The whole output, or the line of a refusal, is made
 /// before its first octet is put. Of several refusals the first comes: words of no form; then for a text a fault of the
-/// input or over 4,194,304 octets, for a directory the manifest, each of its files in order, and their parts; then a
-/// fault of the sink. Memory may be refused at any step of a form that needs it.
+/// input or over 4,194,304 octets, for a directory the manifest, each of its files in order, and their parts, and then the
+/// file TEXT; then a fault of the sink. Memory may be refused at any step of a form that needs it.
 pub fn run<S: Shelf, I: Source, O: Sink>(
     alloc: Global,
     words: &[Chunk],
@@ -88,6 +90,7 @@ fn decide<S: Shelf, I: Source>(alloc: Global, words: &[Chunk], shelf: &mut S, in
         Some(Form::Version) => Made::fixed(Status::Done, VERSION),
         Some(Form::Text(detail)) => list_text(alloc, detail, input),
         Some(Form::Tables(manifest)) => tell_tables(alloc, manifest, shelf),
+        Some(Form::Check { manifest, text }) => check_text(alloc, manifest, text, shelf),
     }
 }
 

@@ -3,7 +3,7 @@ ghost use Rattle.std.specs.Prelude.{◌≡◌, ◌⊎◌, ◌++◌, [], ◌∷�
 ghost use Rattle.edi_octets.specs.DirKind.{word_of as rule_word};
 ghost use Rattle.dir_compile.specs.CompileKind.{word_of as parts_word};
 ghost use Rattle.edicheck_core.specs.Outcome.{memory_refused};
-ghost use Rattle.edicheck_core.specs.Refusal.{file_refused, refusal};
+ghost use Rattle.edicheck_core.specs.Refusal.{file_refused, refusal, unread};
 
 use crate::Status;
 use crate::outcome::Made;
@@ -27,17 +27,26 @@ pub fn refuse(alloc: Global, why: &Refusal) -> Made
     }
 }
 
+/// That there are no octets under a name, unless memory was refused for the line that tells it.
+pub fn refuse_unread(alloc: Global, name: &[u8], why: Unread) -> Made
+    ensures { (result ≡ unread name.now why) ⊎ (result ≡ memory_refused) }
+{
+    match why {
+        Unread::Absent => {
+            Made::lines(Status::Absent, print_named(alloc, b"fault absent ", name))
+        }
+        Unread::TooLarge => {
+            Made::lines(Status::TooLarge, print_named(alloc, b"fault large ", name))
+        }
+    }
+}
+
 // The named file gives no definitions.
 fn refuse_file(alloc: Global, name: &[u8], fault: FileFault) -> Made
     ensures { (result ≡ file_refused name.now fault) ⊎ (result ≡ memory_refused) }
 {
     match fault {
-        FileFault::Unread(Unread::Absent) => {
-            Made::lines(Status::Absent, print_named(alloc, b"fault absent ", name))
-        }
-        FileFault::Unread(Unread::TooLarge) => {
-            Made::lines(Status::TooLarge, print_named(alloc, b"fault large ", name))
-        }
+        FileFault::Unread(why) => refuse_unread(alloc, name, why),
         FileFault::Grammar(fault) => {
             Made::lines(Status::BadDirectory, print_broken(alloc, name, fault))
         }

@@ -11,8 +11,8 @@ use edi_ports::{ReadStop, Source, read_all};
 use std::alloc::Global;
 use text_printer::{Detail, print_text};
 
-// The most octets of a text.
-const LONGEST_TEXT: usize = 4_194_304;
+/// The most octets of a text.
+pub const LONGEST_TEXT: usize = 4_194_304;
 
 /// What the text on the input comes to, in this detail.
 pub fn list_text<I: Source>(alloc: Global, detail: Detail, input: &mut I) -> Made

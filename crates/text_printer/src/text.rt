@@ -67,7 +67,7 @@ fn list_segments<L: Ledger>(
         IfOk result (λ l. l.0 ≡ length (segments_of (service_of octets) octets)) }
     ensures lines { let octets = text.now.octets.now in let service = service_of octets in
         IfOk result (λ l. l.1 ≡ segments_from detail service octets 1 (segments_of service octets)
-            ++ tail_line octets (tail_of service octets)) }
+        ++ tail_line octets (tail_of service octets)) }
 {
     let mut lexed = Steps::<L>::start(blank);
     let service = read_service(text);

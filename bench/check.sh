@@ -1,0 +1,63 @@
+#!/bin/sh
+# Makes texts of 4 MiB and prints time and peak memory of `check` on them, by the directory of the examples.
+# usage: bench/check.sh   (the program is built first)
+set -eu
+top=$(cd "$(dirname "$0")/.." && pwd)
+(cd "$top/crates/edicheck" && rt run </dev/null >/dev/null 2>&1) || true
+program=$top/crates/edicheck/out/edicheck
+work=$(mktemp -d)
+trap 'rm -rf "$work"' EXIT
+cp "$top"/examples/directory/* "$work"
+python3 - "$work" <<'P'
+import sys
+folder = sys.argv[1]
+limit = 4194304
+opening = b"UNB+UNOA:3+BUYER:14+SELLER:14+960105:0930+R1'"
+
+def message(number, broken):
+    lines = b"".join(b"LIN+%d++4000862141404:EN'QTY+21:%s'PRI+AAA:12.5'" % (j, b"4X" if broken and j == 2 else b"48")
+                     for j in (1, 2, 3))
+    body = (b"BGM+220+PO%d+9'DTM+137:19960105:102'NAD+BY+5412345000013::9'" % number) + lines + b"UNS+S'"
+    count = body.count(b"'") + 2
+    return b"UNH+%d+TSTORD:D:96A:UN'%sUNT+%d+%d'" % (number, body, count, number)
+
+def interchange(every):
+    parts, size, number = [opening], len(opening), 0
+    while size < limit - 400:
+        number += 1
+        parts.append(message(number, every and number % every == 0))
+        size += len(parts[-1])
+    return b"".join(parts) + b"UNZ+%d+R1'" % number
+
+def one_message(body):
+    text = b"UNH+1+TSTORD:D:96A:UN'BGM+220'" + body
+    count = text.count(b"'") + 1
+    return opening + text + b"UNT+%d+1'UNZ+1+R1'" % count
+
+open(folder + "/usual", "wb").write(interchange(0))
+# 15 segments a message: one broken segment in a hundred.
+open(folder + "/broken", "wb").write(interchange(7))
+open(folder + "/terminators", "wb").write(b"'" * limit)
+open(folder + "/long", "wb").write(one_message(b"DTM+2'DTM+3'" + b"LIN+1'" * 300000 + b"UNS+1'"))
+rows = [b"UNH Message header M 1"] + [b"DTM Date C 1", b"RFF Reference C 1"] * 999 + [b"UNT Message trailer M 1"]
+open(folder + "/long2000", "wb").write(b"Message Type : TSTLNG\n" + b"".join(b"%04d %s\n" % (i + 1, r) for i, r in enumerate(rows)))
+manifest = open(folder + "/m", "rb").read()
+open(folder + "/m2", "wb").write(manifest + b"message long2000\n")
+open(folder + "/absent", "wb").write(opening + b"UNH+1+TSTLNG:D:96A:UN'" + b"AAA'" * 1000000 + b"UNT+1000002+1'UNZ+1+R1'")
+P
+cd "$work"
+for case in "m usual" "m broken" "m terminators" "m2 absent" "m long"; do
+    python3 - "$program" $case <<'P'
+import resource, subprocess, sys, time
+program, manifest, name = sys.argv[1:]
+best = None
+for _ in range(3):
+    begin = time.monotonic()
+    out = subprocess.run([program, "check", manifest, name], stdin=subprocess.DEVNULL, stdout=subprocess.PIPE).stdout
+    took = time.monotonic() - begin
+    best = took if best is None else min(best, took)
+peak = resource.getrusage(resource.RUSAGE_CHILDREN).ru_maxrss // 1024
+first = out.split(b"\n", 1)[0].decode()
+print(f"{name:12} {best:6.3f} s {peak:5} MiB {len(out):10} octets  {first}")
+P
+done

@@ -1,1 +1,13 @@
 pub mod Stamp
+pub mod Written
+pub mod ReadBack
+pub mod InOrder
+pub mod Levels
+pub mod Details
+pub mod Report
+pub mod Contrl
+pub mod Lent
+pub mod Range
+pub mod Raising
+pub mod Lower
+pub mod Members

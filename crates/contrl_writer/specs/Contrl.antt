@@ -1,0 +1,132 @@
+-- The acknowledgement of an interchange: a CONTRL message, and the interchange that it is sent in.
+use Rattle.std.specs.Prelude.{ℕ, ◌+◌, ◌==◌, Bool, false, List, [], ◌∷◌, ◌++◌, length, filter, take, Option, Some, None, codes, decimal}
+use Rattle.std.specs.List.{enumerate_from, flat_map}
+use Rattle.error_ledger.specs.declared.error.ErrorLine.{ErrorLine}
+use Rattle.seg_lexer.specs.declared.context.Level.{Level}
+use Rattle.seg_lexer.specs.declared.context.Level.TheVariants.{A, B, C, D, E, F}
+use Rattle.contrl_writer.specs.declared.answer.Contrl.{Contrl}
+use Rattle.contrl_writer.specs.declared.answer.Contrl.TheVariants as answers
+use Rattle.contrl_writer.specs.declared.level.Levelled.{Levelled}
+use Rattle.contrl_writer.specs.declared.stamp.Stamp.{Stamp}
+use Rattle.contrl_writer.specs.declared.summary.GroupHead.{GroupHead}
+use Rattle.contrl_writer.specs.declared.summary.MessageHead.{MessageHead}
+use Rattle.contrl_writer.specs.declared.summary.Opening.{Opening}
+use Rattle.contrl_writer.specs.declared.summary.Opening.TheVariants.{NoUnb, BadUnb, Good}
+use Rattle.contrl_writer.specs.declared.summary.Party.{Party}
+use Rattle.contrl_writer.specs.declared.summary.Summary.{Summary}
+use Rattle.contrl_writer.specs.Levels.{first_error, group_errors, interchange_errors, levelled, message_errors}
+use Rattle.contrl_writer.specs.Report.{acknowledged, answer, rejected, report}
+use Rattle.contrl_writer.specs.Written.{Element, Segment, alone, contrl_text}
+
+-- the word of a level
+abbrev pub level_word : Level → List ℕ
+level_word A = codes "UNOA"
+level_word B = codes "UNOB"
+level_word C = codes "UNOC"
+level_word D = codes "UNOD"
+level_word E = codes "UNOE"
+level_word F = codes "UNOF"
+
+-- S002 and S003: a party of an interchange
+abbrev pub interchange_party : Party → Element
+interchange_party p = p.id ∷ p.qualifier ∷ p.route ∷ []
+
+-- S006 and S007: a party of a functional group
+abbrev pub group_party : Party → Element
+group_party p = p.id ∷ p.qualifier ∷ []
+
+-- UNB: the level and version of the text that is answered, its recipient as sender, its sender as recipient, the stamp, and a reference
+abbrev pub unb : Level → ℕ → Party → Party → Stamp → List ℕ → Segment
+unb level version sender recipient stamp reference = record {
+  tag = codes "UNB";
+  elements = (level_word level ∷ decimal version ∷ []) ∷ interchange_party recipient ∷ interchange_party sender
+      ∷ (stamp.date ∷ stamp.time ∷ []) ∷ alone reference ∷ [];
+}
+
+-- UNH: message 1 of the interchange, by version D, release 3 of CONTRL
+abbrev pub unh : Segment
+unh = record {
+  tag = codes "UNH";
+  elements = alone (codes "1") ∷ (codes "CONTRL" ∷ codes "D" ∷ codes "3" ∷ codes "UN" ∷ []) ∷ [];
+}
+
+-- UCI: the interchange that is answered, with its own sender and recipient
+abbrev pub uci : Party → Party → List ℕ → List ℕ → Option ErrorLine → Segment
+uci sender recipient reference action error =
+    answer (codes "UCI") (alone reference ∷ interchange_party sender ∷ interchange_party recipient ∷ []) action error
+
+-- UCF: a functional group that is answered
+abbrev pub ucf : GroupHead → List ℕ → Option ErrorLine → Segment
+ucf g action error = answer (codes "UCF") (alone g.reference ∷ group_party g.sender ∷ group_party g.recipient ∷ []) action error
+
+-- UNT: the number of segments of the message
+abbrev pub unt : ℕ → Segment
+unt count = record { tag = codes "UNT"; elements = alone (decimal count) ∷ alone (codes "1") ∷ [] }
+
+-- UNZ: one message
+abbrev pub unz : List ℕ → Segment
+unz reference = record { tag = codes "UNZ"; elements = alone (codes "1") ∷ alone reference ∷ [] }
+
+-- the report of a message, where it has an error
+abbrev pub report_where : MessageHead → List Levelled → List Segment
+report_where m [] = []
+report_where m (x ∷ xs) = report m (x ∷ xs)
+
+-- the reports of those messages that have an error at message level, in order
+abbrev pub reports_of : List Levelled → List MessageHead → List Segment
+reports_of errors messages = flat_map (λ m. report_where m (message_errors m errors)) messages
+
+-- the messages of group i
+abbrev pub is_member : ℕ → Option ℕ → Bool
+is_member i None = false
+is_member i (Some j) = j == i
+
+abbrev pub members_of : ℕ → List MessageHead → List MessageHead
+members_of i messages = filter (λ m. is_member i m.group) messages
+
+-- the answer to a group: rejected for its first error at group level; else acknowledged, with the reports of its messages, where there are any
+abbrev pub group_answer : GroupHead → Option ErrorLine → List Segment → List Segment
+group_answer g (Some e) reports = ucf g rejected (Some e) ∷ []
+group_answer g None [] = []
+group_answer g None (r ∷ rs) = ucf g acknowledged None ∷ r ∷ rs
+
+-- the answers to groups, numbered from i
+abbrev pub group_answers : List Levelled → List MessageHead → ℕ × GroupHead → List Segment
+group_answers errors messages p = group_answer p.1 (first_error (group_errors p.1 errors)) (reports_of errors (members_of p.0 messages))
+
+-- all that can be told below an interchange that is acknowledged: in a text without groups the reports of its messages, else the answers to its groups
+abbrev pub lower_segments : List Levelled → List MessageHead → List GroupHead → List Segment
+lower_segments errors messages [] = reports_of errors messages
+lower_segments errors messages (g ∷ gs) = flat_map (group_answers errors messages) (enumerate_from 0 (g ∷ gs))
+
+-- the answer to an interchange: rejected for its first error at interchange level; else acknowledged, with the first 99,000 lower segments
+abbrev pub interchange_answer : (List ℕ → Option ErrorLine → Segment) → Option ErrorLine → List Segment → List Segment
+interchange_answer told (Some e) lower = told rejected (Some e) ∷ []
+interchange_answer told None lower = told acknowledged None ∷ take 99000 lower
+
+-- a message with these segments between its UNH and its UNT
+abbrev pub message_of : List Segment → List Segment
+message_of body = unh ∷ body ++ unt (length body + 2) ∷ []
+
+-- the segments of the acknowledgement of an interchange that is opened so; none where its UNB is missing or bad
+abbrev pub contrl_for : Opening → Summary → Stamp → List ℕ → List Segment
+contrl_for NoUnb s stamp own = []
+contrl_for BadUnb s stamp own = []
+contrl_for (Good level version sender recipient reference) s stamp own =
+    let errors = levelled s in
+    let first = first_error (interchange_errors errors) in
+    let body = interchange_answer (uci sender recipient reference) first (lower_segments errors s.messages s.groups) in
+    unb level version sender recipient stamp own ∷ message_of body ++ unz own ∷ []
+
+-- the segments of the acknowledgement of a summary, with a stamp and a reference of its own
+unfoldable pub contrl_of : Summary → Stamp → List ℕ → List Segment
+contrl_of s stamp own = contrl_for s.opening s stamp own
+
+-- what is answered: that the UNB is missing, or bad, or the octets of these segments
+abbrev pub answer_by : Opening → List Segment → Contrl
+answer_by NoUnb segments = answers.NoUnb
+answer_by BadUnb segments = answers.BadUnb
+answer_by (Good level version sender recipient reference) segments = answers.Octets (contrl_text segments)
+
+abbrev pub answer_to : Summary → Stamp → List ℕ → Contrl
+answer_to s stamp own = answer_by s.opening (contrl_of s stamp own)

@@ -10,21 +10,19 @@ ghost use Rattle.table_walk.specs.Reading.{IsReading};
 ghost use Rattle.table_walk.specs.Steps.{AreCountsUpTo, GoOnAlike, GoesOn, IsShaped, is_over_in, member_in, missing_in, pairs_after, tagged_in};
 
 use crate::position::{Pairs, Position};
-use arrayvec::ArrayVec;
 use edi_tables::{Missing, Table, Tag};
 use smallvec::SmallVec;
 use std::alloc::{AllocError, Global};
 use std::marker::Model;
-use std::rc::Rc;
 use std::sync::ledger::Ledger;
 use step_counter::Steps;
 
 /// The groups round the entry placed last, outermost first, and that entry, each with its count.
 ///
-/// It is seen as this list of pairs. A copy shares the pairs.
+/// It is seen as this list of pairs. Four of them lie in it; more are in memory of its own.
 #[derive(Debug, Drop)]
 pub struct State {
-    pairs: Rc<Pairs>,
+    pairs: Pairs,
 }
 
 impl Model for State {
@@ -32,7 +30,7 @@ impl Model for State {
 
     ghost Value = { List (ℕ × ℕ) };
 
-    ghost view = { λ s. s.pairs.value.items };
+    ghost view = { λ s. s.pairs.items };
 }
 
 /// Where a segment is: at an entry or at none, with what is missing before it, and the state after it.
@@ -52,20 +50,12 @@ pub fn start(alloc: Global, table: &Table) -> Result<State, AllocError>
 {
     // UNH is the first entry of each table, and in no group.
     prove!(table.len() > 0);
-    let mut pairs = ArrayVec::new();
-    pairs.push((0, 1));
-    State::of(alloc, pairs)
+    let mut pairs = SmallVec::new(alloc);
+    pairs.push((0, 1))?;
+    Ok(State { pairs })
 }
 
 impl State {
-    fn of(alloc: Global, pairs: Pairs) -> Result<State, AllocError>
-        ensures { IfOk result (λ state. state ≡ pairs.items) }
-    {
-        Ok(State {
-            pairs: Rc::new(alloc, pairs)?,
-        })
-    }
-
     /// Its pairs: the number of a node, and its count.
     pub fn pairs(&self) -> &[(u16, u32)]
         ensures { result.now ≡ self.now }
@@ -104,7 +94,9 @@ impl State {
         let position = Position::of(table, self.pairs());
         match position.member(tag) {
             Some(entry) => Ok(Placed {
-                state: State::of(alloc, position.pairs_next(entry))?,
+                state: State {
+                    pairs: position.pairs_next(alloc, entry)?,
+                },
                 entry: Some(entry),
                 over: position.is_over(entry),
                 missing: gather(alloc, position.missing(entry))?,
@@ -149,12 +141,12 @@ impl State {
         self.pairs() == other.pairs()
     }
 
-    /// The same state once more. It takes no memory: the error is that of an `Rc` whose count is full.
+    /// The same state once more. It takes memory only where there are more than four pairs.
     pub fn share(&self) -> Result<State, AllocError>
         ensures { IfOk result (λ state. state ≡ self.now) }
     {
         Ok(State {
-            pairs: self.pairs.clone()?,
+            pairs: SmallVec::from_slice(*self.pairs.allocator(), self.pairs())?,
         })
     }
 }

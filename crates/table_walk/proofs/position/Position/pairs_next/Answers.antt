@@ -12,7 +12,7 @@ loop-group-init c =
     let given = c.into_iter-group-iterator.ensures.into_iter_gives in
     let own : ℕ × ℕ = (c.args.candidate, c.entry_next.result) in
     turned_begin nodes pairs c.args.candidate c.args.self.now.lawful c.push.new.self.items c.into_iter-group-iterator.result
-    (c.push.ensures.items ∙ ap (λ (xs : List (ℕ × ℕ)). xs ++ own ∷ []) c.new-pairs.ensures
+    (c.in_ok-push.ensures.ok ∙ ap (λ (xs : List (ℕ × ℕ)). xs ++ own ∷ []) c.new-pairs.ensures.items
     ∙ ap (λ (n : ℕ). let pair : ℕ × ℕ = (c.args.candidate, n) in pair ∷ []) c.entry_next.ensures)
     (given ∙ c.groups_round-group-items.ensures.value ∙ ap (groups_round nodes) c.from.ensures)
     (subst (All (λ g. g < length nodes)) (sym given) c.groups_round-group-items.ensures.within)
@@ -22,7 +22,7 @@ loop-group-preserved c =
     let nodes = c.args.self.now.table.now in
     let pairs = c.args.self.now.pairs.now in
     turned_more nodes pairs c.args.candidate c.in-Some.group c.loop-group.group-iterator c.next.new.self c.loop-group.pairs.items c.push-in-loop-group.new.self.items c.in-Some.ensures.steps
-    (c.push-in-loop-group.ensures.items ∙ ap (λ (n : ℕ). let pair : ℕ × ℕ = (c.in-Some.group, n) in c.loop-group.pairs.items ++ pair ∷ []) c.group_next.ensures)
+    (c.in_ok-push-2.ensures.ok ∙ ap (λ (n : ℕ). let pair : ℕ × ℕ = (c.in-Some.group, n) in c.loop-group.pairs.items ++ pair ∷ []) c.group_next.ensures)
     c.loop-group.invariant
 
 pub returns : goal.returns

@@ -32,14 +32,14 @@ returns-in_ok-gather-in-Some-clause-nowhere g c =
 pub returns-in_ok-gather-in-Some-clause-shaped : goal.returns-in_ok-gather-in-Some-clause-shaped
 returns-in_ok-gather-in-Some-clause-shaped g c =
     let at = c.of-position.result in
-    let after : c.in_ok-of-in-Some.field-0 ≡ pairs_after at.table.now at.pairs.now (Some c.in-Some.entry) = c.in_ok-of-in-Some.ensures ∙ c.pairs_next.ensures in
-    subst (λ (t : List Node). IsShaped t c.in_ok-of-in-Some.field-0) c.of-position.ensures.table
+    let after : c.in_ok-pairs_next-in-Some.field-0.items ≡ pairs_after at.table.now at.pairs.now (Some c.in-Some.entry) = c.in_ok-pairs_next-in-Some.ensures in
+    subst (λ (t : List Node). IsShaped t c.in_ok-pairs_next-in-Some.field-0.items) c.of-position.ensures.table
     (subst (IsShaped at.table.now) (sym after) (shaped_after at.table.now at.pairs.now c.args.tag at.lawful c.in-Some.entry (sym c.in-Some.is ∙ c.member.ensures)))
 
 pub returns-in_ok-gather-in-Some-clause-counts : goal.returns-in_ok-gather-in-Some-clause-counts
 returns-in_ok-gather-in-Some-clause-counts g c most few =
     let at = c.of-position.result in
-    let after : c.in_ok-of-in-Some.field-0 ≡ pairs_after at.table.now at.pairs.now (Some c.in-Some.entry) = c.in_ok-of-in-Some.ensures ∙ c.pairs_next.ensures in
+    let after : c.in_ok-pairs_next-in-Some.field-0.items ≡ pairs_after at.table.now at.pairs.now (Some c.in-Some.entry) = c.in_ok-pairs_next-in-Some.ensures in
     subst (AreCountsUpTo (most + 1)) (sym after)
     (counts_after at.table.now at.pairs.now (Some c.in-Some.entry) most (subst (AreCountsUpTo most) (sym (c.of-position.ensures.pairs ∙ c.pairs.ensures)) few))
 
@@ -49,11 +49,11 @@ returns-in_ok-gather-in-Some-clause-reading g c tags before =
     let pairs_same = c.of-position.ensures.pairs ∙ c.pairs.ensures in
     subst
     (λ (t : List Node). IsReading t tags before → pairs_of t before ≡ c.args.self.now
-    → GoesOn t tags before c.args.tag (Some c.in-Some.entry) c.in_ok-gather-in-Some.field-0.items c.is_over.result c.in_ok-of-in-Some.field-0)
+    → GoesOn t tags before c.args.tag (Some c.in-Some.entry) c.in_ok-gather-in-Some.field-0.items c.is_over.result c.in_ok-pairs_next-in-Some.field-0.items)
     c.of-position.ensures.table
     (λ reading same. goes_on at.table.now at.lawful tags before reading c.args.tag at.pairs.now (same ∙ sym pairs_same) (Some c.in-Some.entry) (sym c.in-Some.is ∙ c.member.ensures)
     c.in_ok-gather-in-Some.field-0.items (c.in_ok-gather-in-Some.ensures ∙ c.missing.ensures) c.is_over.result c.is_over.ensures
-    c.in_ok-of-in-Some.field-0 (c.in_ok-of-in-Some.ensures ∙ c.pairs_next.ensures))
+    c.in_ok-pairs_next-in-Some.field-0.items (c.in_ok-pairs_next-in-Some.ensures))
 
 pub returns-in_ok-share-in-None-clause-nowhere : goal.returns-in_ok-share-in-None-clause-nowhere
 returns-in_ok-share-in-None-clause-nowhere g c =

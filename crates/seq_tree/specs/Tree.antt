@@ -5,7 +5,7 @@ use Rattle.seq_tree.specs.Shape.{IsBalancedPair, FillsHeight}
 
 -- the items of a node from left to right, where a side is known by its items and its height
 abbrev pub items : {T : Type 0} → Node T → List T
-items (Leaf item) = item.value ∷ []
+items (Leaf run) = run
 items (Fork sides) = sides.value.left.0 ++ sides.value.right.0
 
 -- n items that weigh w in all, fewer than 2 to the power 32, none above 4294967295, and enough for a tree of height h
@@ -18,6 +18,6 @@ pub record Counts {T : Type 0} (measure : T → ℕ) (xs : List T) (h n w : ℕ)
 
 -- a leaf has height 0; a fork is balanced, and a level above its higher side
 abbrev pub HasSides : {T : Type 0} → Node T → ℕ → Type 0
-HasSides (Leaf item) height = height ≡ 0
+HasSides (Leaf run) height = height ≡ 0
 HasSides (Fork sides) height =
     (height ≡ max sides.value.left.1 sides.value.right.1 + 1) × IsBalancedPair sides.value.left.1 sides.value.right.1

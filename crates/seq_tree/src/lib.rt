@@ -4,6 +4,7 @@
 mod join;
 mod look;
 mod measure;
+mod run;
 mod sequence;
 #[cfg(test)]
 mod tests;

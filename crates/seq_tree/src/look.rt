@@ -5,6 +5,7 @@ ghost use Rattle.std.specs.Prelude.{◌≡◌, ◌+◌, ◌<◌, ◌≤◌, leng
 ghost use Rattle.seq_tree.specs.Shape.{FillsHeight};
 
 use crate::measure::Measured;
+use crate::run::{locate_in, weigh};
 use crate::tree::{Node, Tree};
 use std::sync::ledger::Ledger;
 use step_counter::Steps;
@@ -27,7 +28,7 @@ impl<T: Measured> Tree<T> {
     {
         visited.tick();
         match &self.node {
-            Node::Leaf(item) => item,
+            Node::Leaf(run) => &run.items()[i],
             Node::Fork(sides) => {
                 let left_len = sides.left.len();
                 if i < left_len {
@@ -50,8 +51,7 @@ impl<T: Measured> Tree<T> {
     {
         visited.tick();
         match &self.node {
-            Node::Leaf(_) if i == 0 => 0,
-            Node::Leaf(item) => u64::from(item.weight()),
+            Node::Leaf(run) => weigh(&run.items()[..i]),
             Node::Fork(sides) => {
                 let left_len = sides.left.len();
                 if i < left_len {
@@ -75,11 +75,7 @@ impl<T: Measured> Tree<T> {
     {
         visited.tick();
         match &self.node {
-            Node::Leaf(item) => Located {
-                place: 0,
-                offset: bound,
-                item,
-            },
+            Node::Leaf(run) => locate_in(run.items(), bound),
             Node::Fork(sides) => {
                 let left_total = sides.left.total();
                 if bound < left_total {

@@ -1,15 +1,17 @@
 //! The sequence that callers see: a list of weighed items, of which an edit makes a new version.
 
-ghost use Rattle.std.specs.Prelude.{◌≡◌, ℕ, ◌+◌, ◌-◌, ◌*◌, ◌^◌, ◌<◌, ◌≤◌, [], ◌++◌, length, take, drop, insert, sum_by, slice_get, Some, IfOk, IsTrue, ◌↔◌, vec_len};
+ghost use Rattle.std.specs.Prelude.{◌≡◌, ℕ, ◌+◌, ◌-◌, ◌*◌, ◌^◌, ◌<◌, ◌≤◌, [], ◌++◌, length, take, drop, insert, sum_by, slice_get, slice_range, Some, IfOk, IsTrue, ◌↔◌};
 
 use crate::join;
 use crate::look::Located;
 use crate::measure::Measured;
+use crate::run::Run;
 use crate::tree::{Node, Tree};
 use crate::walk::Iter;
 use std::alloc::{AllocError, Global};
 use std::fmt::{self, Debug, Formatter, Write};
 use std::marker::Model;
+use std::rc::Rc;
 use std::sync::ledger::Ledger;
 use step_counter::Steps;
 
@@ -47,15 +49,16 @@ impl<T: Measured + Debug> Debug for Seq<T> {
 
 impl<T: Measured> Seq<T> {
     /// A sequence of these items, in their order. After an error they are dropped.
-    pub fn of_items(alloc: Global, mut items: Vec<T>) -> Result<Seq<T>, AllocError>
+    pub fn of_items(alloc: Global, items: Vec<T>) -> Result<Seq<T>, AllocError>
         requires { length items.items < 2 ^ 32 }
         ensures { IfOk result (λ s. s ≡ items.items) }
     {
-        let n = items.len() as u32;
+        let n = items.len();
         if n == 0 {
             return Ok(Seq { root: None });
         }
-        let root = build(alloc, &mut items, n)?;
+        let list = Rc::new(alloc, items)?;
+        let root = build(alloc, &list, 0, n)?;
         Ok(Seq { root: Some(root) })
     }
 
@@ -224,6 +227,15 @@ impl<T: Measured> Seq<T> {
         front.join(alloc, &back)
     }
 
+    /// The items of a run.
+    fn of_run(run: Run<T>) -> Seq<T>
+        ensures { result ≡ run }
+    {
+        Seq {
+            root: Some(Tree::of_run(run)),
+        }
+    }
+
     /// The items of this tree, which is shared.
     fn sharing(tree: &Tree<T>) -> Result<Seq<T>, AllocError>
         ensures { IfOk result (λ s. s ≡ tree.now.0) }
@@ -233,19 +245,30 @@ impl<T: Measured> Seq<T> {
     }
 }
 
-/// A tree of the last `n` items, which are taken off. Each fork has as many on its right side as on its left, or one fewer.
-fn build<T: Measured>(alloc: Global, items: &mut Vec<T>, n: u32) -> Result<Tree<T>, AllocError>
-    requires some { 0 < n }
-    requires enough { n ≤ vec_len items.old }
-    ensures taken { IfOk result (λ t. items.new.items ++ t.0 ≡ items.old.items) }
-    ensures count { IfOk result (λ t. length t.0 ≡ n) }
+// The most items of a leaf of a new sequence. More make fewer nodes, and a longer way in a leaf.
+const LONGEST_RUN: usize = 16;
+
+/// A tree of the items of a list from place `from` up to place `to`. Each fork has as many on its left side as on its right,
+/// or one fewer.
+fn build<T: Measured>(
+    alloc: Global,
+    list: &Rc<Vec<T>>,
+    from: usize,
+    to: usize,
+) -> Result<Tree<T>, AllocError>
+    requires some { from < to }
+    requires within { to ≤ length list.now.value.items }
+    requires fits { to < 2 ^ 32 }
+    ensures { IfOk result (λ t. t.0 ≡ slice_range list.now.value.items from to) }
 {
-    if n == 1 {
-        return Tree::leaf(alloc, items.pop().unwrap());
+    if to - from <= LONGEST_RUN {
+        return Ok(Tree::of_run(Run::of(list, from, to)?));
     }
-    let right = build(alloc, items, n / 2)?;
-    let left = build(alloc, items, n - n / 2)?;
-    join::join(alloc, &left, &right)
+    let middle = from + (to - from) / 2;
+    let left = build(alloc, list, from, middle)?;
+    let right = build(alloc, list, middle, to)?;
+    let tree = join::join(alloc, &left, &right)?;
+    Ok(tree)
 }
 
 /// The first `i` items of a tree and the others.
@@ -265,7 +288,10 @@ fn cut_tree<T: Measured>(
         return Ok((Seq::sharing(tree)?, Seq { root: None }));
     }
     match &tree.node {
-        Node::Leaf(_) => unreachable!(),
+        Node::Leaf(run) => {
+            let (front, back) = run.cut(i)?;
+            Ok((Seq::of_run(front), Seq::of_run(back)))
+        }
         Node::Fork(sides) => {
             let left_len = sides.left.len();
             if i < left_len {

@@ -4,6 +4,7 @@ ghost use Rattle.std.specs.Prelude.{◌≡◌, ◌+◌, ◌*◌, ◌^◌, ◌<�
 ghost use Rattle.seq_tree.specs.Shape.{IsBalancedPair, FillsHeight};
 
 use crate::measure::Measured;
+use crate::run::{Run, weigh};
 use std::alloc::{AllocError, Global};
 use std::marker::Model;
 use std::rc::Rc;
@@ -20,12 +21,12 @@ pub(crate) struct Tree<T: Measured> {
     total: u64,
 }
 
-/// No fork holds an item, so a new way down to a leaf copies none; and a fork is as large as two handles, however large the
-/// items are.
+/// No node holds an item itself, so a new way down to a leaf copies none; and a fork is as large as two handles, however
+/// large the items are.
 #[cycle(shared)]
 #[derive(Drop)]
 pub(crate) enum Node<T: Measured> {
-    Leaf(Rc<T>),
+    Leaf(Run<T>),
     Fork(Rc<Sides<T>>),
 }
 
@@ -85,14 +86,26 @@ impl<T: Measured> Tree<T> {
     pub(crate) fn leaf(alloc: Global, item: T) -> Result<Tree<T>, AllocError>
         ensures items { IfOk result (λ t. t.0 ≡ item ∷ []) }
     {
-        let total = u64::from(item.weight());
-        let node = Node::Leaf(Rc::new(alloc, item)?);
-        Ok(Tree {
-            node,
+        let mut items = Vec::with_capacity(alloc, 1)?;
+        items.push(item)?;
+        let list = Rc::new(alloc, items)?;
+        let run = Run::of(&list, 0, 1)?;
+        Ok(Tree::of_run(run))
+    }
+
+    /// A tree of the items of a run.
+    pub(crate) fn of_run(run: Run<T>) -> Tree<T>
+        ensures items { result.0 ≡ run }
+    {
+        let items = run.items();
+        let len = items.len() as u32;
+        let total = weigh(items);
+        Tree {
+            node: Node::Leaf(run),
             height: 0,
-            len: 1,
+            len,
             total,
-        })
+        }
     }
 
     /// The two sides under one fork.
@@ -119,7 +132,7 @@ impl<T: Measured> Tree<T> {
         ensures { IfOk result (λ t. t ≡ self.now) }
     {
         let node = match &self.node {
-            Node::Leaf(item) => Node::Leaf(item.clone()?),
+            Node::Leaf(run) => Node::Leaf(run.share()?),
             Node::Fork(sides) => Node::Fork(sides.clone()?),
         };
         Ok(Tree {

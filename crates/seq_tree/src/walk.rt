@@ -15,15 +15,17 @@ const MOST_PENDING: usize = 64;
 /// It takes no memory. A walk over n items visits fewer than 2n nodes, and a place to begin at costs one way down.
 #[derive(Drop)]
 pub struct Iter<'a, T: Measured> {
+    // What is left of the leaf that the walk is in.
+    run: &'a [T],
     pending: Pending<'a, T>,
 }
 
 impl<'a, T: Measured> Model for Iter<'a, T> {
-    ghost use Rattle.std.specs.Prelude.{List};
+    ghost use Rattle.std.specs.Prelude.{List, ◌++◌};
 
     ghost Value = { List T };
 
-    ghost view = { λ walk. walk.pending.0 };
+    ghost view = { λ walk. walk.run.now ++ walk.pending.0 };
 }
 
 impl<'a, T: Measured> Iter<'a, T> {
@@ -32,6 +34,7 @@ impl<'a, T: Measured> Iter<'a, T> {
         ensures { result ≡ [] }
     {
         Iter {
+            run: &[],
             pending: Pending::new(),
         }
     }
@@ -43,8 +46,8 @@ impl<'a, T: Measured> Iter<'a, T> {
     {
         let _height = tree.height();
         let mut pending = Pending::new();
-        open_at(tree, i, &mut pending);
-        Iter { pending }
+        let run = open_at(tree, i, &mut pending);
+        Iter { run, pending }
     }
 }
 
@@ -58,10 +61,12 @@ impl<'a, T: Measured> Iterator for Iter<'a, T> {
     ghost remaining = { item_count (λ left. left) };
 
     fn next(&mut self) -> Option<&'a T> {
-        match self.pending.pop() {
-            None => None,
-            Some(tree) => Some(first_of(tree, &mut self.pending)),
+        if self.run.is_empty() {
+            self.run = first_run(self.pending.pop()?, &mut self.pending);
         }
+        let (first, rest) = self.run.split_first()?;
+        self.run = rest;
+        Some(first)
     }
 }
 
@@ -113,41 +118,38 @@ impl<'a, T: Measured> Pending<'a, T> {
     }
 }
 
-/// Puts the items of a tree from place `i` on before those to come.
+/// The items of a tree from place `i` on, before those to come: the first of them, and the others are put there.
 #[tactic(auto, using(crate::proofs::Parts::drop_right))]
-fn open_at<'a, T: Measured>(tree: &'a Tree<T>, i: usize, pending: &mut Pending<'a, T>)
+fn open_at<'a, T: Measured>(tree: &'a Tree<T>, i: usize, pending: &mut Pending<'a, T>) -> &'a [T]
     requires within { i ≤ length tree.now.0 }
     requires room { tree.now.1 + pending.old.1 < 64 }
-    ensures { pending.new.0 ≡ drop i tree.now.0 ++ pending.old.0 }
+    ensures { result.now ++ pending.new.0 ≡ drop i tree.now.0 ++ pending.old.0 }
 {
-    if i == 0 {
-        pending.push(tree);
-        return;
-    }
     match &tree.node {
-        Node::Leaf(_) => {}
+        Node::Leaf(run) => &run.items()[i..],
         Node::Fork(sides) => {
             let left_len = sides.left.len();
             if i < left_len {
                 pending.push(&sides.right);
-                open_at(&sides.left, i, pending);
+                open_at(&sides.left, i, pending)
             } else {
-                open_at(&sides.right, i - left_len, pending);
+                open_at(&sides.right, i - left_len, pending)
             }
         }
     }
 }
 
-/// The first item of a tree. Its others are put before those to come.
-fn first_of<'a, T: Measured>(tree: &'a Tree<T>, pending: &mut Pending<'a, T>) -> &'a T
+/// The items of the first leaf of a tree. Its others are put before those to come.
+fn first_run<'a, T: Measured>(tree: &'a Tree<T>, pending: &mut Pending<'a, T>) -> &'a [T]
     requires room { tree.now.1 + pending.old.1 < 64 }
-    ensures { result.now ∷ pending.new.0 ≡ tree.now.0 ++ pending.old.0 }
+    ensures some { 0 < length result.now }
+    ensures all { result.now ++ pending.new.0 ≡ tree.now.0 ++ pending.old.0 }
 {
     match &tree.node {
-        Node::Leaf(item) => item,
+        Node::Leaf(run) => run.items(),
         Node::Fork(sides) => {
             pending.push(&sides.right);
-            first_of(&sides.left, pending)
+            first_run(&sides.left, pending)
         }
     }
 }

@@ -21,9 +21,9 @@ use Rattle.contrl_writer.specs.declared.level.ErrorLevel.TheVariants.{Interchang
 use Rattle.contrl_writer.specs.declared.level.Levelled.{Levelled}
 use Rattle.contrl_writer.specs.declared.summary.GroupHead.{GroupHead}
 use Rattle.contrl_writer.specs.declared.summary.MessageHead.{MessageHead}
-use Rattle.contrl_writer.specs.InOrder.{in_order}
+use Rattle.error_ledger.specs.Order.{in_order}
 use Rattle.contrl_writer.specs.Levels.{is_among, is_at_ends, is_in_message, is_of_group, is_of_interchange, level_of, with_level}
-use Rattle.contrl_writer.proofs.InOrderLemmas.{in_order-ascending}
+use Rattle.error_ledger.proofs.Sorting.{in_order-ascending}
 use Rattle.contrl_writer.specs.Raising.{closing_raised, first_raised, group_raised, last_raised, message_raised, part_raised, segment_of}
 
 -- no kind tells of the interchange and of a group

@@ -2,17 +2,16 @@ mod BlockLemmas
 mod ChangeLemmas
 mod DecimalLemmas
 mod GroupLemmas
-pub mod InOrderLemmas
 mod LevelLemmas
 mod LowerLemmas
 mod MemberLemmas
 mod MessageLemmas
-mod PieceLemmas
-mod QuietLemmas
+pub mod PieceLemmas
+pub mod QuietLemmas
 mod RangeLemmas
-mod ReadLemmas
+pub mod ReadLemmas
 mod ReportLemmas
-mod TaggedLemmas
+pub mod TaggedLemmas
 mod TextLemmas
-mod TrimLemmas
+pub mod TrimLemmas
 mod Worked

@@ -18,7 +18,7 @@ use Rattle.contrl_writer.specs.declared.summary.Opening.TheVariants.{Good}
 use Rattle.contrl_writer.specs.declared.summary.Party.{Party}
 use Rattle.contrl_writer.specs.declared.summary.Summary.{Summary}
 use Rattle.contrl_writer.specs.Contrl.{answer_to, contrl_of}
-use Rattle.contrl_writer.specs.InOrder.{in_order}
+use Rattle.error_ledger.specs.Order.{in_order}
 use Rattle.contrl_writer.specs.Report.{report}
 use Rattle.contrl_writer.specs.Written.{element_text, segment_text}
 

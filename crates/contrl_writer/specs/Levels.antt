@@ -11,7 +11,7 @@ use Rattle.contrl_writer.specs.declared.level.Levelled.{Levelled}
 use Rattle.contrl_writer.specs.declared.summary.GroupHead.{GroupHead}
 use Rattle.contrl_writer.specs.declared.summary.MessageHead.{MessageHead}
 use Rattle.contrl_writer.specs.declared.summary.Summary.{Summary}
-use Rattle.contrl_writer.specs.InOrder.{in_order}
+use Rattle.error_ledger.specs.Order.{in_order}
 
 -- kinds that tell of the interchange, wherever they are found: 1 to 10
 abbrev pub is_of_interchange : Kind → Bool

@@ -1,7 +1,6 @@
 pub mod Stamp
 pub mod Written
 pub mod ReadBack
-pub mod InOrder
 pub mod Levels
 pub mod Details
 pub mod Report

@@ -1,6 +1,6 @@
 use Rattle.std.proofs.Common.{[], take, length, sym, ap, ◌∙◌}
 use Rattle.std.proofs.lemmas.List.{take_all}
-use Rattle.contrl_writer.specs.InOrder.{in_order}
+use Rattle.error_ledger.specs.Order.{in_order}
 use Rattle.contrl_writer.proofs.LevelLemmas.{group-step, levelled-rise, message-step}
 use Rattle.contrl_writer.proofs.errors.Errors.of.Goals as goal
 

@@ -1,5 +1,5 @@
 use Rattle.std.proofs.Common.{◌≡◌, [], map, take}
-use Rattle.contrl_writer.specs.InOrder.{in_order}
+use Rattle.error_ledger.specs.Order.{in_order}
 use Rattle.contrl_writer.specs.Levels.{with_level}
 use Rattle.contrl_writer.proofs.errors.Errors.of.Given as goal
 

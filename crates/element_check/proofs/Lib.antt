@@ -1,5 +1,5 @@
-mod BridgeLemmas
-mod ElementLemmas
+pub mod BridgeLemmas
+pub mod ElementLemmas
 mod ErrorsLemmas
 mod NumberLemmas
 mod RulesLemmas

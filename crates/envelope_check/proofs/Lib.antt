@@ -5,6 +5,7 @@ pub mod Extents
 pub mod Fitting
 pub mod GroupAhead
 pub mod IsKnown
+pub mod OneMessage
 pub mod Progress
 pub mod RuleLaws
 pub mod SegmentErrors

@@ -26,7 +26,7 @@ impl Drop for Mode {
 }
 
 impl Mode {
-    /// The same mode once more. It takes no memory: the error is that of a state that is shared too often.
+    /// The same mode once more. It takes memory only where the state has more than four pairs.
     pub fn share(&self) -> Result<Mode, AllocError>
         ensures { IfOk result (λ mode. mode ≡ self.now) }
     {

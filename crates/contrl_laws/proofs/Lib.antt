@@ -1,0 +1,13 @@
+pub mod Back
+pub mod Each
+pub mod Items
+pub mod Lawful
+pub mod Numbered
+pub mod Openers
+pub mod Places
+pub mod Reports
+pub mod Runs
+pub mod Shape
+pub mod Told
+pub mod Values
+pub mod Walk

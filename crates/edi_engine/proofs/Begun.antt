@@ -1,6 +1,5 @@
 -- A text is read from its body's start on.
-use Rattle.std.proofs.Common.{◌≡◌, ℕ, ◌<◌, ◌≤◌, ◌^◌, List, length, take, drop, sym, ap, ◌∙◌, subst, arith}
-use Rattle.std.specs.Prelude.{map}
+use Rattle.std.proofs.Common.{◌≡◌, ℕ, ◌≤◌, List, length, take, drop, sym, ap, ◌∙◌, subst, arith}
 use Rattle.std.proofs.lemmas.List.{length-map}
 use Rattle.dir_compile.specs.declared.parts.Parts.{Parts}
 use Rattle.seg_lexer.specs.Context.{context_of}
@@ -11,9 +10,8 @@ use Rattle.seg_lexer.specs.declared.context.Context.{Context}
 use Rattle.seg_lexer.specs.declared.service.Service.{Service}
 use Rattle.seg_lexer.proofs.SegmentsLemmas.{boundary-zero, first-boundary}
 use Rattle.seg_lexer.proofs.ServiceLemmas.{service_of-usable}
-use Rattle.segment_records.specs.Records.{Kept, kept_from, records_from}
-use Rattle.segment_records.specs.Segments.{Segment, segments_by, segments_in}
-use Rattle.segment_records.specs.declared.mode.Mode.{Mode}
+use Rattle.segment_records.specs.Records.{kept_from, records_from}
+use Rattle.segment_records.specs.Segments.{segments_by, segments_in}
 use Rattle.segment_records.specs.declared.mode.Mode.TheVariants.{Outside}
 use Rattle.segment_records.proofs.BodyLaws.{moved_on, whole_is_body}
 use Rattle.segment_records.proofs.ModeLaws.{length_kept}

@@ -1,5 +1,5 @@
 -- The first segment of a text, and what is after its last.
-use Rattle.std.proofs.Common.{◌≡◌, ℕ, zero, suc, ◌+◌, ◌-◌, ◌<◌, ◌≤◌, Bool, true, false, cond, ltb, List, [], ◌∷◌, ◌++◌, length, get_or, Option, Some, None, refl, sym, ap, ◌∙◌, subst, arith}
+use Rattle.std.proofs.Common.{◌≡◌, ℕ, ◌+◌, ◌<◌, ◌≤◌, Bool, true, false, List, [], ◌∷◌, ◌++◌, length, get_or, Option, Some, None, refl, sym, ap, ◌∙◌, subst, arith}
 use Rattle.std.specs.Prelude.{map, codes, if◌then◌else◌}
 use Rattle.std.specs.Iterator.{YieldsFirstBy}
 use Rattle.std.specs.List.{slice_get, enumerate_from, flat_map}
@@ -13,7 +13,7 @@ use Rattle.envelope_check.specs.Envelope.{envelope_errors_of}
 use Rattle.error_ledger.specs.declared.error.ErrorLine.{ErrorLine}
 use Rattle.error_ledger.specs.declared.kind.Kind.TheVariants as kind
 use Rattle.seg_lexer.specs.Context.{context_of}
-use Rattle.seg_lexer.specs.Fields.{Component, components_at}
+use Rattle.seg_lexer.specs.Fields.{Component}
 use Rattle.seg_lexer.specs.Segments.{IsSegment, boundaries_of, ends_of, segments_of, tail_of}
 use Rattle.seg_lexer.specs.Service.{service_of}
 use Rattle.seg_lexer.specs.declared.service.Service.{Service}
@@ -66,11 +66,12 @@ few_counted text =
 
 module _ (dir : Parts) (directory : IsDirectory dir) (text : List ℕ) where
   -- no segment is first
-  none_first : (segments : List Segment) → map (seen_at dir (context_of text) (segments_in text)) (enumerate_from 0 segments) ≡ [] → slice_get segments 0 ≡ None
+  pub none_first : (segments : List Segment) → map (seen_at dir (context_of text) (segments_in text)) (enumerate_from 0 segments) ≡ [] → slice_get segments 0 ≡ None
   none_first [] is = refl
   none_first (segment ∷ more) is = absurd (let no : ⊥ = cc in no)
 
-  some_first : (segments : List Segment) (seen : SeenSegment) (rest : List SeenSegment)
+  -- the first segment is seen first
+  pub some_first : (segments : List Segment) (seen : SeenSegment) (rest : List SeenSegment)
       → map (seen_at dir (context_of text) (segments_in text)) (enumerate_from 0 segments) ≡ seen ∷ rest
       → (segment : Segment) × (slice_get segments 0 ≡ Some segment) × (seen ≡ seen_at dir (context_of text) (segments_in text) (0, segment))
   some_first [] seen rest is = absurd (let no : ⊥ = cc in no)

@@ -1,11 +1,10 @@
 -- The structure errors of a segment, by the mode before it and the mode after it.
-use Rattle.std.proofs.Common.{◌≡◌, ℕ, Bool, true, false, List, [], ◌++◌, Option, Some, refl, sym, ap, ◌∙◌}
+use Rattle.std.proofs.Common.{◌≡◌, ℕ, Bool, true, false, List, [], sym, ap, ◌∙◌}
 use Rattle.std.specs.Prelude.{map, if◌then◌else◌}
 use Rattle.edi_tables.specs.declared.table.Node.{Node}
 use Rattle.edi_tables.specs.Pairs.{entry_in}
 use Rattle.edi_tables.specs.Walk.{missing_past}
 use Rattle.dir_compile.specs.declared.parts.Parts.{Parts}
-use Rattle.error_ledger.specs.declared.error.ErrorLine.{ErrorLine}
 use Rattle.table_walk.specs.Errors.Fault.{Missing}
 use Rattle.segment_records.specs.Laws.{missing_at_end}
 use Rattle.segment_records.specs.Messages.{nodes_at}

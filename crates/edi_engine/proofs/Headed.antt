@@ -1,10 +1,10 @@
 -- The heads and the marks of a text by its records are those that the definitions say, and fit each other.
-use Rattle.std.proofs.Common.{◌≡◌, ℕ, zero, suc, ◌+◌, ◌-◌, ◌<◌, ◌≤◌, Bool, true, false, List, [], ◌∷◌, ◌++◌, length, drop, Option, Some, None, refl, sym, ap, ◌∙◌, subst, arith, add-one}
-use Rattle.std.specs.Prelude.{map, All, codes, if◌then◌else◌, is_some}
+use Rattle.std.proofs.Common.{◌≡◌, ℕ, ◌+◌, Bool, true, List, [], ◌∷◌, length, drop, Option, Some, None, refl, sym, ap, ◌∙◌, arith}
+use Rattle.std.specs.Prelude.{map, All, codes, is_some}
 use Rattle.std.specs.List.{slice_get, enumerate_from, filter_map, cons_option, range_with_len}
 use Rattle.std.specs.Option.{option_map, option_map_or}
-use Rattle.std.proofs.lemmas.List.{drop_at, length-map}
-use Rattle.std.proofs.lemmas.List.Elements.{All-cons, All-head, All-nil, All-tail}
+use Rattle.std.proofs.lemmas.List.{length-map}
+use Rattle.std.proofs.lemmas.List.Elements.{All-cons, All-nil}
 use Rattle.std.proofs.lemmas.Option.{slice_get-map}
 use Rattle.edi_tables.specs.declared.tag.Tag.{Tag}
 use Rattle.edi_tables.specs.Extents.{tag_in}
@@ -25,9 +25,8 @@ use Rattle.envelope_check.specs.declared.head.SegmentMark.{SegmentMark}
 use Rattle.envelope_check.specs.Heads.{Fits, HeadPlace, head_place, kind_of, place_of, start_in, tags_of}
 use Rattle.envelope_check.proofs.TagKinds.{IsOther, Sort, known, named, other, sort_of}
 use Rattle.segment_records.specs.Messages.{mode_after, table_for}
-use Rattle.segment_records.specs.Segments.{Segment, segment_between, segments_by, segments_in, tag_read}
-use Rattle.segment_records.specs.Steps.{Step, opening_step, step_of}
-use Rattle.segment_records.specs.declared.mode.Mode.{Mode}
+use Rattle.segment_records.specs.Segments.{Segment, segment_between, segments_by, segments_in}
+use Rattle.segment_records.specs.Steps.{Step, opening_step}
 use Rattle.segment_records.proofs.Taking.{step_at_unh}
 use Rattle.edi_engine.specs.Engine.{segment_count_of}
 use Rattle.edi_engine.specs.Heads.{count_in, head_at, head_of, heads_of, marks_of, name_in, reference_in, tabled_in}

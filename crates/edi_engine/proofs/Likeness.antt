@@ -1,6 +1,6 @@
 -- The errors of each segment by its record are those that the definitions say.
-use Rattle.std.proofs.Common.{◌≡◌, ℕ, zero, suc, ◌+◌, ◌-◌, ◌<◌, ◌≤◌, Bool, true, false, not, ◌&&◌, List, [], ◌∷◌, ◌++◌, length, Option, Some, None, refl, sym, ap, ◌∙◌, arith}
-use Rattle.std.specs.Prelude.{map, All, codes, ◌||◌, if◌then◌else◌, nat_lt}
+use Rattle.std.proofs.Common.{◌≡◌, ℕ, zero, suc, ◌+◌, ◌<◌, ◌≤◌, Bool, true, false, not, ◌&&◌, List, [], ◌∷◌, ◌++◌, length, Option, Some, None, refl, sym, ap, ◌∙◌, arith}
+use Rattle.std.specs.Prelude.{map, codes, ◌||◌, if◌then◌else◌}
 use Rattle.std.specs.List.{slice_get, enumerate_from, flat_map}
 use Rattle.std.specs.Option.{option_map}
 use Rattle.std.proofs.lemmas.Bool.{lt-ltb, le-ltb}
@@ -20,7 +20,7 @@ use Rattle.table_walk.specs.Errors.{Fault, StructureError}
 use Rattle.table_walk.specs.Errors.Fault.{Missing, Over, Unplaced}
 use Rattle.segment_records.specs.Laws.{end_faults, ends_after, missing_at_end, step_faults}
 use Rattle.segment_records.specs.Messages.{faults_at, mode_after, nodes_at, position_at}
-use Rattle.segment_records.specs.Records.{Kept, kept_of}
+use Rattle.segment_records.specs.Records.{kept_of}
 use Rattle.segment_records.specs.Segments.{Segment, segments_in, tags_in}
 use Rattle.segment_records.specs.Steps.{Step, is_named, is_no_part, step_of}
 use Rattle.segment_records.specs.declared.mode.Mode.{Mode}

@@ -1,5 +1,5 @@
 -- The table of the position of a segment is that of the mode before it, and of the mode after it.
-use Rattle.std.proofs.Common.{◌≡◌, ℕ, ◌+◌, ◌<◌, ◌≤◌, Bool, true, false, List, length, Option, Some, None, refl, sym, ap, ◌∙◌, arith}
+use Rattle.std.proofs.Common.{◌≡◌, ℕ, ◌+◌, ◌<◌, Bool, true, false, List, length, Option, Some, None, refl, sym, ap, ◌∙◌, arith}
 use Rattle.std.specs.Prelude.{codes, ◌||◌, ◌∷◌, []}
 use Rattle.std.specs.List.{list_any}
 use Rattle.std.specs.Option.{option_map}
@@ -12,8 +12,7 @@ use Rattle.dir_compile.specs.declared.parts.Parts.{Parts}
 use Rattle.envelope_check.proofs.Extents.{message_from, message_opened}
 use Rattle.segment_records.specs.Messages.{mode_after, nodes_at, position_at}
 use Rattle.segment_records.specs.Segments.{Segment, tags_in}
-use Rattle.segment_records.specs.declared.mode.Mode.{Mode}
-use Rattle.segment_records.specs.declared.mode.Mode.TheVariants.{Outside, Untabled, Within}
+use Rattle.segment_records.specs.declared.mode.Mode.TheVariants.{Outside, Within}
 use Rattle.segment_records.proofs.Held.{length_tags, mode_is, mode_open, mode_with, position_held, position_is, position_with, table_opened}
 use Rattle.segment_records.proofs.Sites.{site_at}
 use Rattle.segment_records.proofs.Turns.{Tests, Turn, closing, inner, leaving, opening, turn_of}

@@ -1,7 +1,7 @@
 -- The members of the tree by the records are those that the definitions say, and lie in what they open.
-use Rattle.std.proofs.Common.{◌≡◌, ℕ, zero, suc, ◌+◌, ◌-◌, ◌<◌, ◌≤◌, Bool, true, false, cond, eqb, List, [], ◌∷◌, length, get_or, Option, Some, None, refl, sym, ap, ◌∙◌, subst, arith}
+use Rattle.std.proofs.Common.{◌≡◌, ℕ, ◌+◌, ◌-◌, ◌<◌, ◌≤◌, Bool, true, false, List, [], length, Option, Some, None, refl, sym, ap, ◌∙◌, subst, arith}
 use Rattle.std.specs.Prelude.{map, All, IfSome, codes, ◌||◌, if◌then◌else◌}
-use Rattle.std.specs.List.{slice_get, enumerate_from}
+use Rattle.std.specs.List.{enumerate_from}
 use Rattle.std.proofs.lemmas.List.Elements.{All-map, All-weaker}
 use Rattle.edi_tables.specs.declared.tag.Tag.{Tag}
 use Rattle.edi_tables.specs.declared.table.Node.{Node}
@@ -17,8 +17,8 @@ use Rattle.error_ledger.specs.declared.tree.TreePlace.TheVariants as place
 use Rattle.error_ledger.specs.declared.tree.GroupMark.{GroupMark}
 use Rattle.error_ledger.specs.Printing.{IsWellPlaced, LiesInWhatItOpens}
 use Rattle.seg_lexer.specs.Context.{context_of}
-use Rattle.segment_records.specs.Messages.{mode_after, nodes_at}
-use Rattle.segment_records.specs.Places.{group_number, inner_place, opened_by, opening_place, place_at, place_by, place_with}
+use Rattle.segment_records.specs.Messages.{nodes_at}
+use Rattle.segment_records.specs.Places.{group_number, inner_place, opened_by, opening_place, place_by, place_with}
 use Rattle.segment_records.specs.Records.{IsModeOf}
 use Rattle.segment_records.specs.Segments.{Segment, segments_in}
 use Rattle.segment_records.specs.Steps.{Step, inner_step, is_named, is_no_part}

@@ -1,7 +1,6 @@
 -- All errors of a text, by a directory.
-use Rattle.std.specs.Prelude.{ℕ, ◌+◌, Bool, true, false, not, ◌&&◌, ◌==◌, nat_lt, List, [], ◌∷◌, ◌++◌, length, map, slice_get, Option, Some, None, codes, if◌then◌else◌}
-use Rattle.std.specs.List.{flat_map, list_any, enumerate_from, range_with_len}
-use Rattle.std.specs.Option.{option_map}
+use Rattle.std.specs.Prelude.{ℕ, ◌+◌, Bool, not, ◌&&◌, List, [], ◌∷◌, ◌++◌, length, map, slice_get, Option, Some, None, codes, if◌then◌else◌}
+use Rattle.std.specs.List.{flat_map, list_any, enumerate_from}
 use Rattle.std.specs.Str.{bytes_eq}
 use Rattle.edi_tables.specs.declared.table.Node.{Node}
 use Rattle.edi_tables.specs.declared.tag.Tag.{Tag}
@@ -9,7 +8,6 @@ use Rattle.edi_tables.specs.Rows.{has_name, when}
 use Rattle.edi_tables.specs.Walk.{entry_for, is_group_at, is_trigger_at, tag_at}
 use Rattle.dir_compile.specs.declared.parts.Parts.{Parts}
 use Rattle.seg_lexer.specs.Context.{context_of}
-use Rattle.seg_lexer.specs.Fields.{Component}
 use Rattle.seg_lexer.specs.Segments.{tail_of}
 use Rattle.seg_lexer.specs.Service.{service_of}
 use Rattle.seg_lexer.specs.declared.context.Context.{Context}

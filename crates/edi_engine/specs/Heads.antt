@@ -1,5 +1,5 @@
 -- The segments of a text as the rules on envelopes see them.
-use Rattle.std.specs.Prelude.{ℕ, ◌+◌, Bool, false, List, [], map, length, Option, is_some}
+use Rattle.std.specs.Prelude.{ℕ, Bool, false, List, [], map, Option, is_some}
 use Rattle.std.specs.Option.{option_map}
 use Rattle.std.specs.List.{enumerate_from, filter_map}
 use Rattle.dir_compile.specs.declared.parts.Parts.{Parts}

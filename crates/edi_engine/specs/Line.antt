@@ -1,5 +1,5 @@
 -- For bodies: the errors of a segment by what is seen of it.
-use Rattle.std.specs.Prelude.{ℕ, Bool, true, false, not, List, [], ◌∷◌, ◌++◌, map, Option, Some, None, if◌then◌else◌}
+use Rattle.std.specs.Prelude.{ℕ, Bool, true, List, [], ◌++◌, map, Option, Some, None, if◌then◌else◌}
 use Rattle.edi_tables.specs.declared.table.Node.{Node}
 use Rattle.edi_tables.specs.Rows.{when}
 use Rattle.dir_compile.specs.declared.parts.Parts.{Parts}

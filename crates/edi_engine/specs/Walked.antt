@@ -1,5 +1,5 @@
 -- For bodies: what is seen of a walk over records.
-use Rattle.std.specs.Prelude.{◌≡◌, List, [], Option}
+use Rattle.std.specs.Prelude.{◌≡◌, List, []}
 use Rattle.std.specs.Option.{ForNone, option_copied}
 use Rattle.edi_engine.specs.Seen.{AreStretches, SeenSegment, left_of, seen_from}
 use Rattle.edi_engine.specs.declared.seen.Segments.TheInside.{Inside}

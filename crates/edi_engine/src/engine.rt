@@ -1,11 +1,14 @@
 //! The engine: a text with what is kept of its segments.
-ghost use Rattle.std.specs.Prelude.{◌≡◌, ◌+◌, ◌≤◌, All, length, slice_index, IfOk};
+ghost use Rattle.std.specs.Prelude.{◌≡◌, ◌+◌, ◌-◌, ◌≤◌, ℕ, List, All, length, slice_index, IfOk};
 ghost use Rattle.dir_compile.specs.Directory.{IsDirectory};
+ghost use Rattle.seg_lexer.specs.Context.{context_of};
 ghost use Rattle.seg_lexer.specs.Segments.{boundaries_of, ends_of};
 ghost use Rattle.seg_lexer.specs.Service.{IsUsable, service_of};
 ghost use Rattle.segment_records.specs.Messages.{mode_after};
 ghost use Rattle.segment_records.specs.Segments.{segments_in};
+ghost use Rattle.edi_engine.specs.Edit.{reading_with, text_with};
 ghost use Rattle.edi_engine.specs.Engine.{segment_count_of};
+ghost use Rattle.edi_engine.specs.Placed.{AreMessagesPlaced};
 ghost use Rattle.edi_engine.specs.Seen.{Follows, LiesIn, seen_in};
 
 use crate::read::read_text;
@@ -74,16 +77,51 @@ impl<'d> Engine<'d> {
         })
     }
 
+    // The reading of its text with octets put in place of the `cut` octets from place `at` on.
+    pub(crate) fn edited<L: Ledger, M: Ledger>(
+        &self,
+        alloc: Global,
+        at: usize,
+        cut: usize,
+        put: &[u8],
+        lexed: &mut Steps<L>,
+        placed: &mut Steps<M>,
+    ) -> Result<Engine<'d>, AllocError>
+        requires inside { at + cut ≤ length self.now.text }
+        requires short { length self.now.text - cut + length put.now ≤ 4194304 }
+        ensures edited { IfOk result (λ e. e ≡ reading_with self.now at cut put.now) }
+        ensures lexed { lexed.new ≤ lexed.old
+            + (segment_count_of (text_with self.now.text at cut put.now) + 2) }
+        ensures placed { placed.new ≤ placed.old
+            + segment_count_of (text_with self.now.text at cut put.now) }
+    {
+        // What it keeps is of a directory.
+        let _parts = self.directory.parts();
+        let text = self.text.replace(alloc, at, cut, put)?;
+        let whole = text.copy(alloc)?;
+        let (context, records) = read_text(alloc, self.directory, whole.octets(), lexed, placed)?;
+        Ok(Engine {
+            directory: self.directory,
+            text,
+            context,
+            records: Seq::of_items(alloc, records)?,
+            outside: Mode::Outside,
+        })
+    }
+
     /// The directory that it checks by.
     pub fn directory(&self) -> &'d Directory
-        ensures { result.now ≡ self.now.directory }
+        ensures directory { result.now ≡ self.now.directory }
+        // The tree of any text by it places the segments of each message as the reading of the message does.
+        ensures lawful_trees { (text : List ℕ) → AreMessagesPlaced self.now.directory text }
     {
         self.directory
     }
 
     /// How many octets the text has.
     pub fn text_len(&self) -> u64
-        ensures { result ≡ length self.now.text }
+        ensures length { result ≡ length self.now.text }
+        ensures short { result ≤ 4194304 }
     {
         self.text.len() as u64
     }
@@ -145,6 +183,14 @@ impl<'d> Engine<'d> {
         ensures usable { IsUsable result.now self.now.text }
     {
         &self.context.service
+    }
+
+    // The context that its segments are read and checked by.
+    pub(crate) fn context(&self) -> &Context
+        ensures context { result.now ≡ context_of self.now.text }
+        ensures usable { IsUsable result.now.service self.now.text }
+    {
+        &self.context
     }
 
     // The boundary after the last segment.

@@ -42,7 +42,7 @@ impl Engine<'_> {
     pub(crate) fn marks(&self, alloc: Global) -> Result<Seq<SegmentMark>, AllocError>
         ensures { IfOk result (λ marks. marks ≡ marks_of (segments_in self.now.text)) }
     {
-        let mut marks = Vec::new(alloc);
+        let mut marks = Vec::with_capacity(alloc, self.segment_count() as usize)?;
         for seen in self.segments() {
             marks.push(SegmentMark {
                 start: seen.start(),

@@ -19,6 +19,9 @@ use std::alloc::{AllocError, Global};
 use std::sync::ledger::Ledger;
 use step_counter::Steps;
 
+// Most segments have more octets: room for records is made by it before the first is read.
+const SHORT_SEGMENT: usize = 16;
+
 /// The records of the octets after the boundary `from` of a text, in order, after a mode. Each call of the lexer and of the
 /// walk is counted. Only want of memory is an error.
 #[tactic(auto, using(segment_records::proofs::BodyLaws::whole_then_more, segment_records::proofs::Forgets::forgets_before))]
@@ -47,7 +50,8 @@ pub fn read_records<O: Octets, L: Ledger, M: Ledger>(
     ensures placed { placed.new ≤ placed.old
         + length (segments_by (at_start context.now.service) (drop from (O.octets text.now))) }
 {
-    let mut records = Vec::new(alloc);
+    let room = text.len().saturating_sub(from) / SHORT_SEGMENT;
+    let mut records = Vec::with_capacity(alloc, room)?;
     let mut mode = before.share()?;
     let mut from = from;
     while let Lexed::Ended { start, end } = next_segment(text, &context.service, from, lexed) {

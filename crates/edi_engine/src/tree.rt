@@ -8,6 +8,7 @@ ghost use Rattle.segment_records.specs.Places.{opened_by, opening_place as openi
 ghost use Rattle.table_walk.specs.Steps.{AreCountsUpTo};
 ghost use Rattle.edi_engine.specs.Groups.{numbers_in};
 ghost use Rattle.edi_engine.specs.Look.{seen_of};
+ghost use Rattle.edi_engine.specs.Placed.{AreMessagesPlaced};
 ghost use Rattle.edi_engine.specs.Seen.{Follows, as_segment};
 ghost use Rattle.edi_engine.specs.Tree.{tree_of};
 
@@ -26,10 +27,13 @@ impl Engine<'_> {
     pub fn tree(&self, alloc: Global) -> Result<Vec<TreeLine>, AllocError>
         ensures exact { IfOk result (λ tree. tree.items ≡ tree_of self.now.directory self.now.text) }
         ensures well { IfOk result (λ tree. All IsWellPlaced tree.items) }
+        // A segment with no error of its own placement is at the first candidate that is free; where the table lists no
+        // collision, a derivation of a message's tags is what the tree shows.
+        ensures placed { AreMessagesPlaced self.now.directory self.now.text }
     {
         let directory = self.directory();
         let numbers = number_groups(alloc, directory)?;
-        let mut tree = Vec::new(alloc);
+        let mut tree = Vec::with_capacity(alloc, self.segment_count() as usize)?;
         for seen in self.segments() {
             tree.push(TreeLine {
                 segment: seen.number,

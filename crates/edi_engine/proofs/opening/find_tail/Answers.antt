@@ -1,4 +1,4 @@
-use Rattle.std.proofs.Common.{◌≡◌, length, sym, ap, arith}
+use Rattle.std.proofs.Common.{length, sym, arith}
 use Rattle.seg_lexer.specs.Segments.{ends_of}
 use Rattle.edi_engine.proofs.Bounds.{last_at, none_past, tail_within}
 use Rattle.edi_engine.proofs.opening.find_tail.Goals as goal

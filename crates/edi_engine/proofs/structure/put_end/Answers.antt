@@ -1,6 +1,5 @@
-use Rattle.std.proofs.Common.{◌≡◌, ℕ, ◌<◌, ◌++◌, ◌∙◌, List, [], length, map, sym, ap, subst}
+use Rattle.std.proofs.Common.{ℕ, ◌<◌, ◌++◌, ◌∙◌, List, [], length, map, sym, ap, subst}
 use Rattle.std.specs.Prelude.{All}
-use Rattle.std.specs.Result.{OnOk}
 use Rattle.std.proofs.lemmas.Option.{get_or_from_slice_get}
 use Rattle.std.proofs.lemmas.Result.{on_ok_weaker}
 use Rattle.edi_tables.specs.declared.table.Node.{Node}
@@ -10,7 +9,6 @@ use Rattle.edi_engine.specs.Line.{fault_lines}
 use Rattle.table_walk.specs.Errors.Fault.{Missing}
 use Rattle.table_walk.specs.Steps.{IsShaped}
 use Rattle.segment_records.specs.Records.{IsModeOf}
-use Rattle.segment_records.specs.declared.mode.Mode.{Mode}
 use Rattle.edi_engine.proofs.Ending.{ends_within}
 use Rattle.edi_engine.proofs.Nodes.{past_within}
 use Rattle.edi_engine.proofs.structure.put_end.Goals as goal

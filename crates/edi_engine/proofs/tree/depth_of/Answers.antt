@@ -1,4 +1,4 @@
-use Rattle.std.proofs.Common.{◌∙◌, ℕ, ◌<◌, ◌^◌, inl, length, ap, arith}
+use Rattle.std.proofs.Common.{inl, length, ap, arith}
 use Rattle.edi_tables.proofs.Walking.{length-groups_round}
 use Rattle.edi_engine.proofs.tree.depth_of.Goals as goal
 

@@ -1,4 +1,4 @@
-use Rattle.std.proofs.Common.{ℕ, Bool, ◌+◌, ◌≤◌, ◌∙◌, ap, arith}
+use Rattle.std.proofs.Common.{Bool, ◌+◌, ◌∙◌, ap, arith}
 use Rattle.std.specs.Prelude.{if◌then◌else◌}
 use Rattle.edi_engine.proofs.Nodes.{at_most_one, groups_more, numbers_more}
 use Rattle.edi_engine.proofs.tree.groups_until.Goals as goal

@@ -1,5 +1,5 @@
-use Rattle.std.proofs.Common.{◌≡◌, ◌∙◌, ◌+◌, ℕ, List, [], Option, sym, ap, subst}
-use Rattle.std.specs.Prelude.{codes, IfSome}
+use Rattle.std.proofs.Common.{◌∙◌, ◌+◌, ℕ, List, [], Option, sym, ap}
+use Rattle.std.specs.Prelude.{codes}
 use Rattle.std.proofs.lemmas.Option.{get_or_from_slice_get}
 use Rattle.edi_tables.specs.declared.table.Node.{Node}
 use Rattle.edi_tables.specs.declared.tag.Tag.{Tag}

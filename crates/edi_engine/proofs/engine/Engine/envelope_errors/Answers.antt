@@ -1,10 +1,7 @@
 use Rattle.std.proofs.Common.{◌∙◌, List, length, sym, ap, subst}
-use Rattle.std.proofs.lemmas.List.{length-map}
 use Rattle.envelope_check.specs.declared.head.Head.{Head}
-use Rattle.envelope_check.specs.declared.head.SegmentMark.{SegmentMark}
 use Rattle.envelope_check.specs.Heads.{Fits}
-use Rattle.seg_lexer.specs.Service.{service_of}
-use Rattle.segment_records.specs.Segments.{Segment, segments_in}
+use Rattle.segment_records.specs.Segments.{segments_in}
 use Rattle.edi_engine.specs.Heads.{heads_of}
 use Rattle.edi_engine.proofs.Headed.{count_marks, fits_are}
 use Rattle.edi_engine.proofs.engine.Engine.envelope_errors.Goals as goal

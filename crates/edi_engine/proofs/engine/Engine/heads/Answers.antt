@@ -1,4 +1,4 @@
-use Rattle.std.proofs.Common.{◌≡◌, ◌∙◌, List, ℕ, Some, sym, ap}
+use Rattle.std.proofs.Common.{◌∙◌, List, ℕ, Some, sym, ap}
 use Rattle.std.specs.List.{filter_map}
 use Rattle.std.specs.Option.{option_map}
 use Rattle.envelope_check.specs.Heads.{kind_of}

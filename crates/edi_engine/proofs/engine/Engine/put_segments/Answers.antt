@@ -1,4 +1,4 @@
-use Rattle.std.proofs.Common.{◌≡◌, ◌++◌, ◌∙◌, List, ap}
+use Rattle.std.proofs.Common.{◌++◌, ◌∙◌, List, ap}
 use Rattle.std.specs.List.{flat_map}
 use Rattle.std.proofs.lemmas.List.{append_assoc}
 use Rattle.dir_compile.specs.declared.parts.Parts.{Parts}
@@ -30,5 +30,5 @@ returns c =
     let list = c.args.list.now.items in
     flat_done c.loop-seen.seen-iterator c.in-None.ensures.steps.0 c.loop-seen.list.items _ (lines_seen c.directory-directory.result.now) c.loop-seen.invariant.left
     ∙ ap (λ (seen : List SeenSegment). list ++ flat_map (lines_seen c.directory-directory.result.now) seen) (c.into_iter-seen-iterator.ensures.into_iter_gives ∙ c.segments-seen-items.ensures.segments)
-    ∙ ap (λ (d : Parts). list ++ flat_map (lines_seen d) (seen_in dir text)) c.directory-directory.ensures
+    ∙ ap (λ (d : Parts). list ++ flat_map (lines_seen d) (seen_in dir text)) c.directory-directory.ensures.directory
     ∙ ap (λ (lines : List ErrorLine). list ++ lines) (lines_are dir c.segments-seen-items.ensures.lawful text)

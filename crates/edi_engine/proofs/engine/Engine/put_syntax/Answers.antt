@@ -1,4 +1,4 @@
-use Rattle.std.proofs.Common.{◌≡◌, ◌++◌, ◌∙◌, List, ℕ, sym, ap}
+use Rattle.std.proofs.Common.{◌++◌, ◌∙◌, List, ℕ, sym, ap}
 use Rattle.std.proofs.lemmas.Result.{on_ok_weaker}
 use Rattle.edi_tables.specs.Rows.{has_name}
 use Rattle.std.specs.Prelude.{codes}

@@ -1,4 +1,4 @@
-use Rattle.std.proofs.Common.{List, ℕ, ◌∙◌, ap, subst}
+use Rattle.std.proofs.Common.{◌∙◌, ap, subst}
 use Rattle.seg_lexer.specs.Service.{IsUsable, service_of}
 use Rattle.edi_engine.specs.Engine.{Reading}
 use Rattle.edi_engine.proofs.Readings.{service_is, service_usable}

@@ -1,4 +1,4 @@
-use Rattle.std.proofs.Common.{◌≡◌, ℕ, ◌+◌, ◌-◌, ◌≤◌, [], ◌∷◌, length, drop, sym, ap, ◌∙◌, arith, length-drop}
+use Rattle.std.proofs.Common.{◌≡◌, ◌+◌, ◌-◌, ◌≤◌, [], ◌∷◌, length, drop, sym, ap, ◌∙◌, arith, length-drop}
 use Rattle.segment_records.specs.Messages.{mode_after}
 use Rattle.segment_records.specs.Segments.{segments_in}
 use Rattle.segment_records.proofs.Held.{mode_first}

@@ -1,6 +1,5 @@
-use Rattle.std.proofs.Common.{◌≡◌, ◌∙◌, map, sym, ap, subst}
+use Rattle.std.proofs.Common.{◌∙◌, map, sym, ap, subst}
 use Rattle.std.specs.Prelude.{All}
-use Rattle.error_ledger.specs.declared.tree.TreeLine.{TreeLine}
 use Rattle.error_ledger.specs.Printing.{IsWellPlaced}
 use Rattle.dir_compile.specs.declared.parts.Parts.{Parts}
 use Rattle.edi_engine.specs.Look.{seen_of}
@@ -27,7 +26,7 @@ returns-clause-exact c =
     let text = c.args.self.now.text in
     map_done c.loop-seen.seen-iterator c.in-None.ensures.steps.0 c.loop-seen.tree.items _ (line_in_tree c.directory-directory.result.now) c.loop-seen.invariant.left
     ∙ ap (map (line_in_tree c.directory-directory.result.now)) (c.into_iter-seen-iterator.ensures.into_iter_gives ∙ c.segments-seen-items.ensures.segments)
-    ∙ ap (λ (d : Parts). map (line_in_tree d) (seen_in dir text)) c.directory-directory.ensures
+    ∙ ap (λ (d : Parts). map (line_in_tree d) (seen_in dir text)) c.directory-directory.ensures.directory
     ∙ tree_is dir c.segments-seen-items.ensures.lawful text
 
 pub returns-clause-well : goal.returns-clause-well
@@ -36,5 +35,17 @@ returns-clause-well c =
     let text = c.args.self.now.text in
     let all = map_done c.loop-seen.seen-iterator c.in-None.ensures.steps.0 c.loop-seen.tree.items _ (line_in_tree c.directory-directory.result.now) c.loop-seen.invariant.left
     ∙ ap (map (line_in_tree c.directory-directory.result.now)) c.into_iter-seen-iterator.ensures.into_iter_gives
-    ∙ ap (λ (d : Parts). map (line_in_tree d) c.segments-seen-items.result) c.directory-directory.ensures in
+    ∙ ap (λ (d : Parts). map (line_in_tree d) c.segments-seen-items.result) c.directory-directory.ensures.directory in
     subst (All IsWellPlaced) (sym all) (well_all dir c.segments-seen-items.ensures.lawful c.segments-seen-items.result c.segments-seen-items.ensures.follow)
+
+pub returns-in_err-numbers-clause-placed : goal.returns-in_err-numbers-clause-placed
+returns-in_err-numbers-clause-placed c = c.directory-directory.ensures.lawful_trees c.args.self.now.text
+
+pub returns-in_err-tree-clause-placed : goal.returns-in_err-tree-clause-placed
+returns-in_err-tree-clause-placed c = c.directory-directory.ensures.lawful_trees c.args.self.now.text
+
+pub returns-in_err-push-clause-placed : goal.returns-in_err-push-clause-placed
+returns-in_err-push-clause-placed c = c.directory-directory.ensures.lawful_trees c.args.self.now.text
+
+pub returns-clause-placed : goal.returns-clause-placed
+returns-clause-placed c = c.directory-directory.ensures.lawful_trees c.args.self.now.text

@@ -1,4 +1,4 @@
-use Rattle.std.proofs.Common.{ℕ, ◌+◌, List, sym, ap, subst}
+use Rattle.std.proofs.Common.{ℕ, ◌+◌, List, sym, subst}
 use Rattle.std.specs.Option.{option_copied}
 use Rattle.segment_records.specs.Records.{Kept}
 use Rattle.edi_engine.specs.Seen.{AreStretches, left_of}

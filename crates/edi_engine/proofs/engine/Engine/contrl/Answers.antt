@@ -1,0 +1,12 @@
+use Rattle.std.proofs.Common.{◌≡◌, IfOk, subst}
+use Rattle.contrl_writer.specs.Contrl.{answer_to}
+use Rattle.contrl_writer.specs.declared.summary.Summary.{Summary}
+use Rattle.edi_engine.specs.Summary.{contrl_to}
+use Rattle.edi_engine.proofs.CleanLaws.{answer_clean}
+use Rattle.edi_engine.proofs.engine.Engine.contrl.Goals as goal
+
+pub returns-clause-clean : goal.returns-clause-clean
+unfolding contrl_to
+returns-clause-clean c =
+    answer_clean c.args.self.now.directory c.in_ok-summary.ensures.lawful c.args.self.now.text c.args.stamp.now c.args.reference.now c.requires.stamp c.requires.reference c.write_contrl.result
+    (subst (λ (s : Summary). IfOk c.write_contrl.result (λ answer. answer ≡ answer_to s c.args.stamp.now c.args.reference.now)) c.in_ok-summary.ensures.summary c.write_contrl.ensures.answer)

@@ -1,0 +1,32 @@
+-- Edits of a text: octets put in place of others.
+use Rattle.std.specs.Prelude.{◌≡◌, ◌+◌, ◌-◌, ℕ, nat_lt, List, ◌++◌, length, take, drop, Option, Some, None, Result, Ok, Err, if◌then◌else◌}
+use Rattle.edi_engine.specs.Engine.{Reading}
+use Rattle.edi_engine.specs.declared.edit.EditStop.{EditStop}
+use Rattle.edi_engine.specs.declared.edit.EditStop.TheVariants.{Range, TooLong, Memory}
+
+-- the text with octets in place of the `cut` octets from a place on
+abbrev pub text_with : List ℕ → ℕ → ℕ → List ℕ → List ℕ
+text_with text at cut put = take at text ++ put ++ drop (at + cut) text
+
+-- the reading with the text so edited
+abbrev pub reading_with : Reading → ℕ → ℕ → List ℕ → Reading
+reading_with before at cut put = record { directory = before.directory; text = text_with before.text at cut put }
+
+-- why an edit isn't made, by the lengths of the text and of the octets that are put: it reaches past the end of the text, or else the text would have over 4,194,304 octets
+abbrev pub stop_by : ℕ → ℕ → ℕ → ℕ → Option EditStop
+stop_by length at cut put =
+    if nat_lt length (at + cut) then Some Range
+    else (if nat_lt 4194304 (length - cut + put) then Some TooLong else None)
+
+abbrev pub stop_of : List ℕ → ℕ → ℕ → List ℕ → Option EditStop
+stop_of text at cut put = stop_by (length text) at cut (length put)
+
+-- what an edit comes to: the text of the edit, with its length; or the reading as it was, where the edit isn't made, or memory was refused for one that may be made
+abbrev pub IsEdit : Reading → ℕ → ℕ → List ℕ → Reading → Result ℕ EditStop → Type 0
+IsEdit before at cut put now (Ok n) =
+    (stop_of before.text at cut put ≡ None)
+    × (now ≡ reading_with before at cut put)
+    × (n ≡ length now.text)
+IsEdit before at cut put now (Err Range) = (stop_of before.text at cut put ≡ Some Range) × (now ≡ before)
+IsEdit before at cut put now (Err TooLong) = (stop_of before.text at cut put ≡ Some TooLong) × (now ≡ before)
+IsEdit before at cut put now (Err Memory) = (stop_of before.text at cut put ≡ None) × (now ≡ before)

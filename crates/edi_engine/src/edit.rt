@@ -1,0 +1,74 @@
+//! Edits of the text of an engine.
+ghost use Rattle.std.specs.Prelude.{◌≡◌, ◌+◌, ◌≤◌, ◌⊎◌, None};
+ghost use Rattle.edi_engine.specs.Edit.{IsEdit, stop_by, stop_of, text_with};
+ghost use Rattle.edi_engine.specs.Engine.{segment_count_of};
+
+use crate::Engine;
+use std::alloc::{AllocError, Global};
+use std::sync::ledger::Ledger;
+use step_counter::Steps;
+use thiserror::Error;
+
+/// Why the text of an engine was not edited.
+#[derive(Clone, Copy, Debug, PartialEq, Eq, Error)]
+pub enum EditStop {
+    #[error("the edit reaches past the end of the text")]
+    Range,
+    #[error("the text would have over 4,194,304 octets")]
+    TooLong,
+    #[error("out of memory")]
+    Memory,
+}
+
+impl From<AllocError> for EditStop {
+    ghost use Rattle.std.specs.Prelude.{◌≡◌};
+    ghost use Rattle.edi_engine.specs.declared.edit.EditStop.TheVariants.{Memory};
+
+    ghost from_gives = { λ _ e. e ≡ Memory };
+
+    fn from(_: AllocError) -> EditStop {
+        EditStop::Memory
+    }
+}
+
+impl<'d> Engine<'d> {
+    /// Puts octets in place of the `cut` octets of the text from place `at` on, and answers its new length. The whole text is
+    /// read again; each call of the lexer and of the walk is counted. After an error all is as it was.
+    pub fn replace<L: Ledger, M: Ledger>(
+        &mut self,
+        alloc: Global,
+        at: u64,
+        cut: u64,
+        put: &[u8],
+        lexed: &mut Steps<L>,
+        placed: &mut Steps<M>,
+    ) -> Result<u64, EditStop>
+        ensures edit { IsEdit self.old at cut put.now self.new result }
+        ensures lexed { lexed.new ≤ lexed.old
+            + (segment_count_of (text_with self.old.text at cut put.now) + 2) }
+        ensures placed { placed.new ≤ placed.old
+            + segment_count_of (text_with self.old.text at cut put.now) }
+        ensures unread { (stop_of self.old.text at cut put.now ≡ None)
+            ⊎ ((lexed.new ≡ lexed.old) × (placed.new ≡ placed.old)) }
+    {
+        if let Some(stop) = stop_by(self.text_len(), at, cut, put.len() as u64) {
+            return Err(stop);
+        }
+        *self = self.edited(alloc, at as usize, cut as usize, put, lexed, placed)?;
+        Ok(self.text_len())
+    }
+}
+
+// Why an edit isn't made, by the length of the text and the number of octets that are put.
+fn stop_by(length: u64, at: u64, cut: u64, put: u64) -> Option<EditStop>
+    requires { length ≤ 4194304 }
+    ensures { result ≡ stop_by length at cut put }
+{
+    if at > length || cut > length - at {
+        Some(EditStop::Range)
+    } else if put > 4194304 || length - cut + put > 4194304 {
+        Some(EditStop::TooLong)
+    } else {
+        None
+    }
+}

@@ -1,0 +1,130 @@
+//! What an acknowledgement tells of the text of an engine.
+ghost use Rattle.std.specs.Prelude.{◌≡◌, ◌+◌, ◌≤◌, IfOk, IsTrue, length, slice_get};
+ghost use Rattle.contrl_writer.specs.Stamp.{IsStamp, is_reference_of};
+ghost use Rattle.dir_compile.specs.Directory.{IsDirectory};
+ghost use Rattle.seg_lexer.specs.Context.{context_of};
+ghost use Rattle.seg_lexer.specs.Left.{components_left};
+ghost use Rattle.seg_lexer.specs.Service.{IsUsable};
+ghost use Rattle.seg_lexer.specs.declared.TheConstants.{LONGEST_TEXT};
+ghost use Rattle.segment_records.specs.Segments.{segments_in};
+ghost use Rattle.edi_engine.specs.Clean.{IsCleanAnswer};
+ghost use Rattle.edi_engine.specs.Look.{seen_of};
+ghost use Rattle.edi_engine.specs.Summary.{contrl_to, interchange_party_in, opening_by, opening_in, summary_of};
+ghost use Rattle.edi_engine.specs.Told.{components_seen};
+
+use crate::Engine;
+use crate::seen::Seen;
+use contrl_writer::{Contrl, Opening, Party, Stamp, Summary, write_contrl};
+use edi_octets::Octets;
+use edi_tables::List;
+use seg_lexer::{Context, Fields, fields};
+use segment_records::{copy_value, is_named};
+use std::alloc::{AllocError, Global};
+
+impl<'d> Engine<'d> {
+    /// How the interchange is opened, its functional groups and messages, and its errors. Only want of memory is an error.
+    #[tactic(auto, unfolding(crate::specs::Summary::summary_of))]
+    pub fn summary(&self, alloc: Global) -> Result<Summary, AllocError>
+        ensures summary { IfOk result (λ summary. summary ≡ summary_of self.now.directory self.now.text) }
+        ensures lawful { IsDirectory self.now.directory }
+    {
+        let opening = self.opening(alloc)?;
+        let groups = self.groups(alloc)?;
+        let messages = self.messages(alloc)?;
+        let errors = self.errors(alloc)?;
+        Ok(Summary {
+            opening,
+            groups: List::of(groups),
+            messages: List::of(messages),
+            errors: List::of(errors),
+        })
+    }
+
+    /// The acknowledgement of the text, made at a time, with a reference of its own. Only want of memory is an error.
+    #[tactic(auto, unfolding(crate::specs::Summary::contrl_to))]
+    pub fn contrl(
+        &self,
+        alloc: Global,
+        stamp: &Stamp,
+        reference: &[u8],
+    ) -> Result<Contrl, AllocError>
+        requires stamp { IsStamp stamp.now }
+        requires reference { IsTrue (is_reference_of reference.now) }
+        ensures answer { IfOk result (λ answer. answer
+            ≡ contrl_to self.now.directory self.now.text stamp.now reference.now) }
+        // Octets that are answered have no error by the directory, where no UNG and no UNH of the text has a local error.
+        ensures clean { IfOk result (λ answer. IsCleanAnswer self.now.directory self.now.text answer) }
+    {
+        let summary = self.summary(alloc)?;
+        write_contrl(alloc, &summary, stamp, reference)
+    }
+
+    // What opens the interchange.
+    fn opening(&self, alloc: Global) -> Result<Opening, AllocError>
+        ensures opening { IfOk result (λ opening. opening
+            ≡ opening_in self.now.directory (context_of self.now.text)
+            (slice_get (segments_in self.now.text) 0)) }
+        ensures lawful { IsDirectory self.now.directory }
+    {
+        match self.segments().next() {
+            Some(first) if is_named(b"UNB", first.record.tag()) => {
+                read_opening(alloc, &self.whole(), self.context(), &first)
+            }
+            _ => Ok(Opening::NoUnb),
+        }
+    }
+}
+
+// What a UNB tells, if it has no local error.
+fn read_opening<O: Octets>(
+    alloc: Global,
+    text: &O,
+    context: &Context,
+    first: &Seen<'_>,
+) -> Result<Opening, AllocError>
+    requires usable { IsUsable context.now.service (O.octets text.now) }
+    requires short { length (O.octets text.now) ≤ LONGEST_TEXT }
+    requires within { first.now.from + first.now.record.now.octets ≤ length (O.octets text.now) }
+    ensures { IfOk result (λ opening. opening ≡ opening_by context.now
+        (components_seen context.now.service (O.octets text.now) (seen_of first.now))
+        first.now.record.now.local) }
+{
+    if !first.record.local().is_empty() {
+        return Ok(Opening::BadUnb);
+    }
+    let components = fields(
+        text,
+        &context.service,
+        first.start() as usize,
+        first.end() as usize,
+    );
+    let sender = copy_party(alloc, components, 2)?;
+    let recipient = copy_party(alloc, components, 3)?;
+    let reference = copy_value(alloc, components, 5, 1)?;
+    Ok(Opening::Good {
+        level: context.level,
+        version: context.version,
+        sender,
+        recipient,
+        reference,
+    })
+}
+
+// A party of an interchange, in an element of its UNB.
+fn copy_party<O: Octets>(
+    alloc: Global,
+    components: Fields<'_, O>,
+    element: u32,
+) -> Result<Party, AllocError>
+    ensures { IfOk result (λ party. party
+        ≡ interchange_party_in (components_left components.entry) element) }
+{
+    let id = copy_value(alloc, components, element, 1)?;
+    let qualifier = copy_value(alloc, components, element, 2)?;
+    let route = copy_value(alloc, components, element, 3)?;
+    Ok(Party {
+        id,
+        qualifier,
+        route,
+    })
+}

@@ -1,0 +1,5 @@
+pub mod EditLemmas
+pub mod LengthLemmas
+pub mod RangeLemmas
+pub mod ReducedLemmas
+mod Worked

@@ -1,5 +1,5 @@
 -- What is answered for a part, and for the whole that it belongs to.
-use Rattle.std.proofs.Common.{◌≡◌, ℕ, List, Option, Some, None, IfSome, Result, Ok, Err, refl, ap, ◌∙◌}
+use Rattle.std.proofs.Common.{◌≡◌, ℕ, List, Option, Some, None, IfSome, Result, Ok, Err, refl, ap}
 use Rattle.std.specs.Result.{result_map_both}
 use Rattle.edi_tables.specs.First.{Answers}
 use Rattle.dir_load.specs.declared.stop.FileFault.{FileFault}

@@ -1,5 +1,5 @@
 -- What the octets of a file, or their want, are answered with.
-use Rattle.std.proofs.Common.{◌≡◌, ◌++◌, ℕ, List, Vec, Result, Ok, Err, refl, sym, ap, ◌∙◌}
+use Rattle.std.proofs.Common.{◌≡◌, ◌++◌, ℕ, List, Vec, Result, Ok, Err, refl, sym, ap}
 use Rattle.std.specs.declared.alloc.Global.{Global}
 use Rattle.std.specs.Result.{result_map_both}
 use Rattle.edi_tables.specs.First.{Answers}

@@ -1,5 +1,5 @@
 -- What a line of a manifest adds to what was gathered, and where it stops.
-use Rattle.std.proofs.Common.{◌≡◌, ◌+◌, ◌<◌, ◌++◌, ℕ, List, [], ◌∷◌, length, take, drop, get_or, Option, Some, None, IfSome, Result, Ok, Err, refl, sym, subst, ap, ◌∙◌, append-nil, add-one, drop-cons}
+use Rattle.std.proofs.Common.{◌≡◌, ◌+◌, ◌<◌, ◌++◌, ℕ, List, [], ◌∷◌, length, take, drop, get_or, Result, Ok, Err, refl, sym, ap, ◌∙◌, add-one, drop-cons}
 use Rattle.std.specs.List.{flat_map}
 use Rattle.std.specs.Result.{result_map_both, result_unwrap_or}
 use Rattle.std.proofs.lemmas.List.{take-append-drop}
@@ -7,8 +7,8 @@ use Rattle.edi_tables.specs.First.{Answers, unless_faulty}
 use Rattle.edi_tables.specs.declared.element.CompositeDef.{CompositeDef}
 use Rattle.edi_tables.specs.declared.segment.SegmentDef.{SegmentDef}
 use Rattle.edi_octets.specs.declared.fault.DirFault.{DirFault}
-use Rattle.edi_octets.specs.Profile.{with_earlier, with_earlier_from}
-use Rattle.edi_octets.proofs.EarlierLemmas.{judged-push, judged-first, judged-none}
+use Rattle.edi_octets.specs.Profile.{with_earlier_from}
+use Rattle.edi_octets.proofs.EarlierLemmas.{judged-push, judged-first}
 use Rattle.edi_ports.specs.declared.shelf.ShelfFile.{ShelfFile}
 use Rattle.edi_ports.specs.declared.named.Unread.{Unread}
 use Rattle.edi_ports.specs.Named.{octets_named}
@@ -23,7 +23,7 @@ use Rattle.dir_load.specs.declared.stop.Refusal.TheVariants.{File}
 use Rattle.dir_load.specs.declared.stop.LoadStop.{LoadStop}
 use Rattle.dir_load.specs.declared.stop.LoadStop.TheVariants.{Refused, Fault, Memory}
 use Rattle.dir_load.specs.Gathered.{joined}
-use Rattle.dir_load.specs.Load.{Found, and_then, composites_of, file_after, file_by, file_on, found_by, found_on, map_err, members_of, nothing, refusals_in, refusals_of}
+use Rattle.dir_load.specs.Load.{Found, and_then, composites_of, file_after, file_by, file_on, found_by, found_on, map_err, nothing, refusals_in, refusals_of}
 use Rattle.dir_load.specs.Stop.{refusal_in}
 
 -- a segment file has no composites, whatever composites are known

@@ -1,5 +1,5 @@
 -- Worked cases, which the checker computes.
-use Rattle.std.proofs.Common.{◌≡◌, ℕ, false, List, [], ◌∷◌, ◌++◌, Result, Ok, Err, refl}
+use Rattle.std.proofs.Common.{◌≡◌, ℕ, false, List, [], ◌∷◌, ◌++◌, Ok, Err, refl}
 use Rattle.std.specs.Prelude.{codes}
 use Rattle.edi_ports.specs.declared.shelf.ShelfFile.{ShelfFile}
 use Rattle.edi_tables.specs.declared.element.Class.TheVariants.{An}
@@ -14,8 +14,9 @@ use Rattle.dir_compile.specs.Compile.{compile_faults}
 use Rattle.dir_compile.specs.Directory.{directory_of}
 use Rattle.dir_compile.specs.InOrder.{ordered_parts}
 use Rattle.edi_ports.specs.declared.named.Unread.TheVariants.{Absent}
+use Rattle.dir_store.specs.Store.{definitions_at, parts_at, section_at, store_of}
 use Rattle.dir_load.specs.declared.stop.FileFault.TheVariants.{Unread, Grammar}
-use Rattle.dir_load.specs.declared.stop.Refusal.TheVariants.{File, Parts}
+use Rattle.dir_load.specs.declared.stop.Refusal.TheVariants.{File, Parts, Store}
 use Rattle.dir_load.specs.Manifest.{manifest_in}
 use Rattle.dir_load.specs.Load.{load_of}
 
@@ -67,3 +68,13 @@ one_composite = refl
 other_element : load_of (with_composites ∷ elements ∷ file (codes "c") (codes "----------" ++ 10 ∷ codes "C002 a" ++ 10 ∷ codes "010 9999 a C an..3") ∷ []) (codes "m") ≡ Err (Parts UnknownElement (codes "9999"))
 unfolding load_of manifest_in lines_from is_name_of elements_in composites_in entries_of fields_of cells_of indentation_of repr_in directory_of compile_faults
 other_element = refl
+
+-- a store whose third line breaks a rule
+faulty_store : load_of (file (codes "m") (codes "EDIDIR1" ++ 10 ∷ codes "D 96A UN" ++ 10 ∷ codes "E two" ++ 10 ∷ []) ∷ []) (codes "m") ≡ Err (Store (codes "m") 17)
+unfolding load_of store_of parts_at definitions_at section_at
+faulty_store = refl
+
+-- without LF there is no store
+no_store : load_of (file (codes "m") (codes "EDIDIR1") ∷ []) (codes "m") ≡ Err (File (codes "m") (Grammar (record { line = 1; kind = BadLine })))
+unfolding load_of manifest_in lines_from
+no_store = refl

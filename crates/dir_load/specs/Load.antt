@@ -1,6 +1,6 @@
 -- What the files of a shelf give under the name of a manifest.
-use Rattle.std.specs.Prelude.{ℕ, List, [], ◌∷◌, ◌++◌, Result, Ok, Err}
-use Rattle.std.specs.List.{flat_map}
+use Rattle.std.specs.Prelude.{ℕ, Bool, nat_eq, List, [], ◌∷◌, Result, Ok, Err, if◌then◌else◌}
+use Rattle.std.specs.List.{flat_map, starts_with}
 use Rattle.std.specs.Result.{result_map_both, result_unwrap_or}
 use Rattle.edi_tables.specs.First.{unless_faulty}
 use Rattle.edi_tables.specs.declared.element.ElementDef.{ElementDef}
@@ -20,6 +20,8 @@ use Rattle.dir_messages.specs.Message.{message_in}
 use Rattle.dir_compile.specs.declared.parts.Parts.{Parts}
 use Rattle.dir_compile.specs.Directory.{directory_of}
 use Rattle.dir_compile.specs.Stop.{PartsFault}
+use Rattle.dir_store.specs.Spelling.{first_line, line_of}
+use Rattle.dir_store.specs.Store.{store_of}
 use Rattle.dir_load.specs.declared.manifest.FileKind.{FileKind}
 use Rattle.dir_load.specs.declared.manifest.FileKind.TheVariants.{Elements, Codes, Composites, Segments, Message}
 use Rattle.dir_load.specs.declared.manifest.FileLine.{FileLine}
@@ -121,6 +123,24 @@ abbrev pub load_with : List ShelfFile → Manifest → Result Parts Refusal
 load_with files manifest =
     and_then (unless_faulty (refusals_of files manifest.files) (found_on files manifest.files)) (λ found. map_err parts_refusal (directory_of (parts_with manifest.labels found)))
 
--- what files give under the name of a manifest: the whole manifest is judged before any file that it names
+-- the directory of a manifest of lines, the octets of the file of that name: the whole manifest is judged before any file that it names
+abbrev pub lines_under : List ShelfFile → List ℕ → List ℕ → Result Parts Refusal
+lines_under files name octets =
+    and_then (map_err (λ fault. refusal.File name (Grammar fault)) (manifest_in octets)) (load_with files)
+
+-- the directory of a store, the octets of the file of that name
+abbrev pub store_under : List ℕ → List ℕ → Result Parts Refusal
+store_under name octets = map_err (refusal.Store name) (store_of octets)
+
+-- a manifest that begins with `EDIDIR1` and LF is a store, and every other one is lines
+abbrev pub is_store : List ℕ → Bool
+is_store octets = starts_with nat_eq octets (line_of (first_line ∷ []))
+
+-- the directory of a manifest, the octets of the file of that name
+abbrev pub octets_under : List ShelfFile → List ℕ → List ℕ → Result Parts Refusal
+octets_under files name octets = if is_store octets then store_under name octets else lines_under files name octets
+
+-- what files give under the name of a manifest: it is absent, has over 4,194,304 octets, or is a store or lines
 unfoldable pub load_of : List ShelfFile → List ℕ → Result Parts Refusal
-load_of files name = and_then (map_err (refusal.File name) (file_by manifest_in files name)) (load_with files)
+load_of files name =
+    and_then (map_err (λ why. refusal.File name (Unread why)) (octets_named 4194304 files name)) (octets_under files name)

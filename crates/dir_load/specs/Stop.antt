@@ -6,12 +6,14 @@ use Rattle.edi_ports.specs.declared.named.NamedStop.{NamedStop}
 use Rattle.edi_ports.specs.declared.named.NamedStop.TheVariants as named
 use Rattle.dir_compile.specs.declared.stop.CompileStop.{CompileStop}
 use Rattle.dir_compile.specs.declared.stop.CompileStop.TheVariants as compile
+use Rattle.dir_store.specs.declared.stop.StoreStop.{StoreStop}
+use Rattle.dir_store.specs.declared.stop.StoreStop.TheVariants as store
 use Rattle.dir_load.specs.declared.stop.FileFault.{FileFault}
 use Rattle.dir_load.specs.declared.stop.FileFault.TheVariants.{Unread, Grammar}
 use Rattle.dir_load.specs.declared.stop.FileStop.{FileStop}
 use Rattle.dir_load.specs.declared.stop.FileStop.TheVariants as file
 use Rattle.dir_load.specs.declared.stop.Refusal.{Refusal}
-use Rattle.dir_load.specs.declared.stop.Refusal.TheVariants.{File, Parts}
+use Rattle.dir_load.specs.declared.stop.Refusal.TheVariants.{File, Parts, Store}
 use Rattle.dir_load.specs.declared.stop.LoadStop.{LoadStop}
 use Rattle.dir_load.specs.declared.stop.LoadStop.TheVariants.{Refused, Fault, Memory}
 
@@ -50,3 +52,10 @@ IsStopAt name (file.Refused fault) Fault = ⊥
 IsStopAt name (file.Refused fault) Memory = Unit {0}
 IsStopAt name file.Fault stop = stop ≡ Fault
 IsStopAt name file.Memory stop = stop ≡ Memory
+
+-- a stop in the store of this name, as one of loading; there may be no memory for the name
+abbrev pub IsStopIn : List ℕ → StoreStop → LoadStop → Type 0
+IsStopIn name (store.Fault at) (Refused refusal) = refusal ≡ Store name at
+IsStopIn name (store.Fault at) Fault = ⊥
+IsStopIn name (store.Fault at) Memory = Unit {0}
+IsStopIn name store.Memory stop = stop ≡ Memory

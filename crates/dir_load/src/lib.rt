@@ -1,4 +1,4 @@
-//! Directories from the files of a shelf: a manifest names them, each is read, and all together are compiled.
+//! Directories from the files of a shelf: a manifest is a store, or names files that are read and compiled together.
 #![tactic(auto)]
 
 mod counted;

@@ -1,23 +1,28 @@
 //! A directory from the files of a shelf.
-ghost use Rattle.std.specs.Prelude.{◌≡◌, ◌≤◌, List, Some, IfOk, IsErrOf, length};
+ghost use Rattle.std.specs.Prelude.{◌≡◌, ◌≤◌, List, Some, Ok, IsErrOf, length};
 ghost use Rattle.edi_tables.specs.First.{Answers};
 ghost use Rattle.edi_ports.specs.declared.shelf.ShelfFile.{ShelfFile};
 ghost use Rattle.edi_ports.specs.Faults.{HasRisen};
-ghost use Rattle.dir_load.specs.Load.{file_by, load_of};
-ghost use Rattle.dir_load.specs.Manifest.{HasLabelForms, manifest_in};
-ghost use Rattle.dir_load.specs.Stop.{file_fault_in, refusal_in};
+ghost use Rattle.edi_ports.specs.Named.{octets_named};
+ghost use Rattle.dir_compile.specs.declared.parts.Parts.{Parts};
+ghost use Rattle.dir_compile.specs.Directory.{IsDirectory};
+ghost use Rattle.dir_store.specs.Spelling.{store_text};
+ghost use Rattle.dir_load.specs.Load.{is_store as is_store_of, lines_under, load_of, store_under};
+ghost use Rattle.dir_load.specs.Stop.{refusal_in};
 
 use crate::gather::{LONGEST_FILE, gather_files};
 use crate::stop::FileStop;
-use crate::{LoadStop, Manifest, read_manifest};
+use crate::{LoadStop, read_manifest};
 use dir_compile::{Directory, compile};
+use dir_store::read_store;
 use edi_ports::{Shelf, read_named};
 use std::alloc::Global;
 
-/// The directory of the manifest of that name. The whole manifest is judged first, then each file that it names, in
-/// order: whether it is there, has at most 4,194,304 octets and breaks no rule of its grammar; a segment file is read
-/// with the composites of all files before it. Then their parts are compiled. The first refusal is answered with the
-/// name that it is about. `Fault` comes only where the shelf failed.
+/// The directory of the manifest of that name. A manifest that begins with `EDIDIR1` and LF is a store, and its first
+/// fault is answered with its place. Every other manifest is lines: the whole manifest is judged first, then each file
+/// that it names, in order: whether it is there, has at most 4,194,304 octets and breaks no rule of its grammar; a segment
+/// file is read with the composites of all files before it. Then their parts are compiled. The first refusal is answered
+/// with the name that it is about. `Fault` comes only where the shelf failed.
 pub fn load<S: Shelf>(alloc: Global, shelf: &mut S, name: &[u8]) -> Result<Directory, LoadStop>
     ensures loads { (files : List ShelfFile) → S.files shelf.old ≡ Some files
         → Answers (λ directory. directory) refusal_in result (load_of files name.now) }
@@ -25,26 +30,60 @@ pub fn load<S: Shelf>(alloc: Global, shelf: &mut S, name: &[u8]) -> Result<Direc
     ensures counted { S.faults shelf.old ≤ S.faults shelf.new }
     ensures cause { IsErrOf result LoadStop.Fault → HasRisen (S.faults shelf.old) (S.faults shelf.new) }
     ensures steady { S.is_steady shelf.old → (IsErrOf result LoadStop.Fault → ⊥) × S.is_steady shelf.new }
+
+    // The store of a directory, under that name, gives this directory again.
+    ensures again { (files : List ShelfFile) (directory : Parts) → IsDirectory directory
+        → octets_named 4194304 files name.now ≡ Ok (store_text directory) → load_of files name.now ≡ Ok directory }
 {
-    let manifest = match load_manifest(alloc, shelf, name) {
+    let octets = match read_named(alloc, shelf, name, LONGEST_FILE) {
+        Ok(octets) => octets,
+        Err(stop) => return Err(FileStop::from(stop).at_file(alloc, name)),
+    };
+    if is_store(&octets) {
+        load_store(alloc, name, &octets)
+    } else {
+        load_lines(alloc, shelf, name, &octets)
+    }
+}
+
+// Whether a manifest is a store.
+fn is_store(octets: &[u8]) -> bool
+    ensures { result ≡ is_store_of octets.now }
+{
+    octets.starts_with(b"EDIDIR1\n")
+}
+
+// The directory of the store of that name.
+fn load_store(alloc: Global, name: &[u8], octets: &[u8]) -> Result<Directory, LoadStop>
+    requires { length octets.now ≤ 4194304 }
+    ensures loads { Answers (λ directory. directory) refusal_in result (store_under name.now octets.now) }
+    ensures unfailing { IsErrOf result LoadStop.Fault → ⊥ }
+{
+    match read_store(alloc, octets) {
+        Ok(directory) => Ok(directory),
+        Err(stop) => Err(LoadStop::in_store(alloc, name, stop)),
+    }
+}
+
+// The directory of the lines of the manifest of that name.
+fn load_lines<S: Shelf>(
+    alloc: Global,
+    shelf: &mut S,
+    name: &[u8],
+    octets: &[u8],
+) -> Result<Directory, LoadStop>
+    requires { length octets.now ≤ 4194304 }
+    ensures loads { (files : List ShelfFile) → S.files shelf.old ≡ Some files
+        → Answers (λ directory. directory) refusal_in result (lines_under files name.now octets.now) }
+    ensures files { S.files shelf.new ≡ S.files shelf.old }
+    ensures counted { S.faults shelf.old ≤ S.faults shelf.new }
+    ensures cause { IsErrOf result LoadStop.Fault → HasRisen (S.faults shelf.old) (S.faults shelf.new) }
+    ensures steady { S.is_steady shelf.old → (IsErrOf result LoadStop.Fault → ⊥) × S.is_steady shelf.new }
+{
+    let manifest = match read_manifest(alloc, octets) {
         Ok(manifest) => manifest,
-        Err(stop) => return Err(stop.at_file(alloc, name)),
+        Err(stop) => return Err(FileStop::from(stop).at_file(alloc, name)),
     };
     let gathered = gather_files(alloc, shelf, manifest.files.items())?;
     Ok(compile(alloc, gathered.into_parts(manifest.labels))?)
-}
-
-// The manifest in the file of that name.
-fn load_manifest<S: Shelf>(alloc: Global, shelf: &mut S, name: &[u8]) -> Result<Manifest, FileStop>
-    ensures reads { (files : List ShelfFile) → S.files shelf.old ≡ Some files
-        → Answers (λ manifest. manifest) file_fault_in result (file_by manifest_in files name.now) }
-    ensures formed { IfOk result (λ manifest. HasLabelForms manifest.labels) }
-    ensures few { IfOk result (λ manifest. length manifest.files ≤ 400) }
-    ensures files { S.files shelf.new ≡ S.files shelf.old }
-    ensures counted { S.faults shelf.old ≤ S.faults shelf.new }
-    ensures cause { IsErrOf result FileStop.Fault → HasRisen (S.faults shelf.old) (S.faults shelf.new) }
-    ensures steady { S.is_steady shelf.old → (IsErrOf result FileStop.Fault → ⊥) × S.is_steady shelf.new }
-{
-    let octets = read_named(alloc, shelf, name, LONGEST_FILE)?;
-    Ok(read_manifest(alloc, &octets)?)
 }

@@ -1,5 +1,6 @@
 //! Why the files of a shelf give no directory.
 use dir_compile::{CompileKind, CompileStop};
+use dir_store::StoreStop;
 use edi_octets::{DirFault, DirStop};
 use edi_ports::{NamedStop, Unread};
 use edi_tables::Chunk;
@@ -14,12 +15,13 @@ pub enum FileFault {
     Grammar(DirFault),
 }
 
-/// Why files give no directory: the first file that gives no definitions, or the first fault of the parts that all
-/// files give, with the name that it is about.
+/// Why files give no directory: the first file that gives no definitions; the first fault of the parts that all files
+/// give, with the name that it is about; or the place of a store's first fault, in octets from 0.
 #[derive(Debug, Drop)]
 pub enum Refusal {
     File { name: Chunk, fault: FileFault },
     Parts { kind: CompileKind, name: Chunk },
+    Store { name: Chunk, at: usize },
 }
 
 /// Why no directory was loaded: a refusal, or an accident that tells nothing of the files.
@@ -120,6 +122,23 @@ impl FileStop {
             },
             FileStop::Fault => LoadStop::Fault,
             FileStop::Memory => LoadStop::Memory,
+        }
+    }
+}
+
+impl LoadStop {
+    ghost use Rattle.dir_load.specs.Stop.{IsStopIn};
+
+    /// The stop of loading in the store of that name. Where there is no memory for the name, it is that.
+    pub(crate) fn in_store(alloc: Global, name: &[u8], stop: StoreStop) -> LoadStop
+        ensures { IsStopIn name.now stop result }
+    {
+        match stop {
+            StoreStop::Fault { at } => match Chunk::of(alloc, name) {
+                Ok(name) => LoadStop::Refused(Refusal::Store { name, at }),
+                Err(_) => LoadStop::Memory,
+            },
+            StoreStop::Memory => LoadStop::Memory,
         }
     }
 }

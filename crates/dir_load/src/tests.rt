@@ -30,6 +30,12 @@ const SMALL: Files = &[
     ),
 ];
 
+// A store with a data element and a message.
+const STORE: Files = &[(
+    b"m",
+    b"EDIDIR1\nD 96A UN\nE 1\n1001 an..3\nL 0\nC 0\nS 0\nT 1\nSHIPIT 2\n0 UNH M 1\n0 UNT M 1\n",
+)];
+
 // Files, the calls of their shelf that fail, and why the manifest `m` gives no directory: a word and a name.
 #[rattlefmt::skip]
 const STOPPED: &[(Files, &[u64], &[u8], &[u8])] = &[
@@ -38,6 +44,8 @@ const STOPPED: &[(Files, &[u64], &[u8], &[u8])] = &[
     (&[(b"m", b"directory D 96A UN\ncodes co\n"), (b"co", b"----------\n100 A\n")], &[], b"bad-code", b"co"),
     (&[(b"m", b"directory D 96A UN\nelements a\nelements a\n"), (b"a", ELEMENTS)], &[], b"twice", b"1001"),
     (&[(b"m", b"directory D 96A UN\nelements a\n"), (b"a", ELEMENTS)], &[4], b"fault", b""),
+    (&[(b"m", b"EDIDIR1")], &[], b"bad-line", b"m"),
+    (&[(b"m", b"EDIDIR1\nD 96A\n")], &[], b"store", b"m"),
 ];
 
 // A shelf with these files, which fails at calls of these numbers.
@@ -56,6 +64,7 @@ fn told_by(stop: &LoadStop) -> (&[u8], &[u8]) {
     match stop {
         LoadStop::Refused(Refusal::File { name, fault }) => (word_of(*fault), name.octets()),
         LoadStop::Refused(Refusal::Parts { kind, name }) => (kind.word(), name.octets()),
+        LoadStop::Refused(Refusal::Store { name, .. }) => (b"store", name.octets()),
         LoadStop::Fault => (b"fault", b""),
         LoadStop::Memory => (b"memory", b""),
     }
@@ -70,11 +79,13 @@ fn word_of(fault: FileFault) -> &'static [u8] {
 }
 
 #[test]
-fn loads_a_small_directory(rt: HostRuntime) -> Result<(), Fail> {
+fn loads_small_directories(rt: HostRuntime) -> Result<(), Fail> {
     let alloc = rt.alloc();
-    let directory = load(alloc, &mut shelf(alloc, SMALL, &[])?, b"m")?;
-    assert_eq!(rt; directory.table_count(), 2);
-    assert_eq!(rt; directory.parts().elements.items().len(), 2);
+    for (files, elements) in [(SMALL, 2), (STORE, 1)] {
+        let directory = load(alloc, &mut shelf(alloc, files, &[])?, b"m")?;
+        assert_eq!(rt; directory.table_count(), 2);
+        assert_eq!(rt; directory.parts().elements.items().len(), elements);
+    }
     Ok(())
 }
 

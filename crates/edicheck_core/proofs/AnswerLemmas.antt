@@ -7,7 +7,6 @@ use Rattle.std.specs.Prelude.{codes}
 use Rattle.std.specs.Option.{option_map}
 use Rattle.edi_ports.specs.declared.shelf.ShelfFile.{ShelfFile}
 use Rattle.edi_ports.specs.Faults.{HasRisen}
-use Rattle.edi_ports.specs.Named.{octets_named}
 use Rattle.edi_ports.specs.Read.{TakesFront}
 use Rattle.edi_ports.specs.Sink.{IsCut}
 use Rattle.edi_ports.specs.declared.named.Unread.{Unread}
@@ -22,15 +21,14 @@ use Rattle.edicheck_core.specs.declared.status.Status.TheVariants.{Done, Found, 
 use Rattle.edicheck_core.specs.declared.status.Status.TheVariants as status
 use Rattle.edicheck_core.specs.Outcome.{Outcome, done, memory_refused, read_failed, too_large}
 use Rattle.edicheck_core.specs.Answer.{IsOneOf}
-use Rattle.edicheck_core.specs.Made.{after_loading, after_reading, checked_text, found_if, listed}
+use Rattle.contrl_writer.specs.declared.answer.Contrl.{Contrl}
+use Rattle.contrl_writer.specs.declared.answer.Contrl.TheVariants.{Octets, NoUnb, BadUnb}
+use Rattle.edicheck_core.specs.Form.{Question, Errors, Answer}
+use Rattle.edicheck_core.specs.Made.{after_loading, answered, found_if, listed, told_of}
 use Rattle.edicheck_core.specs.Refusal.{refusal, unread}
 use Rattle.error_ledger.specs.declared.error.ErrorLine.{ErrorLine}
 use Rattle.edi_engine.specs.Errors.{errors_of}
-
--- what holds of whatever is told holds of what is told
-pub if_told : {A : Type 0} (told : Option A) (P : A → Type 0) → ((x : A) → told ≡ Some x → P x) → IfSome told P
-if_told None P holds = tt
-if_told (Some x) P holds = holds x refl
+use Rattle.edi_engine.specs.Summary.{contrl_to}
 
 -- a part was put whole, and then a proper prefix of the next one
 pub cut-after : (before between now : Option (List ℕ)) (head rest : List ℕ) → IfSome before (λ held. between ≡ Some (held ++ head)) → IsCut between now rest → IsCut before now (head ++ rest)
@@ -77,6 +75,11 @@ pub printed_or_refused : {E : Type 0} (printed : Result (List ℕ) E) (octets : 
 printed_or_refused (Ok lines) octets due is made = inl (made ∙ ap done is)
 printed_or_refused (Err e) octets due is made = inr made
 
+-- what takes nothing but memory
+pub made_or_refused : (made due : Outcome) (Failed : Type 0) → (due ≡ made) ⊎ (due ≡ memory_refused) → IsOneOf (due ≡ made) (Some made) Failed (Unit {0}) due
+made_or_refused made due Failed (inl is) = inl (is, is)
+made_or_refused made due Failed (inr refused) = inr (inr (refused, tt))
+
 done_fails : Done ≡ ReadFault → ⊥
 done_fails is = cc
 
@@ -89,58 +92,6 @@ pub printed-steady : {E : Type 0} (printed : Result (List ℕ) E) (due : Outcome
 printed-steady (Ok lines) due made failed = let is = sym (ap (λ (o : Outcome). o.status) made) ∙ failed in absurd (done_fails is)
 printed-steady (Err e) due made failed = let is = sym (ap (λ (o : Outcome). o.status) made) ∙ failed in absurd (memory_fails is)
 
--- a run that loads a directory and reads a named file, by what is told of the shelf
-abbrev pub IsFromBoth : (Parts → List ℕ → Outcome) → List ℕ → List ℕ → Option (List ShelfFile) → Type 0 → Outcome → Type 0
-IsFromBoth next manifest name files Failed due =
-    IsOneOf ((loaded : Result Parts Refusal) × (read : Result (List ℕ) Unread) × (due ≡ after_loading (λ directory. after_reading name (next directory) read) loaded))
-    (option_map (λ told. after_loading (λ directory. after_reading name (next directory) (octets_named 4194304 told name)) (load_of told manifest)) files)
-    Failed (Unit {0}) due
-
--- a run that reads a named file
-abbrev pub IsFromText : (List ℕ → Outcome) → List ℕ → Option (List ShelfFile) → Type 0 → Outcome → Type 0
-IsFromText next name files Failed due =
-    IsOneOf ((read : Result (List ℕ) Unread) × (due ≡ after_reading name next read))
-    (option_map (λ told. after_reading name next (octets_named 4194304 told name)) files)
-    Failed (Unit {0}) due
-
--- what comes next with the octets, or why there are none, unless memory was refused
-pub after_read : (next : List ℕ → Outcome) (name : List ℕ) (files : Option (List ShelfFile)) (read : Result (List ℕ) Unread) (Failed : Type 0) (due : Outcome)
-    → ((told : List ShelfFile) → files ≡ Some told → octets_named 4194304 told name ≡ read)
-    → (due ≡ after_reading name next read) ⊎ (due ≡ memory_refused) → IsFromText next name files Failed due
-after_read next name None read Failed due reads (inl made) = inl ((read, made), tt)
-after_read next name (Some told) read Failed due reads (inl made) =
-    inl ((read, made), made ∙ sym (ap (after_reading name next) (reads told refl)))
-after_read next name files read Failed due reads (inr refused) = inr (inr (refused, tt))
-
--- the same after a directory was loaded, where the shelf still tells the same files
-pub after_both : (next : Parts → List ℕ → Outcome) (manifest name : List ℕ) (files between : Option (List ShelfFile)) (directory : Parts) (Failed Later : Type 0) (due : Outcome)
-    → ((told : List ShelfFile) → files ≡ Some told → load_of told manifest ≡ Ok directory)
-    → between ≡ files → (Later → Failed) → IsFromText (next directory) name between Later due → IsFromBoth next manifest name files Failed due
-after_both next manifest name None between directory Failed Later due loads same later (inl made) =
-    inl ((Ok directory, made.0.0, made.0.1), tt)
-after_both next manifest name (Some told) between directory Failed Later due loads same later (inl made) =
-    let told_made = subst (λ (files : Option (List ShelfFile)). IfSome (option_map (λ told. after_reading name (next directory) (octets_named 4194304 told name)) files) (λ m. due ≡ m)) same made.1 in
-    inl (
-      (Ok directory, made.0.0, made.0.1),
-      told_made
-          ∙ sym (ap (after_loading (λ d. after_reading name (next d) (octets_named 4194304 told name))) (loads told refl)),
-    )
-after_both next manifest name files between directory Failed Later due loads same later (inr (inl failed)) = inr (inl (failed.0, later failed.1))
-after_both next manifest name files between directory Failed Later due loads same later (inr (inr refused)) = inr (inr refused)
-
--- no directory was loaded, unless memory was refused
-pub after_refused : (next : Parts → List ℕ → Outcome) (manifest name : List ℕ) (files : Option (List ShelfFile)) (why : Refusal) (Failed : Type 0) (due : Outcome)
-    → ((told : List ShelfFile) → files ≡ Some told → load_of told manifest ≡ Err why)
-    → (due ≡ refusal why) ⊎ (due ≡ memory_refused) → IsFromBoth next manifest name files Failed due
-after_refused next manifest name None why Failed due loads (inl made) = inl ((Err why, Err Absent, made), tt)
-after_refused next manifest name (Some told) why Failed due loads (inl made) =
-    inl (
-      (Err why, Err Absent, made),
-      made
-          ∙ sym (ap (after_loading (λ d. after_reading name (next d) (octets_named 4194304 told name))) (loads told refl)),
-    )
-after_refused next manifest name files why Failed due loads (inr refused) = inr (inr (refused, tt))
-
 -- a count that rose after another that didn't fall
 pub risen_later : (before between now : ℕ) → before ≤ between → HasRisen between now → HasRisen before now
 risen_later before between now grew risen = omega (arith, grew, risen)
@@ -152,17 +103,16 @@ found_if-steady : (errors : List ErrorLine) (output : List ℕ) → (found_if er
 found_if-steady [] output failed = done_fails failed
 found_if-steady (error ∷ more) output failed = found_fails failed
 
-unread-steady : (name : List ℕ) (why : Unread) → (unread name why).status ≡ ReadFault → ⊥
-unread-steady name Absent failed = let is : status.Absent ≡ ReadFault = failed in cc
-unread-steady name TooLarge failed = let is : status.TooLarge ≡ ReadFault = failed in cc
+answered-steady : (answer : Contrl) → (answered answer).status ≡ ReadFault → ⊥
+answered-steady (Octets octets) failed = done_fails failed
+answered-steady NoUnb failed = found_fails failed
+answered-steady BadUnb failed = found_fails failed
 
--- a check doesn't come to a read fault
-pub checked_text-steady : (directory : Parts) (text : List ℕ) (due : Outcome) → (due ≡ checked_text directory text) ⊎ (due ≡ memory_refused) → due.status ≡ ReadFault → ⊥
-checked_text-steady directory text due (inl made) failed =
-    found_if-steady (errors_of directory text) _ (sym (ap (λ (o : Outcome). o.status) made) ∙ failed)
-checked_text-steady directory text due (inr refused) failed = memory_fails (sym (ap (λ (o : Outcome). o.status) refused) ∙ failed)
+told-steady : (question : Question) (directory : Parts) (text : List ℕ) → (told_of question directory text).status ≡ ReadFault → ⊥
+told-steady Errors directory text failed = found_if-steady (errors_of directory text) _ failed
+told-steady (Answer stamp reference) directory text failed = answered-steady (contrl_to directory text stamp reference) failed
 
--- nor does a file that isn't there or is too large
-pub refused_unread-steady : (name : List ℕ) (why : Unread) (due : Outcome) → (due ≡ unread name why) ⊎ (due ≡ memory_refused) → due.status ≡ ReadFault → ⊥
-refused_unread-steady name why due (inl made) failed = unread-steady name why (sym (ap (λ (o : Outcome). o.status) made) ∙ failed)
-refused_unread-steady name why due (inr refused) failed = memory_fails (sym (ap (λ (o : Outcome). o.status) refused) ∙ failed)
+-- the answer to a question doesn't come to a read fault
+pub told_of-steady : (question : Question) (directory : Parts) (text : List ℕ) (due : Outcome) → (due ≡ told_of question directory text) ⊎ (due ≡ memory_refused) → due.status ≡ ReadFault → ⊥
+told_of-steady question directory text due (inl made) failed = told-steady question directory text (sym (ap (λ (o : Outcome). o.status) made) ∙ failed)
+told_of-steady question directory text due (inr refused) failed = memory_fails (sym (ap (λ (o : Outcome). o.status) refused) ∙ failed)

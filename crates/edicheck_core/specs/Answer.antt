@@ -1,13 +1,17 @@
 -- What a run may come to, and how it ends.
-use Rattle.std.specs.Prelude.{◌≡◌, ◌⊎◌, ◌<◌, ◌≤◌, ◌++◌, ℕ, true, List, [], Option, Some, IfSome}
+use Rattle.std.specs.Prelude.{◌≡◌, ◌⊎◌, ◌<◌, ◌≤◌, ◌++◌, ℕ, true, List, [], Option, Some, IfSome, Ok}
 use Rattle.edi_ports.specs.Faults.{HasRisen}
 use Rattle.edi_ports.specs.Sink.{IsCut}
 use Rattle.edi_ports.specs.Read.{TakesFront}
 use Rattle.edicheck_core.specs.declared.status.Status.{Status}
 use Rattle.edicheck_core.specs.declared.status.Status.TheVariants.{Done, WriteFault, TooLarge}
-use Rattle.edicheck_core.specs.Form.{Asked, Text, needs_of}
+use Rattle.dir_compile.specs.declared.parts.Parts.{Parts}
+use Rattle.edi_engine.specs.Placed.{AreMessagesPlaced}
+use Rattle.edicheck_core.specs.Edit.{IsScriptAnswered, IsScriptRun}
+use Rattle.edicheck_core.specs.Form.{Asked, Edit, Text, needs_of}
 use Rattle.edicheck_core.specs.Inputs.{Inputs, Held}
 use Rattle.edicheck_core.specs.Made.{IsPossible, made_by}
+use Rattle.edicheck_core.specs.Opening.{IsOpening, IsUnopened, Opened}
 use Rattle.edicheck_core.specs.Outcome.{Outcome, memory_refused, read_failed}
 
 -- an object that the words need has failed in this run
@@ -50,7 +54,27 @@ IsFinish due before now status =
     ((status ≡ due.status) × Grew before.octets now.octets due.output)
     ⊎ ((status ≡ WriteFault) × HasRisen before.faults now.faults × IsCut before.octets now.octets due.output)
 
+-- what a status says of a run that makes its whole output before it puts the first octet
+abbrev pub IsSettled : Option Asked → Inputs → Inputs → Held → Held → Status → Type 0
+IsSettled asked before now held held' status =
+    (due : Outcome) × IsDue asked before now due × Takes asked due.status before.rest now.rest × IsFinish due held held' status
+
+-- what a status says of an edit: nothing was taken from the input, and a refusal was put; or a script was answered on the directory and the text that were opened, and in trees by this directory each segment is placed first, and a derivation is the only one
+abbrev pub IsEdited : List ℕ → List ℕ → Inputs → Inputs → Held → Held → Status → Type 0
+IsEdited manifest name before now held held' status =
+    ((due : Outcome) × IsUnopened manifest name before.files (HasRisen before.shelf_faults now.shelf_faults) due
+    × (now.rest ≡ before.rest) × (now.input_faults ≡ before.input_faults) × IsFinish due held held' status)
+    ⊎ ((begun : Opened) × IsOpening manifest name before.files (Ok begun)
+    × ((text : List ℕ) → AreMessagesPlaced begun.directory text)
+    × IsScriptRun begun.directory begun.text before now held held' status)
+
+-- what a status says of a script on a text that was opened: memory was refused before it, and nothing was taken; or it was answered. Only bodies need this word.
+abbrev pub IsScriptBegun : Parts → List ℕ → Option (List ℕ) → Option (List ℕ) → ℕ → ℕ → Held → Held → Status → Type 0
+IsScriptBegun dir text before now faults faults' held held' status =
+    (IsFinish memory_refused held held' status × (now ≡ before) × (faults' ≡ faults))
+    ⊎ (((text : List ℕ) → AreMessagesPlaced dir text) × IsScriptAnswered dir text before now (HasRisen faults faults') held held' status)
+
 -- what a status says of a run
 abbrev pub IsAnswer : Option Asked → Inputs → Inputs → Held → Held → Status → Type 0
-IsAnswer asked before now held held' status =
-    (due : Outcome) × IsDue asked before now due × Takes asked due.status before.rest now.rest × IsFinish due held held' status
+IsAnswer (Some (Edit manifest text)) before now held held' status = IsEdited manifest text before now held held' status
+IsAnswer asked before now held held' status = IsSettled asked before now held held' status

@@ -1,8 +1,13 @@
 pub mod Answer
+pub mod Edit
 pub mod Form
 pub mod Inputs
 pub mod Made
+pub mod Opening
 pub mod Outcome
 pub mod Output
+pub mod Put
 pub mod Refusal
+pub mod Replied
+pub mod Reply
 pub mod Status

@@ -1,5 +1,5 @@
 -- Files that give no directory, as outcomes.
-use Rattle.std.specs.Prelude.{ℕ, List, [], ◌∷◌, ◌++◌, codes, decimal}
+use Rattle.std.specs.Prelude.{ℕ, List, ◌++◌, codes, decimal}
 use Rattle.edi_octets.specs.declared.fault.DirFault.{DirFault}
 use Rattle.edi_octets.specs.DirKind as file
 use Rattle.edi_ports.specs.declared.named.Unread.{Unread}
@@ -9,7 +9,7 @@ use Rattle.dir_compile.specs.declared.stop.CompileKind.{CompileKind}
 use Rattle.dir_load.specs.declared.stop.FileFault.{FileFault}
 use Rattle.dir_load.specs.declared.stop.FileFault.TheVariants as fault
 use Rattle.dir_load.specs.declared.stop.Refusal.{Refusal}
-use Rattle.dir_load.specs.declared.stop.Refusal.TheVariants.{File, Parts}
+use Rattle.dir_load.specs.declared.stop.Refusal.TheVariants.{File, Parts, Store}
 use Rattle.edicheck_core.specs.declared.status.Status.TheVariants as status
 use Rattle.edicheck_core.specs.Outcome.{Outcome, refused, too_large}
 
@@ -32,7 +32,12 @@ file_refused name (fault.Grammar found) = broken name found
 abbrev pub parts_refused : CompileKind → List ℕ → Outcome
 parts_refused kind name = refused status.BadDirectory (codes "fault compile " ++ parts.word_of kind ++ codes " " ++ name)
 
+-- the store of that name breaks a rule at this place
+abbrev pub store_refused : List ℕ → ℕ → Outcome
+store_refused name at = refused status.BadDirectory (codes "fault store " ++ name ++ codes " " ++ decimal at)
+
 -- files that give no directory
 abbrev pub refusal : Refusal → Outcome
 refusal (File name fault) = file_refused name fault
 refusal (Parts kind name) = parts_refused kind name
+refusal (Store name at) = store_refused name at

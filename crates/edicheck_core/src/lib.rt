@@ -1,17 +1,25 @@
 //! All that the program does, over any source, sink and shelf.
 #![tactic(auto)]
 
-mod check;
+mod about;
+mod compile;
+mod drill;
+mod edit;
+mod finish;
 mod form;
 mod help;
+mod opening;
 mod outcome;
 mod program;
+mod put;
 mod refusal;
+mod reply;
+mod script;
 mod status;
 mod tables;
 mod text;
 
-pub use form::{Form, read_form};
+pub use form::{Form, Question, read_form};
 pub use program::{refuse_memory, run};
 pub use status::Status;
 pub use text_printer::Detail;

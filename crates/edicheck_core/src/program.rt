@@ -1,21 +1,28 @@
 //! The one call that does all that the program does.
-ghost use Rattle.std.specs.Prelude.{◌≡◌, ◌≢◌, ◌⊎◌, ◌≤◌, ◌++◌, ℕ, IsTrue, true, false, length, Some};
-ghost use Rattle.std.specs.Bool.{OnTrue, OnFalse};
+ghost use Rattle.std.specs.Prelude.{◌≡◌, ◌≢◌, ◌⊎◌, ◌≤◌, ◌++◌, ℕ, List, Option, false, true, length, Some, IfSome};
+ghost use Rattle.std.specs.Option.{option_map};
 ghost use Rattle.edi_ports.specs.Faults.{HasRisen};
-ghost use Rattle.edi_ports.specs.Sink.{IsCut};
+ghost use Rattle.edit_script.specs.Script.{AreCommands, script_text};
+ghost use Rattle.edit_script.specs.declared.command.Command.{Command};
 ghost use Rattle.edicheck_core.specs.Outcome.{Outcome, memory_refused};
-ghost use Rattle.edicheck_core.specs.Form.{form_of, needs_of};
+ghost use Rattle.edicheck_core.specs.Form.{Asked, Edit, form_of, form_shown, needs_of, IsLawful, IsPlain};
 ghost use Rattle.edicheck_core.specs.Inputs.{inputs_of, held_of};
-ghost use Rattle.edicheck_core.specs.Answer.{Grew, HasFailed, IsAnswer, IsDue, IsFinish, Takes};
+ghost use Rattle.edicheck_core.specs.Answer.{HasFailed, IsAnswer, IsDue, IsFinish, IsSettled, Takes};
+ghost use Rattle.edicheck_core.specs.Edit.{IsEnded, longest_script};
 ghost use Rattle.edicheck_core.specs.Made.{made_by};
+ghost use Rattle.edicheck_core.specs.Opening.{IsToldOpening, Opened};
 
-use crate::check::check_text;
+use crate::about::tell_about;
+use crate::compile::tell_store;
+use crate::drill::tell_drill;
+use crate::edit::edit_text;
+use crate::finish::finish;
 use crate::help::{HELP, VERSION};
 use crate::outcome::Made;
 use crate::tables::tell_tables;
 use crate::text::list_text;
 use crate::{Form, Status, read_form};
-use edi_ports::{Shelf, Sink, Source, put_all};
+use edi_ports::{Shelf, Sink, Source};
 use edi_tables::Chunk;
 use std::alloc::Global;
 
@@ -23,11 +30,16 @@ use std::alloc::Global;
 ///
 /// `segments` and `values` read the text on the input and print its segments, or these with their values.
 /// `tables MANIFEST` loads the directory of that manifest from the shelf and prints its segment tables with their
-/// collisions. `check MANIFEST TEXT` loads that directory, reads the file TEXT, and prints its errors and its tree.
-/// `--help` and `--version` print a text for people. The whole output, or the line of a refusal, is made
-/// before its first octet is put. Of several refusals the first comes: words of no form; then for a text a fault of the
-/// input or over 4,194,304 octets, for a directory the manifest, each of its files in order, and their parts, and then the
-/// file TEXT; then a fault of the sink. Memory may be refused at any step of a form that needs it.
+/// collisions, `compile MANIFEST` its store. `check MANIFEST TEXT` loads that directory, reads the file TEXT, and
+/// prints its errors and its tree; `contrl MANIFEST TEXT STAMP REF` prints its acknowledgement in their place.
+/// `edit MANIFEST TEXT` answers the script on the input, command by command, on that text. `drill N K X` prints what
+/// becomes of an interchange that is made from numbers when it is edited. `--help` and `--version` print a text for
+/// people.
+///
+/// Except for the replies of `edit`, each of which is made before its first octet is put, so is the whole output, or the
+/// line of a refusal. Of several refusals the first comes: words of no form; then for a text on the input a fault of
+/// that or over 4,194,304 octets, for a directory the manifest, each of its files in order, and their parts, then the
+/// file TEXT, and then the script; then a fault of the sink. Memory may be refused at any step of a form that needs it.
 pub fn run<S: Shelf, I: Source, O: Sink>(
     alloc: Global,
     words: &[Chunk],
@@ -50,20 +62,35 @@ pub fn run<S: Shelf, I: Source, O: Sink>(
         → ((needs_of (form_of words.now)).shelf ≡ true → S.is_steady shelf.old) → result ≢ Status.ReadFault }
 
     // With objects that don't fail and a sink with room, only memory can be refused.
-    ensures complete { (made : Outcome) (n : ℕ) → made_by (form_of words.now) (inputs_of S.Shelf shelf.old I.Source input.old) ≡ Some made
+    ensures complete { (made : Outcome) (n : ℕ)
+        → made_by (form_of words.now) (inputs_of S.Shelf shelf.old I.Source input.old) ≡ Some made
         → ((needs_of (form_of words.now)).input ≡ true → I.is_steady input.old)
         → ((needs_of (form_of words.now)).shelf ≡ true → S.is_steady shelf.old)
         → O.has_room out.old n → length made.output ≤ n → 13 ≤ n
         → (result ≡ made.status) ⊎ (result ≡ Status.Memory) }
 
     // The same where no object that is needed failed in this run.
-    ensures untroubled { (made : Outcome) → made_by (form_of words.now) (inputs_of S.Shelf shelf.old I.Source input.old) ≡ Some made
-        → (HasFailed (form_of words.now) (inputs_of S.Shelf shelf.old I.Source input.old) (inputs_of S.Shelf shelf.new I.Source input.new) → ⊥)
+    ensures untroubled { (made : Outcome)
+        → made_by (form_of words.now) (inputs_of S.Shelf shelf.old I.Source input.old) ≡ Some made
+        → (HasFailed (form_of words.now) (inputs_of S.Shelf shelf.old I.Source input.old)
+        (inputs_of S.Shelf shelf.new I.Source input.new) → ⊥)
         → (HasRisen (O.faults out.old) (O.faults out.new) → ⊥)
         → (result ≡ made.status) ⊎ (result ≡ Status.Memory) }
+
+    // A script that ends with `end` is answered whole where no object that is needed failed: only memory can be refused.
+    ensures script { (manifest name : List ℕ) (begun : Opened) (cs : List Command) (more : List ℕ)
+        → form_of words.now ≡ Some (Edit manifest name) → IsToldOpening manifest name (S.files shelf.old) begun
+        → I.rest input.old ≡ Some (script_text cs ++ more)
+        → AreCommands cs → IsEnded cs → length (script_text cs) ≤ longest_script
+        → (HasFailed (form_of words.now) (inputs_of S.Shelf shelf.old I.Source input.old)
+        (inputs_of S.Shelf shelf.new I.Source input.new) → ⊥)
+        → (HasRisen (O.faults out.old) (O.faults out.new) → ⊥)
+        → (result ≡ Status.Done) ⊎ (result ≡ Status.Memory) }
 {
-    let made = decide(alloc, words, shelf, input);
-    finish(out, &made)
+    match read_form(words) {
+        Some(Form::Edit { manifest, text }) => edit_text(alloc, manifest, text, shelf, input, out),
+        form => settle(alloc, form, shelf, input, out),
+    }
 }
 
 /// Tells that memory was refused, as `run` does, for words that no memory was there for.
@@ -73,46 +100,80 @@ pub fn refuse_memory<O: Sink>(out: &mut O) -> Status
     finish(out, &Made::memory_refused())
 }
 
-// What words come to.
-fn decide<S: Shelf, I: Source>(alloc: Global, words: &[Chunk], shelf: &mut S, input: &mut I) -> Made
-    ensures due { IsDue (form_of words.now)
-        (inputs_of S.Shelf shelf.old I.Source input.old) (inputs_of S.Shelf shelf.new I.Source input.new) result }
-    ensures takes { Takes (form_of words.now) result.status (I.rest input.old) (I.rest input.new) }
-    ensures shelf { (needs_of (form_of words.now)).shelf ≡ false → shelf.new ≡ shelf.old }
-    ensures input { (needs_of (form_of words.now)).input ≡ false → input.new ≡ input.old }
+// Does what words ask for that is made whole before its first octet is put.
+fn settle<S: Shelf, I: Source, O: Sink>(
+    alloc: Global,
+    form: Option<Form<'_>>,
+    shelf: &mut S,
+    input: &mut I,
+    out: &mut O,
+) -> Status
+    requires plain { IsPlain (option_map form_shown form) }
+    requires lawful { IfSome form (λ form. IsLawful (form_shown form)) }
+    ensures answer { IsSettled (option_map form_shown form.entry)
+        (inputs_of S.Shelf shelf.old I.Source input.old) (inputs_of S.Shelf shelf.new I.Source input.new)
+        (held_of O.Sink out.old) (held_of O.Sink out.new) result }
+    ensures shelf { (needs_of (option_map form_shown form.entry)).shelf ≡ false → shelf.new ≡ shelf.old }
+    ensures input { (needs_of (option_map form_shown form.entry)).input ≡ false → input.new ≡ input.old }
     ensures files { S.files shelf.new ≡ S.files shelf.old }
-    ensures steady { ((needs_of (form_of words.now)).input ≡ true → I.is_steady input.old)
-        → ((needs_of (form_of words.now)).shelf ≡ true → S.is_steady shelf.old) → result.status ≢ Status.ReadFault }
+    ensures steady { ((needs_of (option_map form_shown form.entry)).input ≡ true → I.is_steady input.old)
+        → ((needs_of (option_map form_shown form.entry)).shelf ≡ true → S.is_steady shelf.old) → result ≢ Status.ReadFault }
+    ensures complete { (made : Outcome) (n : ℕ)
+        → made_by (option_map form_shown form.entry) (inputs_of S.Shelf shelf.old I.Source input.old) ≡ Some made
+        → ((needs_of (option_map form_shown form.entry)).input ≡ true → I.is_steady input.old)
+        → ((needs_of (option_map form_shown form.entry)).shelf ≡ true → S.is_steady shelf.old)
+        → O.has_room out.old n → length made.output ≤ n → 13 ≤ n
+        → (result ≡ made.status) ⊎ (result ≡ Status.Memory) }
+    ensures untroubled { (made : Outcome)
+        → made_by (option_map form_shown form.entry) (inputs_of S.Shelf shelf.old I.Source input.old) ≡ Some made
+        → (HasFailed (option_map form_shown form.entry) (inputs_of S.Shelf shelf.old I.Source input.old)
+        (inputs_of S.Shelf shelf.new I.Source input.new) → ⊥)
+        → (HasRisen (O.faults out.old) (O.faults out.new) → ⊥)
+        → (result ≡ made.status) ⊎ (result ≡ Status.Memory) }
 {
-    match read_form(words) {
+    let made = decide(alloc, form, shelf, input);
+    finish(out, &made)
+}
+
+// What words come to.
+fn decide<S: Shelf, I: Source>(
+    alloc: Global,
+    form: Option<Form<'_>>,
+    shelf: &mut S,
+    input: &mut I,
+) -> Made
+    requires plain { IsPlain (option_map form_shown form) }
+    requires lawful { IfSome form (λ form. IsLawful (form_shown form)) }
+    ensures due { IsDue (option_map form_shown form.entry)
+        (inputs_of S.Shelf shelf.old I.Source input.old) (inputs_of S.Shelf shelf.new I.Source input.new) result }
+    ensures takes { Takes (option_map form_shown form.entry) result.status (I.rest input.old) (I.rest input.new) }
+    ensures shelf { (needs_of (option_map form_shown form.entry)).shelf ≡ false → shelf.new ≡ shelf.old }
+    ensures input { (needs_of (option_map form_shown form.entry)).input ≡ false → input.new ≡ input.old }
+    ensures files { S.files shelf.new ≡ S.files shelf.old }
+    ensures steady { ((needs_of (option_map form_shown form.entry)).input ≡ true → I.is_steady input.old)
+        → ((needs_of (option_map form_shown form.entry)).shelf ≡ true → S.is_steady shelf.old) → result.status ≢ Status.ReadFault }
+{
+    match form {
         None => Made::no_form(),
         Some(Form::Help) => Made::fixed(Status::Done, HELP),
         Some(Form::Version) => Made::fixed(Status::Done, VERSION),
         Some(Form::Text(detail)) => list_text(alloc, detail, input),
         Some(Form::Tables(manifest)) => tell_tables(alloc, manifest, shelf),
-        Some(Form::Check { manifest, text }) => check_text(alloc, manifest, text, shelf),
+        Some(Form::Compile(manifest)) => tell_store(alloc, manifest, shelf),
+        Some(
+            Form::About {
+                question,
+                manifest,
+                text,
+            },
+        ) => tell_about(alloc, question, manifest, text, shelf),
+        Some(
+            Form::Drill {
+                messages,
+                edits,
+                number,
+            },
+        ) => tell_drill(alloc, messages, edits, number),
+        Some(Form::Edit { .. }) => unreachable!(),
     }
-}
-
-// Puts the whole output, and answers its status where the sink took it.
-fn finish<O: Sink>(out: &mut O, made: &Made) -> Status
-    ensures finish { IsFinish made.now (held_of O.Sink out.old) (held_of O.Sink out.new) result }
-    ensures room { (n : ℕ) → O.has_room out.old n → length made.now.output ≤ n → result ≡ made.now.status }
-{
-    let (head, rest) = made.parts();
-    if put_both(out, head, rest) {
-        made.status()
-    } else {
-        Status::WriteFault
-    }
-}
-
-// Puts two parts, one after the other, as `put_all` puts one.
-fn put_both<O: Sink>(out: &mut O, head: &[u8], rest: &[u8]) -> bool
-    ensures whole { OnTrue result (Grew (O.held out.old) (O.held out.new) (head.now ++ rest.now)) }
-    ensures cut { OnFalse result (IsCut (O.held out.old) (O.held out.new) (head.now ++ rest.now)) }
-    ensures cause { OnFalse result (HasRisen (O.faults out.old) (O.faults out.new)) }
-    ensures room { (n : ℕ) → O.has_room out.old n → length (head.now ++ rest.now) ≤ n → IsTrue result }
-{
-    put_all(out, head) && put_all(out, rest)
 }

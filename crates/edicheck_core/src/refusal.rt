@@ -24,6 +24,10 @@ pub fn refuse(alloc: Global, why: &Refusal) -> Made
             let line = print_parts(alloc, *kind, name.octets());
             Made::lines(Status::BadDirectory, line)
         }
+        Refusal::Store { name, at } => {
+            let line = print_misspelled(alloc, name.octets(), *at);
+            Made::lines(Status::BadDirectory, line)
+        }
     }
 }
 
@@ -71,6 +75,18 @@ fn print_parts(alloc: Global, kind: CompileKind, name: &[u8]) -> Result<Chunk, A
     line.add(kind.word())?;
     line.add(b" ")?;
     line.add(name)?;
+    line.add(b"\n")?;
+    Ok(line)
+}
+
+// The line of a named store that breaks a rule at a place.
+fn print_misspelled(alloc: Global, name: &[u8], at: usize) -> Result<Chunk, AllocError>
+    ensures { IfOk result (λ line. line ≡ codes "fault store " ++ name.now ++ codes " " ++ decimal at ++ 10 ∷ []) }
+{
+    let mut line = Chunk::of(alloc, b"fault store ")?;
+    line.add(name)?;
+    line.add(b" ")?;
+    put_decimal(&mut line, at as u64)?;
     line.add(b"\n")?;
     Ok(line)
 }

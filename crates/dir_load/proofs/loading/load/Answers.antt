@@ -1,47 +1,28 @@
-use Rattle.std.proofs.Common.{◌≡◌, Ok, Err, ◌∙◌, subst}
-use Rattle.std.proofs.lemmas.Result.{err_from_is_err_and}
-use Rattle.edi_tables.specs.First.{Answers, unless_faulty}
+use Rattle.std.proofs.Common.{◌≡◌, List, ℕ, true, false, sym, ap, ◌∙◌}
 use Rattle.dir_compile.specs.declared.parts.Parts.{Parts}
-use Rattle.dir_compile.specs.Directory.{directory_of}
-use Rattle.dir_compile.specs.Stop.{fault_in}
-use Rattle.dir_load.specs.declared.manifest.Manifest.{Manifest}
-use Rattle.dir_load.specs.Gathered.{found_of}
-use Rattle.dir_load.specs.Load.{file_by, found_on, refusals_of}
-use Rattle.dir_load.specs.Manifest.{manifest_in}
-use Rattle.dir_load.specs.Stop.{refusal_in}
-use Rattle.dir_load.proofs.AnswerLemmas.{Answers-at_file}
-use Rattle.dir_load.proofs.FormLemmas.{HasForms-parts}
-use Rattle.dir_load.proofs.LoadLemmas.{Answers-unread, Answers-refused, Answers-uncompiled, load_of-compiled}
+use Rattle.dir_load.specs.Load.{is_store}
+use Rattle.dir_load.proofs.LoadLemmas.{Answers-unread, load_of-lines, load_of-spelled, load_of-store}
 use Rattle.dir_load.proofs.loading.load.Goals as goal
 
 pub returns-in-Err-clause-loads : goal.returns-in-Err-clause-loads
 returns-in-Err-clause-loads g c files told =
-    let name = c.args.name.now in
-    Answers-unread (λ (d : Parts). d) files name (λ (m : Manifest). m) c.at_file.result (Answers-at_file (λ (m : Manifest). m) (λ (m : Manifest). m) name c.in-Err.stop c.at_file.result (file_by manifest_in files name) c.at_file.ensures (c.in-Err.ensures.reads files told))
+    Answers-unread (λ (d : Parts). d) files c.args.name.now (λ (octets : List ℕ). octets) c.in-Err.stop c.at_file.result (rw c.from.ensures at c.at_file.ensures) (c.in-Err.ensures.reads files told)
 
-pub returns-in_err-gathered-clause-loads : goal.returns-in_err-gathered-clause-loads
-returns-in_err-gathered-clause-loads g c files told =
-    let p = err_from_is_err_and c.from_residual.result c.from_residual.ensures.1 in
-    let stop = c.in_err-gathered.field-0.0 in
-    let given = subst (λ lines. Answers found_of refusal_in (Err stop) (unless_faulty (refusals_of files lines) (found_on files lines))) c.items.ensures (c.in_err-gathered.ensures.gathers files (c.in-Ok.ensures.files ∙ told)) in
-    rw (p.1, p.2) (Answers-refused (λ (d : Parts). d) files c.args.name.now c.in-Ok.manifest (c.in-Ok.ensures.reads files told) found_of stop given)
+pub returns-in-Err-clause-again : goal.returns-in-Err-clause-again
+returns-in-Err-clause-again g c = λ files directory. load_of-spelled files c.args.name.now directory
 
-pub returns-in_err-compile-clause-loads : goal.returns-in_err-compile-clause-loads
-returns-in_err-compile-clause-loads g c files told =
-    let p = err_from_is_err_and c.from_residual-in_err-compile.result c.from_residual-in_err-compile.ensures.1 in
-    let stop = c.in_err-compile.field-0.0 in
-    let found = found_of c.in_ok-gathered.gathered in
-    let gathers = subst (λ lines. Answers found_of refusal_in (Ok c.in_ok-gathered.gathered) (unless_faulty (refusals_of files lines) (found_on files lines))) c.items.ensures (c.in_ok-gathered.ensures.gathers files (c.in-Ok.ensures.files ∙ told)) in
-    let compiles = subst (λ parts. Answers (λ (d : Parts). d) fault_in (Err stop) (directory_of parts)) c.into_parts.ensures c.in_err-compile.ensures.answers in
-    rw (p.1, p.2) (Answers-uncompiled (λ (d : Parts). d) files c.args.name.now c.in-Ok.manifest (c.in-Ok.ensures.reads files told) found gathers stop compiles)
+pub returns-then-is_store-clause-loads : goal.returns-then-is_store-clause-loads
+returns-then-is_store-clause-loads g c files told =
+    let is : is_store c.in-Ok.octets.items ≡ true = sym (c.is_store.ensures ∙ ap is_store c.deref.ensures.value) ∙ c.if-is_store.true in
+    rw (load_of-store (λ (d : Parts). d) files c.args.name.now c.in-Ok.octets.items (c.in-Ok.ensures.reads files told) is) (rw c.deref-then-is_store.ensures.value at c.load_store.ensures.loads)
+
+pub returns-then-is_store-clause-again : goal.returns-then-is_store-clause-again
+returns-then-is_store-clause-again g c = λ files directory. load_of-spelled files c.args.name.now directory
 
 pub returns-clause-loads : goal.returns-clause-loads
 returns-clause-loads g c files told =
-    let found = found_of c.in_ok-gathered.gathered in
-    let gathers = subst (λ lines. Answers found_of refusal_in (Ok c.in_ok-gathered.gathered) (unless_faulty (refusals_of files lines) (found_on files lines))) c.items.ensures (c.in_ok-gathered.ensures.gathers files (c.in-Ok.ensures.files ∙ told)) in
-    let compiles = subst (λ parts. directory_of parts ≡ Ok c.in_ok-compile.field-0) c.into_parts.ensures c.in_ok-compile.ensures.answers in
-    load_of-compiled (λ (d : Parts). d) files c.args.name.now c.in-Ok.manifest (c.in-Ok.ensures.reads files told) found gathers c.in_ok-compile.field-0 compiles
+    let is : is_store c.in-Ok.octets.items ≡ false = sym (c.is_store.ensures ∙ ap is_store c.deref.ensures.value) ∙ c.if-is_store.false in
+    rw (load_of-lines (λ (d : Parts). d) files c.args.name.now c.in-Ok.octets.items (c.in-Ok.ensures.reads files told) is) (rw c.deref-else-is_store.ensures.value at c.load_lines.ensures.loads files (c.in-Ok.ensures.files ∙ told))
 
-pub compile-requires-clause-forms : goal.compile-requires-clause-forms
-compile-requires-clause-forms g c =
-    rw c.into_parts.ensures (HasForms-parts c.in-Ok.manifest.labels c.in_ok-gathered.gathered _ c.in-Ok.ensures.formed c.in_ok-gathered.ensures.formed)
+pub returns-clause-again : goal.returns-clause-again
+returns-clause-again g c = λ files directory. load_of-spelled files c.args.name.now directory

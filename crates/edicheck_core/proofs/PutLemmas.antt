@@ -1,0 +1,30 @@
+-- Octets that are put one after the other.
+use Rattle.std.proofs.Common.{◌≡◌, ◌++◌, ◌<◌, ℕ, Bool, true, false, List, [], ◌∷◌, length, take, Option, Some, None, IfSome, decimal, refl, sym, ap, ◌∙◌, subst, arith, length-append}
+use Rattle.std.proofs.lemmas.List.{append_assoc, take-append-le}
+use Rattle.std.specs.Bool.{OnTrue, OnFalse}
+use Rattle.edi_ports.specs.Sink.{IsCut}
+use Rattle.edicheck_core.specs.Put.{IsPutOut}
+use Rattle.edicheck_core.proofs.AnswerLemmas.{cut-after}
+
+-- what `put_all` says of one part
+pub put_out : (before now : Option (List ℕ)) (octets : List ℕ) (whole : Bool) → OnTrue whole (IfSome before (λ held. now ≡ Some (held ++ octets))) → OnFalse whole (IsCut before now octets) → IsPutOut before now octets whole
+put_out before now octets true put cut = put
+put_out before now octets false put cut = cut
+
+-- a part was put whole, and then the next one, or a proper prefix of it
+pub put_after : (before between now : Option (List ℕ)) (head rest : List ℕ) (whole : Bool) → IsPutOut before between head true → IsPutOut between now rest whole → IsPutOut before now (head ++ rest) whole
+put_after None between now head rest true put next = tt
+put_after None between now head rest false put next = tt
+put_after (Some held) between now head rest true put next =
+    subst (λ (o : Option (List ℕ)). IsPutOut o now rest true) put next ∙ ap Some (append_assoc held head rest)
+put_after (Some held) between now head rest false put next = cut-after (Some held) between now head rest put next
+
+-- a function tells whether all of a part was put
+pub put_at : (before now : Option (List ℕ)) (octets : List ℕ) (whole : Bool) (told : Bool) → whole ≡ told → IsPutOut before now octets whole → IsPutOut before now octets told
+put_at before now octets whole told is put = subst (λ (b : Bool). IsPutOut before now octets b) is put
+
+-- a line of words and a number, and octets with LF after it
+pub counted_put : (before between now : Option (List ℕ)) (words octets : List ℕ) (whole : Bool) → IsPutOut before between (words ++ 10 ∷ []) true → IsPutOut between now (octets ++ 10 ∷ []) whole → IsPutOut before now (words ++ 10 ∷ (octets ++ 10 ∷ [])) whole
+counted_put before between now words octets whole put next =
+    subst (λ (xs : List ℕ). IsPutOut before now xs whole) (append_assoc words (10 ∷ []) (octets ++ 10 ∷ []))
+    (put_after before between now (words ++ 10 ∷ []) (octets ++ 10 ∷ []) whole put next)

@@ -1,0 +1,12 @@
+use Rattle.std.proofs.Common.{◌++◌, ◌∙◌, ◌≡◌, List, ℕ, true, decimal, ap, subst}
+use Rattle.edicheck_core.specs.Put.{IsPutOut}
+use Rattle.edicheck_core.proofs.PutLemmas.{put_after, put_at, put_out}
+use Rattle.edicheck_core.proofs.put.put_numbered.Goals as goal
+
+pub returns-then-put_pair-clause-put : goal.returns-then-put_pair-clause-put
+returns-then-put_pair-clause-put g c =
+    let digits : c.as_bytes.result.now ≡ decimal c.args.n = c.as_bytes.ensures.value ∙ c.format.ensures.text in
+    put_after (g.O.Sink.held c.args.out.now) (g.O.Sink.held c.put_pair.new.out) (g.O.Sink.held c.put_all.new.out) (c.args.head.now ++ decimal c.args.n) c.args.rest.now c.put_all.result
+    (subst (λ (xs : List ℕ). IsPutOut (g.O.Sink.held c.args.out.now) (g.O.Sink.held c.put_pair.new.out) (c.args.head.now ++ xs) true) digits
+    (put_at _ _ _ c.put_pair.result true c.if-put_pair.true c.put_pair.ensures.put))
+    (put_out _ _ _ c.put_all.result c.put_all.ensures.whole c.put_all.ensures.cut)

@@ -1,0 +1,131 @@
+//! What an edit comes to.
+ghost use Rattle.std.specs.Prelude.{◌≡◌, ◌≢◌, ◌⊎◌, ◌<◌, ◌≤◌, ◌++◌, ℕ, List, Some, length};
+ghost use Rattle.edi_ports.specs.Faults.{HasRisen};
+ghost use Rattle.edit_script.specs.Script.{AreCommands, script_text};
+ghost use Rattle.edit_script.specs.declared.command.Command.{Command};
+ghost use Rattle.edicheck_core.specs.Answer.{HasFailed, IsEdited, IsScriptBegun};
+ghost use Rattle.edicheck_core.specs.Edit.{IsEnded, longest_script};
+ghost use Rattle.edicheck_core.specs.Form.{Edit};
+ghost use Rattle.edicheck_core.specs.Inputs.{inputs_of, held_of};
+ghost use Rattle.edicheck_core.specs.Made.{made_by};
+ghost use Rattle.edicheck_core.specs.Opening.{IsToldOpening, Opened};
+ghost use Rattle.edicheck_core.specs.Outcome.{Outcome};
+
+use crate::Status;
+use crate::finish::finish;
+use crate::opening::open_both;
+use crate::outcome::Made;
+use crate::script::answer_script;
+use dir_compile::Directory;
+use edi_engine::Engine;
+use edi_ports::{Shelf, Sink, Source};
+use std::alloc::Global;
+use std::marker::Brand;
+use std::sync::ledger::{Blank, Ledger};
+use step_counter::Steps;
+
+/// Answers the script on the input, on the text of that name, by the directory of that manifest; or puts the refusal of
+/// one of these, and takes nothing.
+pub fn edit_text<S: Shelf, I: Source, O: Sink>(
+    alloc: Global,
+    manifest: &[u8],
+    text: &[u8],
+    shelf: &mut S,
+    input: &mut I,
+    out: &mut O,
+) -> Status
+    ensures edited { IsEdited manifest.now text.now
+        (inputs_of S.Shelf shelf.old I.Source input.old) (inputs_of S.Shelf shelf.new I.Source input.new)
+        (held_of O.Sink out.old) (held_of O.Sink out.new) result }
+    ensures files { S.files shelf.new ≡ S.files shelf.old }
+    ensures steady { I.is_steady input.old → S.is_steady shelf.old → result ≢ Status.ReadFault }
+
+    // A refusal in place of a script is put whole where the sink has room.
+    ensures refused { (due : Outcome) (n : ℕ)
+        → made_by (Some (Edit manifest.now text.now)) (inputs_of S.Shelf shelf.old I.Source input.old) ≡ Some due
+        → S.is_steady shelf.old → O.has_room out.old n → length due.output ≤ n → 13 ≤ n
+        → (result ≡ due.status) ⊎ (result ≡ Status.Memory) }
+
+    // A script that ends with `end` is answered whole where no object that is needed failed.
+    ensures script { (begun : Opened) (cs : List Command) (more : List ℕ)
+        → IsToldOpening manifest.now text.now (S.files shelf.old) begun
+        → I.rest input.old ≡ Some (script_text cs ++ more)
+        → AreCommands cs → IsEnded cs → length (script_text cs) ≤ longest_script
+        → (HasFailed (Some (Edit manifest.now text.now)) (inputs_of S.Shelf shelf.old I.Source input.old)
+        (inputs_of S.Shelf shelf.new I.Source input.new) → ⊥)
+        → (HasRisen (O.faults out.old) (O.faults out.new) → ⊥)
+        → (result ≡ Status.Done) ⊎ (result ≡ Status.Memory) }
+{
+    match open_both(alloc, manifest, text, shelf) {
+        Ok(opening) => edit_opened(alloc, &opening.directory, &opening.text, input, out),
+        Err(made) => finish(out, &made),
+    }
+}
+
+// Answers the script on a text, by a directory; or tells want of memory, and takes nothing.
+fn edit_opened<I: Source, O: Sink>(
+    alloc: Global,
+    directory: &Directory,
+    octets: &[u8],
+    input: &mut I,
+    out: &mut O,
+) -> Status
+    requires { length octets.now ≤ 4194304 }
+    ensures run { IsScriptBegun directory.now octets.now (I.rest input.old) (I.rest input.new)
+        (I.faults input.old) (I.faults input.new) (held_of O.Sink out.old) (held_of O.Sink out.new) result }
+    ensures steady { I.is_steady input.old → result ≢ Status.ReadFault }
+    ensures complete { (cs : List Command) (more : List ℕ)
+        → I.rest input.old ≡ Some (script_text cs ++ more)
+        → AreCommands cs → IsEnded cs → length (script_text cs) ≤ longest_script
+        → (HasRisen (I.faults input.old) (I.faults input.new) → ⊥)
+        → (HasRisen (O.faults out.old) (O.faults out.new) → ⊥)
+        → (result ≡ Status.Done) ⊎ (result ≡ Status.Memory) }
+{
+    edit_counted::<Brand, Brand, I, O>(
+        alloc,
+        directory,
+        octets,
+        Blank::new(1),
+        Blank::new(1),
+        input,
+        out,
+    )
+}
+
+fn edit_counted<L: Ledger, M: Ledger, I: Source, O: Sink>(
+    alloc: Global,
+    directory: &Directory,
+    octets: &[u8],
+    lexing: Blank,
+    placing: Blank,
+    input: &mut I,
+    out: &mut O,
+) -> Status
+    requires short { length octets.now ≤ 4194304 }
+    requires lexing_name { lexing.name ≡ L.name }
+    requires lexing_parts { lexing.parts ≡ L.parts }
+    requires lexing_some { 0 < lexing.parts }
+    requires placing_name { placing.name ≡ M.name }
+    requires placing_parts { placing.parts ≡ M.parts }
+    requires placing_some { 0 < placing.parts }
+    ensures run { IsScriptBegun directory.now octets.now (I.rest input.old) (I.rest input.new)
+        (I.faults input.old) (I.faults input.new) (held_of O.Sink out.old) (held_of O.Sink out.new) result }
+    ensures steady { I.is_steady input.old → result ≢ Status.ReadFault }
+    ensures complete { (cs : List Command) (more : List ℕ)
+        → I.rest input.old ≡ Some (script_text cs ++ more)
+        → AreCommands cs → IsEnded cs → length (script_text cs) ≤ longest_script
+        → (HasRisen (I.faults input.old) (I.faults input.new) → ⊥)
+        → (HasRisen (O.faults out.old) (O.faults out.new) → ⊥)
+        → (result ≡ Status.Done) ⊎ (result ≡ Status.Memory) }
+{
+    let mut lexed = Steps::<L>::start(lexing);
+    let mut placed = Steps::<M>::start(placing);
+    match Engine::open(directory, alloc, octets, &mut lexed, &mut placed) {
+        Ok(mut engine) => {
+            // Its directory places the segments of messages in the trees of every text.
+            let _directory = engine.directory();
+            answer_script(alloc, &mut engine, &mut lexed, &mut placed, input, out)
+        }
+        Err(_) => finish(out, &Made::memory_refused()),
+    }
+}

@@ -1,6 +1,6 @@
 #!/bin/sh
-# Makes two directories and prints time and peak memory of `tables` on them: one of a usual size, and one whose segment
-# table is as long as can be, with one tag on every row but the first and the last.
+# Makes two directories and prints time and peak memory of `tables` on them, from their files and from their stores: one of
+# a usual size, and one whose segment table is as long as can be, with one tag on every row but the first and the last.
 # usage: bench/tables.sh   (the program is built first)
 set -eu
 top=$(cd "$(dirname "$0")/.." && pwd)
@@ -131,6 +131,9 @@ write_usual()
 write_longest()
 P
 for directory in usual longest; do
+    (cd "$work" && "$program" compile "$directory" >"store.$directory")
+done
+for directory in usual store.usual longest store.longest; do
     python3 - "$program" "$work" "$directory" <<'P'
 import glob, os, re, resource, subprocess, sys, time
 
@@ -148,6 +151,6 @@ out = run.stdout.decode()
 size = sum(os.path.getsize(file) for file in glob.glob(f"{folder}/{name}*"))
 tables = len(re.findall(r"^table ", out, re.M))
 collisions = sum(int(count) for count in re.findall(r"^collisions (\d+)$", out, re.M))
-print(f"{name:8} {best:6.3f} s {peak:5} MiB {size:8} octets of files {tables:4} tables {collisions:5} collisions")
+print(f"{name:13} {best:6.3f} s {peak:5} MiB {size:8} octets of files {tables:4} tables {collisions:5} collisions")
 P
 done

@@ -1,3 +1,4 @@
+pub mod AscendingLemmas
 pub mod BridgeLemmas
 pub mod ElementLemmas
 mod ErrorsLemmas

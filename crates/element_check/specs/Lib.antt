@@ -1,3 +1,4 @@
+pub mod Ascending
 pub mod Local
 pub mod Repertoire
 pub mod Rules

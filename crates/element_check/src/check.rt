@@ -4,6 +4,7 @@ ghost use Rattle.seg_lexer.specs.Fields.{IsInOrder, components_at};
 ghost use Rattle.seg_lexer.specs.Left.{components_left};
 ghost use Rattle.seg_lexer.specs.Service.{IsUsable};
 ghost use Rattle.seg_lexer.specs.declared.TheConstants.{LONGEST_TEXT};
+ghost use Rattle.element_check.specs.Ascending.{AreAscending};
 ghost use Rattle.element_check.specs.Local.{elements_errors, local_errors_of};
 ghost use Rattle.element_check.specs.Streams.{items_errors, surplus_elements};
 
@@ -35,6 +36,7 @@ pub fn check_segment<O: Octets>(
     requires within { end ≤ length (O.octets text.now) }
     ensures errors { IfOk result (λ list. list.items
         ≡ local_errors_of directory.now context.now (components_at context.now.service (O.octets text.now) start end)) }
+    ensures ascending { IfOk result (λ list. AreAscending list.items) }
     ensures only_past_four { IsErr result
         → 4 < length (local_errors_of directory.now context.now (components_at context.now.service (O.octets text.now) start end)) }
 {

@@ -1,10 +1,11 @@
 -- The errors of a segment, one component after another.
-use Rattle.std.proofs.Common.{◌≡◌, ℕ, suc, ◌+◌, ◌<◌, ◌≤◌, ltb, eqb, Bool, true, false, not, ◌&&◌, cond, List, [], ◌∷◌, ◌++◌, drop, get_or, length, refl, sym, ap, ◌∙◌, arith, add-one}
+use Rattle.std.proofs.Common.{◌≡◌, ℕ, suc, ◌+◌, ◌<◌, ◌≤◌, ltb, eqb, Bool, true, false, not, ◌&&◌, ◌||◌, cond, List, [], ◌∷◌, ◌++◌, drop, get_or, length, refl, sym, ap, ◌∙◌, arith, add-one}
 use Rattle.std.proofs.Math.ListN.{drop_of_length-le}
 use Rattle.std.proofs.Math.Nat.{le_refl}
 use Rattle.std.proofs.Math.Seq.{drop-cons}
 use Rattle.std.proofs.lemmas.Bool.Decides.{nat_tests}
 use Rattle.std.specs.Prelude.{Option, Some, None, MatchOption, unwrap_or, if◌then◌else◌}
+use Rattle.std.specs.List.{list_any}
 use Rattle.std.specs.Option.{option_map}
 use Rattle.edi_tables.specs.Rows.{when}
 use Rattle.edi_tables.specs.declared.element.CodeList.{CodeList}
@@ -14,7 +15,7 @@ use Rattle.error_ledger.specs.declared.kind.Kind.{Kind}
 use Rattle.error_ledger.specs.declared.kind.Kind.TheVariants.{TooManyElements, TooManyComponents, Missing}
 use Rattle.seg_lexer.specs.Fields.{Component}
 use Rattle.seg_lexer.specs.declared.context.Context.{Context}
-use Rattle.element_check.specs.Local.{error_at, is_list_named}
+use Rattle.element_check.specs.Local.{error_at, is_filled, is_list_named, names_list}
 use Rattle.element_check.specs.Rules.{SegmentRules, list_of}
 use Rattle.element_check.specs.Streams.{after_front, alone_errors, first_value, front_values, item_errors, items_errors, later_values, part_errors, parts_errors, surplus_components, surplus_elements, test_results, told_errors}
 use Rattle.element_check.specs.declared.error.LocalError.{LocalError}
@@ -116,6 +117,24 @@ told-next element component ps i d within = ap (told_errors element component) (
 pub is_list_named-none : (parts : List PartDef) (values : List (List ℕ)) → values ≡ [] → is_list_named parts values ≡ false
 is_list_named-none [] values none = refl
 is_list_named-none (part ∷ parts) values none = ap (is_list_named (part ∷ parts)) none
+
+-- a part that names no list, before parts that don't either
+head_names_none : (a b : Bool) → (a || b) ≡ false → a ≡ false
+head_names_none true b h = absurd (cc)
+head_names_none false b h = refl
+
+tail_names_none : (a b : Bool) → (a || b) ≡ false → b ≡ false
+tail_names_none true b h = absurd (cc)
+tail_names_none false b h = h
+
+-- where no part is for a list's name, no component names a list
+pub unnamed_list : (parts : List PartDef) (values : List (List ℕ)) → list_any names_list parts ≡ false → is_list_named parts values ≡ false
+unnamed_list [] values none = refl
+unnamed_list (part ∷ parts) [] none = refl
+unnamed_list (part ∷ parts) (value ∷ values) none =
+    let here : names_list part ≡ false = head_names_none (names_list part) (list_any names_list parts) none in
+    ap (λ b. (b && is_filled value) || is_list_named parts values) here
+    ∙ unnamed_list parts values (tail_names_none (names_list part) (list_any names_list parts) none)
 
 -- the items of the rules, from place i on
 pub items-step : (rules : SegmentRules) (n : ℕ) (given : List ItemDef) (i : ℕ) (d : ItemDef) (components : List Component) → given ≡ rules.items → i < length given

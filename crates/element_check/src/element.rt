@@ -3,7 +3,7 @@ ghost use Rattle.std.specs.Prelude.{[], ◌≡◌, ◌+◌, ◌++◌, ◌<◌, �
 ghost use Rattle.std.specs.List.{list_any};
 ghost use Rattle.std.specs.Option.{option_map};
 ghost use Rattle.seg_lexer.specs.Value.{octets_of};
-ghost use Rattle.element_check.specs.Local.{is_filled as is_filled_of, is_list_named as is_list_named_of};
+ghost use Rattle.element_check.specs.Local.{is_filled as is_filled_of, is_list_named as is_list_named_of, names_list};
 ghost use Rattle.element_check.specs.Streams.{alone_errors, composite_errors, item_errors, part_errors, parts_errors, surplus_components, values_left};
 
 use crate::error::Errors;
@@ -92,8 +92,21 @@ fn is_any_filled<O: Octets>(values: ElementValues<'_, O>) -> bool
 /// The data element that says which list the codes of its composite are from.
 const LIST_NAME: [u8; 4] = *b"1131";
 
-/// Whether a composite itself names the list that its codes are from.
+/// Whether a composite itself names the list that its codes are from. Few have a part for that, and else no value is read.
+#[tactic(auto, using(crate::proofs::StreamLemmas::unnamed_list))]
 fn is_list_named<O: Octets>(parts: &[PartDef], values: ElementValues<'_, O>) -> bool
+    ensures { result ≡ is_list_named_of parts.now (values_left values.entry) }
+{
+    has_list_name(parts) && is_list_name_filled(parts, values)
+}
+
+fn has_list_name(parts: &[PartDef]) -> bool
+    ensures { result ≡ list_any names_list parts.now }
+{
+    parts.iter().any(|part| part.code.octets == LIST_NAME)
+}
+
+fn is_list_name_filled<O: Octets>(parts: &[PartDef], values: ElementValues<'_, O>) -> bool
     ensures { result ≡ is_list_named_of parts.now (values_left values.entry) }
 {
     let mut values = values;

@@ -1,7 +1,7 @@
 use Rattle.std.proofs.Common.{◌≡◌, drop}
 use Rattle.element_check.specs.Local.{is_list_named}
 use Rattle.element_check.specs.Streams.{values_left}
-use Rattle.element_check.proofs.element.is_list_named.Given as goal
+use Rattle.element_check.proofs.element.is_list_name_filled.Given as goal
 
 -- no part so far names a list
 abbrev pub invariant-loop-part : goal.invariant-loop-part

@@ -113,7 +113,7 @@ fn a_script_is_answered_up_to_a_fault(rt: HostRuntime) -> Result<(), Fail> {
 #[test]
 fn a_reply_is_of_the_text_after_the_edits_before_it(rt: HostRuntime) -> Result<(), Fail> {
     let script: &[u8] =
-        b"replace 8 1 1\nB\ntext\nreplace 16 0 0\n\ncontrl 960106:0800 C1\nend\ntext\n";
+        b"replace 7 1 1\nB\ntext\nreplace 16 0 0\n\ncontrl 960106:0800 C1\nend\ntext\n";
     let replies: &[u8] = b"ok 15\ntext 15\nUNB+UNOB:3'UNZ'\nno range\nbad unb\nend\n";
     let (status, held) = run_in_memory(rt.alloc(), &[b"edit", b"m", b"o"], script, STEADY)?;
     assert_eq!(rt; status, Status::Done);

@@ -1,4 +1,5 @@
 pub mod Faults
+pub mod FolderShelf
 pub mod MemShelf
 pub mod MemSink
 pub mod MemSource

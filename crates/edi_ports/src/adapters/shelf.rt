@@ -1,18 +1,27 @@
 //! The files of the folder that the program runs in.
-ghost use Rattle.std.specs.Prelude.{◌≡◌, ◌<◌, ◌^◌, None, false, is_some, option_and_then};
+ghost use Rattle.std.specs.Prelude.{◌≡◌, ◌<◌, ◌^◌, None, false};
 
 use crate::adapters::calls::{raise, take_once};
 use crate::{Opened, Shelf, Taken};
 use std::rt::Files;
 use std::{fs, io};
 
-/// The files of the folder that the program runs in, each opened by its name as a path. One call makes one call
-/// of std's open or read. A file that isn't found is absent; each other error is a fault, and so is a name that isn't
-/// UTF-8, which can't name a file here.
+// What is held of the file that is open: nothing where none is. A file whose end was read is let go, since its number
+// may be that of a standard input that was closed: a read of that input is then to fail, and not to read the file.
+#[derive(Drop)]
+enum Held<F> {
+    Nothing,
+    File(F),
+    Ended,
+}
+
+/// The files of the folder that the program runs in, each opened by its name as a path. One call makes at most one call
+/// of std's open or read; the end of a file is read once, and told from then on. A file that isn't found is absent; each
+/// other error is a fault, and so is a name that isn't UTF-8, which can't name a file here.
 #[derive(Drop)]
 pub struct FolderShelf<R: Files> {
     files: R,
-    file: Option<R::File>,
+    held: Held<R::File>,
     faults: u64,
     ghost fits: { faults < 2 ^ 64 },
 }
@@ -25,18 +34,20 @@ impl<R: Files> FolderShelf<R> {
     {
         FolderShelf {
             files,
-            file: None,
+            held: Held::Nothing,
             faults: 0,
         }
     }
 }
 
 impl<R: Files> Shelf for FolderShelf<R> {
+    ghost use Rattle.edi_ports.specs.FolderShelf.{rest_in, is_open_in};
+
     ghost files = { λ _. None };
 
-    ghost rest = { λ s. option_and_then R.File.remaining s.file };
+    ghost rest = { λ s. rest_in R.File.remaining s.held };
 
-    ghost is_open = { λ s. is_some s.file };
+    ghost is_open = { λ s. is_open_in s.held };
 
     ghost faults = { λ s. s.faults };
 
@@ -45,14 +56,14 @@ impl<R: Files> Shelf for FolderShelf<R> {
     ghost fits = { λ shelf. shelf.fits };
 
     fn open(&mut self, name: &[u8]) -> Opened {
-        self.file = None;
+        self.held = Held::Nothing;
         let Ok(path) = str::from_utf8(name) else {
             raise(&mut self.faults);
             return Opened::Failed;
         };
         match fs::open(&self.files, path) {
             Ok(file) => {
-                self.file = Some(file);
+                self.held = Held::File(file);
                 Opened::Open
             }
             Err(e) if e.kind() == io::ErrorKind::NotFound => Opened::Absent,
@@ -64,9 +75,14 @@ impl<R: Files> Shelf for FolderShelf<R> {
     }
 
     fn take(&mut self, buffer: &mut [u8]) -> Taken {
-        let Some(file) = &mut self.file else {
-            unreachable!()
+        let taken = match &mut self.held {
+            Held::Nothing => unreachable!(),
+            Held::File(file) => take_once(file, buffer, &mut self.faults),
+            Held::Ended => Taken::End,
         };
-        take_once(file, buffer, &mut self.faults)
+        if matches!(taken, Taken::End) {
+            self.held = Held::Ended;
+        }
+        taken
     }
 }

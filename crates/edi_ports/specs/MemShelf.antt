@@ -39,7 +39,8 @@ opened_next shelf name =
 abbrev pub taken_next : MemShelf → ℕ → Taken
 taken_next shelf size =
     if fails_next shelf.calls then taken.Failed
-    else (if length (rest_of shelf) == 0 then taken.End else taken.Got (min (min (length (rest_of shelf)) shelf.most) size))
+    else (if length (rest_of shelf) == 0 then taken.End
+    else taken.Got (min (min (length (rest_of shelf)) shelf.most) size))
 
 -- one more call is counted, and the most that a call gives stays
 abbrev pub IsNextCall : MemShelf → MemShelf → Type 0

@@ -28,11 +28,16 @@ abbrev pub put_next : MemSink → ℕ → Put
 put_next sink size =
     if fails_next sink.calls then Failed else (if taken_of sink size == 0 then Failed else Took (taken_of sink size))
 
--- one more call is counted, and a fault where no room is left; the room and the most that a call takes stay
+-- the calls after one more, with a part of this length: it fails where it is to fail, and where no room is left
+abbrev pub calls_after : MemSink → ℕ → Calls
+calls_after before size =
+    let counted : Calls = after_call before.calls in
+    if fails_next before.calls then counted else (if taken_of before size == 0 then after_fault counted else counted)
+
+-- one more call is counted; the room and the most that a call takes stay
 abbrev pub IsNextCall : MemSink → MemSink → ℕ → Type 0
 IsNextCall before now size =
-    let counted : Calls = after_call before.calls in
-    (now.calls ≡ (if fails_next before.calls then counted else (if taken_of before size == 0 then after_fault counted else counted))) × (now.room ≡ before.room) × (now.most ≡ before.most)
+    (now.calls ≡ calls_after before size) × (now.room ≡ before.room) × (now.most ≡ before.most)
 
 -- before its first call: room for so many octets, at most so many a call, and these calls are to fail
 abbrev pub IsMade : ℕ → ℕ → Vec ℕ Global → MemSink → Type 0

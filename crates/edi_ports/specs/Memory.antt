@@ -20,4 +20,5 @@ after_fault calls = record calls { faults = one_more calls.faults }
 -- after the next call
 abbrev pub after_call : Calls → Calls
 after_call calls =
-    let made : Calls = record calls { made = one_more calls.made } in if fails_next calls then after_fault made else made
+    let made : Calls = record calls { made = one_more calls.made } in
+    if fails_next calls then after_fault made else made

@@ -10,7 +10,8 @@ TakesFront before now P = IfSome before (λ rest. (n : ℕ) × (n ≤ length res
 
 -- the whole rest, within the limit; too long is more than the limit; at another stop the limit wasn't passed
 abbrev pub IsReadAll : Option (List ℕ) → Option (List ℕ) → ℕ → Result (Vec ℕ Global) ReadStop → Type 0
-IsReadAll before now limit (Ok read) = (length read.items ≤ limit) × IfSome before (λ rest. (read.items ≡ rest) × (now ≡ Some []))
+IsReadAll before now limit (Ok read) =
+    (length read.items ≤ limit) × IfSome before (λ rest. (read.items ≡ rest) × (now ≡ Some []))
 IsReadAll before now limit (Err TooLong) = TakesFront before now (λ n. limit < n)
 IsReadAll before now limit (Err Fault) = TakesFront before now (λ n. n ≤ limit)
 IsReadAll before now limit (Err Memory) = TakesFront before now (λ n. n ≤ limit)
@@ -25,4 +26,5 @@ IsGathering before now part limit (Err Fault) = ⊥
 -- these octets were taken from the front of the rest, and those are left
 abbrev pub HasTaken : Option (List ℕ) → List ℕ → Option (List ℕ) → Type 0
 HasTaken whole taken left =
-    IfSome whole (λ rest. (length taken ≤ length rest) × (taken ≡ take (length taken) rest) × (left ≡ Some (drop (length taken) rest)))
+    IfSome whole (λ rest. (length taken ≤ length rest) × (taken ≡ take (length taken) rest)
+    × (left ≡ Some (drop (length taken) rest)))

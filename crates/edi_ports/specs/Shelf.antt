@@ -13,7 +13,8 @@ file_named name (file ∷ files) = if bytes_eq file.name name then Some file.oct
 
 -- the whole of the named file is the rest; or there is no such file; a fault tells nothing of the files
 abbrev pub IsOpening : Option (List ShelfFile) → List ℕ → Option (List ℕ) → Opened → Type 0
-IsOpening files name rest Open = IfSome files (λ files. (octets : List ℕ) × (file_named name files ≡ Some octets) × (rest ≡ Some octets))
+IsOpening files name rest Open =
+    IfSome files (λ files. (octets : List ℕ) × (file_named name files ≡ Some octets) × (rest ≡ Some octets))
 IsOpening files name rest Absent = IfSome files (λ files. file_named name files ≡ None)
 IsOpening files name rest Failed = Unit {0}
 

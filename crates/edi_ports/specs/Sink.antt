@@ -36,4 +36,5 @@ pub record HasPut (whole held : Option (List ℕ)) (part left : List ℕ) : Type
 -- a writer took these octets from the front of the part; at a fault it took so many as it took
 abbrev pub IsWritten : Option (List ℕ) → Option (List ℕ) → List ℕ → Put → Type 0
 IsWritten before now part (Took n) = IfSome before (λ held. now ≡ Some (held ++ take n part))
-IsWritten before now part Failed = IfSome before (λ held. (n : ℕ) × (n ≤ length part) × (now ≡ Some (held ++ take n part)))
+IsWritten before now part Failed =
+    IfSome before (λ held. (n : ℕ) × (n ≤ length part) × (now ≡ Some (held ++ take n part)))

@@ -4,10 +4,12 @@ use Rattle.edi_ports.specs.declared.source.Taken.{Taken}
 use Rattle.edi_ports.specs.declared.source.Taken.TheVariants.{Got, End, Failed}
 use Rattle.edi_ports.specs.Faults.{one_more}
 
--- n octets moved from the front of the rest to the front of the buffer, which isn't left empty; at the end and at a fault the rest stays
+-- n octets moved from the front of the rest to the front of the buffer, one at least; at the end and at a fault the
+-- rest stays
 abbrev pub IsTake : Option (List ℕ) → Option (List ℕ) → List ℕ → Taken → Type 0
 IsTake before now buffer (Got n) =
-    (0 < n) × (n ≤ length buffer) × IfSome before (λ rest. (n ≤ length rest) × (take n buffer ≡ take n rest) × (now ≡ Some (drop n rest)))
+    (0 < n) × (n ≤ length buffer)
+    × IfSome before (λ rest. (n ≤ length rest) × (take n buffer ≡ take n rest) × (now ≡ Some (drop n rest)))
 IsTake before now buffer End = IfSome before (λ rest. (rest ≡ []) × (now ≡ Some rest))
 IsTake before now buffer Failed = IfSome before (λ rest. now ≡ Some rest)
 

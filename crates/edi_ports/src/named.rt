@@ -54,8 +54,10 @@ pub fn read_named<S: Shelf>(
     ensures short { IfOk result (λ octets. length octets.items ≤ limit) }
     ensures files { S.files shelf.new ≡ S.files shelf.old }
     ensures counted { S.faults shelf.old ≤ S.faults shelf.new }
-    ensures cause { IsErrOf result NamedStop.Fault → HasRisen (S.faults shelf.old) (S.faults shelf.new) }
-    ensures steady { S.is_steady shelf.old → (IsErrOf result NamedStop.Fault → ⊥) × S.is_steady shelf.new }
+    ensures cause { IsErrOf result NamedStop.Fault
+        → HasRisen (S.faults shelf.old) (S.faults shelf.new) }
+    ensures steady { S.is_steady shelf.old
+        → (IsErrOf result NamedStop.Fault → ⊥) × S.is_steady shelf.new }
 {
     match shelf.open(name) {
         Opened::Open => Ok(read_file(alloc, shelf, limit)?),

@@ -37,8 +37,10 @@ impl From<AllocError> for ReadStop {
 pub fn read_all<I: Source>(alloc: Global, input: &mut I, limit: usize) -> Result<Vec<u8>, ReadStop>
     ensures reads { IsReadAll (I.rest input.old) (I.rest input.new) limit result }
     ensures counted { I.faults input.old ≤ I.faults input.new }
-    ensures cause { IsErrOf result ReadStop.Fault → HasRisen (I.faults input.old) (I.faults input.new) }
-    ensures steady { I.is_steady input.old → (IsErrOf result ReadStop.Fault → ⊥) × I.is_steady input.new }
+    ensures cause { IsErrOf result ReadStop.Fault
+        → HasRisen (I.faults input.old) (I.faults input.new) }
+    ensures steady { I.is_steady input.old
+        → (IsErrOf result ReadStop.Fault → ⊥) × I.is_steady input.new }
 {
     let mut rest = Vec::new(alloc);
     let mut buffer = [0u8; BUFFER];
@@ -57,8 +59,10 @@ pub fn read_file<S: Shelf>(alloc: Global, shelf: &mut S, limit: usize) -> Result
     ensures reads { IsReadAll (S.rest shelf.old) (S.rest shelf.new) limit result }
     ensures files { S.files shelf.new ≡ S.files shelf.old }
     ensures counted { S.faults shelf.old ≤ S.faults shelf.new }
-    ensures cause { IsErrOf result ReadStop.Fault → HasRisen (S.faults shelf.old) (S.faults shelf.new) }
-    ensures steady { S.is_steady shelf.old → (IsErrOf result ReadStop.Fault → ⊥) × S.is_steady shelf.new }
+    ensures cause { IsErrOf result ReadStop.Fault
+        → HasRisen (S.faults shelf.old) (S.faults shelf.new) }
+    ensures steady { S.is_steady shelf.old
+        → (IsErrOf result ReadStop.Fault → ⊥) × S.is_steady shelf.new }
 {
     let mut octets = Vec::new(alloc);
     let mut buffer = [0u8; BUFFER];

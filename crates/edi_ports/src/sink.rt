@@ -28,7 +28,8 @@ pub trait Sink {
         requires { 0 < length part.now }
         ensures put { IsPut (held self.old) (held self.new) part.now result }
         ensures counted { faults self.new ≡ count_after_put (faults self.old) result }
-        ensures room { (n : ℕ) → has_room self.old n → length part.now ≤ n → KeepsRoom (has_room self.new) n result };
+        ensures room { (n : ℕ) → has_room self.old n → length part.now ≤ n
+            → KeepsRoom (has_room self.new) n result };
 
     /// The count is a number of 64 bits.
     ghost fits: { (sink : Self) → faults sink < 2 ^ 64 };
@@ -37,11 +38,13 @@ pub trait Sink {
 /// Appends the whole part. `false` comes only where the sink failed, and then a proper prefix was appended.
 /// It takes no memory, and asks nothing of a sink that has failed.
 pub fn put_all<O: Sink>(out: &mut O, part: &[u8]) -> bool
-    ensures whole { OnTrue result (IfSome (O.held out.old) (λ held. O.held out.new ≡ Some (held ++ part.now))) }
+    ensures whole { OnTrue result
+        (IfSome (O.held out.old) (λ held. O.held out.new ≡ Some (held ++ part.now))) }
     ensures cut { OnFalse result (IsCut (O.held out.old) (O.held out.new) part.now) }
     ensures counted { O.faults out.old ≤ O.faults out.new }
     ensures cause { OnFalse result (HasRisen (O.faults out.old) (O.faults out.new)) }
-    ensures room { (n : ℕ) → O.has_room out.old n → length part.now ≤ n → IsTrue result × O.has_room out.new (n - length part.now) }
+    ensures room { (n : ℕ) → O.has_room out.old n → length part.now ≤ n
+        → IsTrue result × O.has_room out.new (n - length part.now) }
 {
     let mut rest = part;
     while !rest.is_empty() {

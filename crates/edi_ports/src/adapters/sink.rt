@@ -44,7 +44,8 @@ impl<W: Write> Sink for StdSink<W> {
         ensures put { IsPut None None part.now result }
         ensures counted { faults_of self.new ≡ count_after_put (faults_of self.old) result }
         ensures room { (n : ℕ) → ⊥ → length part.now ≤ n → KeepsRoom (λ _. ⊥) n result }
-        ensures written { IsWritten (written_by W.contents self.old) (written_by W.contents self.new) part.now result }
+        ensures written { IsWritten (written_by W.contents self.old)
+            (written_by W.contents self.new) part.now result }
     {
         let taken = write_once(&mut self.writer, part).unwrap_or(0);
         if taken == 0 {
@@ -58,8 +59,10 @@ impl<W: Write> Sink for StdSink<W> {
 // One call of `write`, and one of `flush` after it.
 fn write_once<W: Write>(writer: &mut W, part: &[u8]) -> io::Result<usize>
     ensures bound { IfOk result (λ n. n ≤ length part.now) }
-    ensures ok { IfOk result (λ n. IsWritten (W.contents writer.old) (W.contents writer.new) part.now (Put.Took n)) }
-    ensures err { OnErr result (IsWritten (W.contents writer.old) (W.contents writer.new) part.now Put.Failed) }
+    ensures ok { IfOk result (λ n. IsWritten (W.contents writer.old) (W.contents writer.new)
+        part.now (Put.Took n)) }
+    ensures err { OnErr result (IsWritten (W.contents writer.old) (W.contents writer.new)
+        part.now Put.Failed) }
 {
     let taken = writer.write(part)?;
     writer.flush()?;

@@ -27,7 +27,8 @@ impl Calls {
     pub(crate) fn next_fails(&mut self) -> bool
         ensures fails { result ≡ fails_next self.old }
         ensures after { self.new ≡ after_call self.old }
-        ensures counted { self.new.faults ≡ (if result then one_more self.old.faults else self.old.faults) }
+        ensures counted { self.new.faults
+            ≡ (if result then one_more self.old.faults else self.old.faults) }
         ensures fits { self.old.faults < 2 ^ 64 → self.new.faults < 2 ^ 64 }
     {
         let call = self.made;

@@ -64,7 +64,8 @@ impl Shelf for MemShelf {
     ghost fits = { λ shelf. shelf.fits };
 
     fn open(&mut self, name: &[u8]) -> Opened
-        ensures opening { IsOpening (Some (files_of self.old)) name.now (Some (rest_of self.new)) result }
+        ensures opening { IsOpening (Some (files_of self.old)) name.now
+            (Some (rest_of self.new)) result }
         ensures is_open { is_open_of self.new ≡ is_opened result }
         ensures files { Some (files_of self.new) ≡ Some (files_of self.old) }
         ensures counted { faults_of self.new ≡ count_after_opening (faults_of self.old) result }
@@ -88,7 +89,8 @@ impl Shelf for MemShelf {
     fn take(&mut self, buffer: &mut [u8]) -> Taken
         requires open { is_open_of self.old ≡ true }
         requires some { 0 < length buffer.old }
-        ensures taken { IsTake (Some (rest_of self.old)) (Some (rest_of self.new)) buffer.new result }
+        ensures taken { IsTake (Some (rest_of self.old)) (Some (rest_of self.new))
+            buffer.new result }
         ensures is_open { is_open_of self.new ≡ true }
         ensures files { Some (files_of self.new) ≡ Some (files_of self.old) }
         ensures counted { faults_of self.new ≡ count_after_take (faults_of self.old) result }
@@ -117,7 +119,8 @@ impl Shelf for MemShelf {
 
 // The first file of that name, by its place.
 fn position_of(files: &[ShelfFile], name: &[u8]) -> Option<usize>
-    ensures found { IfSome result (λ i. (i < length files.now) × (file_named name.now files.now ≡ Some (octets_at files.now i))) }
+    ensures found { IfSome result (λ i. (i < length files.now)
+        × (file_named name.now files.now ≡ Some (octets_at files.now i))) }
     ensures none { result ≡ None → file_named name.now files.now ≡ None }
 {
     for (i, file) in files.iter().enumerate() {

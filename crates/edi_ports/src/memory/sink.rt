@@ -34,7 +34,8 @@ impl MemSink {
         ensures held { IfOk result (λ sink. ⟦<MemSink as Sink>⟧.held sink ≡ Some []) }
         ensures made { IfOk result (IsMade room most failing) }
         ensures faults { IfOk result (λ sink. ⟦<MemSink as Sink>⟧.faults sink ≡ 0) }
-        ensures room { IfOk result (λ sink. failing.items ≡ [] → ⟦<MemSink as Sink>⟧.has_room sink room) }
+        ensures room { IfOk result (λ sink. failing.items ≡ []
+            → ⟦<MemSink as Sink>⟧.has_room sink room) }
     {
         Ok(MemSink {
             octets: Vec::with_capacity(alloc, room)?,
@@ -67,7 +68,8 @@ impl Sink for MemSink {
         requires { 0 < length part.now }
         ensures put { IsPut (Some (held_of self.old)) (Some (held_of self.new)) part.now result }
         ensures counted { faults_of self.new ≡ count_after_put (faults_of self.old) result }
-        ensures room { (n : ℕ) → HasRoom self.old n → length part.now ≤ n → KeepsRoom (HasRoom self.new) n result }
+        ensures room { (n : ℕ) → HasRoom self.old n → length part.now ≤ n
+            → KeepsRoom (HasRoom self.new) n result }
         ensures exact { result ≡ put_next self.old (length part.now) }
         ensures next { IsNextCall self.old self.new (length part.now) }
     {

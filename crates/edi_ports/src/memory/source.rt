@@ -50,7 +50,8 @@ impl Source for MemSource {
 
     fn take(&mut self, buffer: &mut [u8]) -> Taken
         requires { 0 < length buffer.old }
-        ensures taken { IsTake (Some (rest_of self.old)) (Some (rest_of self.new)) buffer.new result }
+        ensures taken { IsTake (Some (rest_of self.old)) (Some (rest_of self.new))
+            buffer.new result }
         ensures counted { faults_of self.new ≡ count_after_take (faults_of self.old) result }
         ensures steady { IsSteady self.old → (IsFailedTake result → ⊥) × IsSteady self.new }
         ensures exact { result ≡ taken_next self.old (length buffer.old) }

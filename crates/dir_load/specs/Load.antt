@@ -37,13 +37,18 @@ use Rattle.dir_load.specs.Manifest.{manifest_in}
 abbrev pub map_err : {A E D : Type 0} → (E → D) → Result A E → Result A D
 map_err as_other result = result_map_both (λ value. value) as_other result
 
+-- the same result, with its value as another
+abbrev pub map_ok : {A B E : Type 0} → (A → B) → Result A E → Result B E
+map_ok as_other result = result_map_both as_other (λ error. error) result
+
 -- what a value gives next; an error stays
 abbrev pub and_then : {A B E : Type 0} → Result A E → (A → Result B E) → Result B E
 and_then (Ok value) next = next value
 and_then (Err error) next = Err error
 
 -- what the file of that name gives by its grammar; else it is absent, has over 4,194,304 octets or breaks a rule
-abbrev pub file_by : {A : Type 0} → (List ℕ → Result A DirFault) → List ShelfFile → List ℕ → Result A FileFault
+abbrev pub file_by : {A : Type 0}
+    → (List ℕ → Result A DirFault) → List ShelfFile → List ℕ → Result A FileFault
 file_by grammar files name =
     and_then (map_err Unread (octets_named 4194304 files name)) (λ octets. map_err Grammar (grammar octets))
 
@@ -60,11 +65,11 @@ nothing = record { elements = []; lists = []; composites = []; segments = []; me
 
 -- what a file of this kind defines; a segment file is read with known composites
 abbrev pub found_by : FileKind → List CompositeDef → List ℕ → Result Found DirFault
-found_by Elements known octets = result_map_both (λ found. record nothing { elements = found }) (λ fault. fault) (elements_in octets)
-found_by Codes known octets = result_map_both (λ found. record nothing { lists = found }) (λ fault. fault) (codes_in octets)
-found_by Composites known octets = result_map_both (λ found. record nothing { composites = found }) (λ fault. fault) (composites_in octets)
-found_by Segments known octets = result_map_both (λ found. record nothing { segments = found }) (λ fault. fault) (segments_in known octets)
-found_by Message known octets = result_map_both (λ found. record nothing { messages = found ∷ [] }) (λ fault. fault) (message_in octets)
+found_by Elements known octets = map_ok (λ found. record nothing { elements = found }) (elements_in octets)
+found_by Codes known octets = map_ok (λ found. record nothing { lists = found }) (codes_in octets)
+found_by Composites known octets = map_ok (λ found. record nothing { composites = found }) (composites_in octets)
+found_by Segments known octets = map_ok (λ found. record nothing { segments = found }) (segments_in known octets)
+found_by Message known octets = map_ok (λ found. record nothing { messages = found ∷ [] }) (message_in octets)
 
 -- what the file of a line gives, where these composites are known
 abbrev pub file_on : List ShelfFile → List CompositeDef → FileLine → Result Found FileFault
@@ -80,7 +85,8 @@ file_after files earlier line = file_on files (composites_of files earlier) line
 
 -- the definitions of one kind in the files of these lines, in their order
 abbrev pub members_of : {A : Type 0} → (Found → List A) → List ShelfFile → List FileLine → List A
-members_of kind files lines = flat_map (λ p. kind (result_unwrap_or (file_after files p.0 p.1) nothing)) (with_earlier lines)
+members_of kind files lines =
+    flat_map (λ p. kind (result_unwrap_or (file_after files p.0 p.1) nothing)) (with_earlier lines)
 
 -- all that the files of these lines define
 abbrev pub found_on : List ShelfFile → List FileLine → Found
@@ -121,9 +127,11 @@ parts_refusal fault = refusal.Parts fault.kind fault.name
 -- the directory of a manifest: its files are judged in order, and then their parts
 abbrev pub load_with : List ShelfFile → Manifest → Result Parts Refusal
 load_with files manifest =
-    and_then (unless_faulty (refusals_of files manifest.files) (found_on files manifest.files)) (λ found. map_err parts_refusal (directory_of (parts_with manifest.labels found)))
+    and_then (unless_faulty (refusals_of files manifest.files) (found_on files manifest.files))
+    (λ found. map_err parts_refusal (directory_of (parts_with manifest.labels found)))
 
--- the directory of a manifest of lines, the octets of the file of that name: the whole manifest is judged before any file that it names
+-- the directory of a manifest of lines, the octets of the file of that name: the whole manifest is judged before any
+-- file that it names
 abbrev pub lines_under : List ShelfFile → List ℕ → List ℕ → Result Parts Refusal
 lines_under files name octets =
     and_then (map_err (λ fault. refusal.File name (Grammar fault)) (manifest_in octets)) (load_with files)
@@ -143,4 +151,5 @@ octets_under files name octets = if is_store octets then store_under name octets
 -- what files give under the name of a manifest: it is absent, has over 4,194,304 octets, or is a store or lines
 unfoldable pub load_of : List ShelfFile → List ℕ → Result Parts Refusal
 load_of files name =
-    and_then (map_err (λ why. refusal.File name (Unread why)) (octets_named 4194304 files name)) (octets_under files name)
+    and_then (map_err (λ why. refusal.File name (Unread why)) (octets_named 4194304 files name))
+    (octets_under files name)

@@ -1,5 +1,5 @@
 -- What a manifest is.
-use Rattle.std.specs.Prelude.{◌≡◌, ◌-◌, ℕ, Bool, true, not, ◌==◌, ◌&&◌, nat_le, List, [], ◌∷◌, length, filter, slice_get, Option, Some, None, option_and_then, Result, codes, if◌then◌else◌}
+use Rattle.std.specs.Prelude.{◌≡◌, ◌-◌, ℕ, Bool, true, not, ◌==◌, ◌&&◌, nat_le, List, [], ◌∷◌, length, filter, slice_get, Option, Some, None, option_and_then, Result, Err, codes, if◌then◌else◌}
 use Rattle.std.specs.List.{slice_split, list_all, filter_map, flat_map}
 use Rattle.std.specs.Str.{bytes_eq}
 use Rattle.edi_tables.specs.First.{unless_faulty}
@@ -39,7 +39,8 @@ is_counted line = not (list_all (λ x. x == 32) line.octets)
 -- the first line: `directory` and three labels
 abbrev pub labels_with : List ℕ × List ℕ × List ℕ × List ℕ → Option Labels
 labels_with w =
-    if bytes_eq w.0 (codes "directory") && is_label 3 w.1 && is_label 3 w.2 && is_label 2 w.3 then Some (record { version = w.1; release = w.2; agency = w.3 }) else None
+    if bytes_eq w.0 (codes "directory") && is_label 3 w.1 && is_label 3 w.2 && is_label 2 w.3
+    then Some (record { version = w.1; release = w.2; agency = w.3 }) else None
 
 -- the labels have their forms
 pub record HasLabelForms (labels : Labels) : Type 0 where
@@ -56,7 +57,8 @@ kind_named word =
     if bytes_eq word (codes "elements") then Some Elements
     else (if bytes_eq word (codes "codes") then Some Codes
     else (if bytes_eq word (codes "composites") then Some Composites
-    else (if bytes_eq word (codes "segments") then Some Segments else (if bytes_eq word (codes "message") then Some Message else None))))
+    else (if bytes_eq word (codes "segments") then Some Segments
+    else (if bytes_eq word (codes "message") then Some Message else None))))
 
 -- the place of a kind in the order of kinds
 abbrev pub place_of : FileKind → ℕ
@@ -80,23 +82,33 @@ files_on lines = filter_map (λ line. file_on (words_of line)) lines
 
 -- a kind doesn't come before the last kind of the lines before
 abbrev pub is_in_turn : List FileLine → FileKind → Bool
-is_in_turn earlier kind = elim (slice_get earlier (length earlier - 1)) [ None ↦ true | Some last ↦ nat_le (place_of last.kind) (place_of kind) ]
+is_in_turn earlier kind =
+    elim (slice_get earlier (length earlier - 1)) [
+      | None ↦ true
+      | Some last ↦ nat_le (place_of last.kind) (place_of kind)
+    ]
 
 -- a file line after these: a kind in turn and a name; the 401st is one too many
 abbrev pub file_faults : List Line → Line → List DirFault
 file_faults earlier line =
     elim (file_on (words_of line)) [
       | None ↦ at_line BadLine line ∷ []
-      | Some file ↦ if not (is_in_turn (files_on earlier) file.kind) then at_line BadLine line ∷ [] else (if nat_le 400 (length earlier) then at_line TooMany line ∷ [] else [])
+      | Some file ↦
+          if not (is_in_turn (files_on earlier) file.kind) then at_line BadLine line ∷ []
+          else (if nat_le 400 (length earlier) then at_line TooMany line ∷ [] else [])
     ]
 
+-- the faults of these lines, each after those before it
+abbrev pub faults_on : List Line → List DirFault
+faults_on lines = flat_map (λ p. file_faults p.0 p.1) (with_earlier lines)
+
 abbrev pub manifest_with : Option Labels → Line → List Line → Result Manifest DirFault
-manifest_with None head lines = unless_faulty (at_line BadLine head ∷ []) (record { labels = record { version = []; release = []; agency = [] }; files = [] })
+manifest_with None head lines = Err (at_line BadLine head)
 manifest_with (Some labels) head lines =
-    unless_faulty (flat_map (λ p. file_faults p.0 p.1) (with_earlier lines)) (record { labels = labels; files = files_on lines })
+    unless_faulty (faults_on lines) (record { labels = labels; files = files_on lines })
 
 abbrev pub manifest_on : List Line → Result Manifest DirFault
-manifest_on [] = unless_faulty (record { line = 0; kind = BadLine } ∷ []) (record { labels = record { version = []; release = []; agency = [] }; files = [] })
+manifest_on [] = Err (record { line = 0; kind = BadLine })
 manifest_on (head ∷ lines) = manifest_with (labels_on (words_of head)) head lines
 
 -- octets give a manifest, or its first fault; one without a line has it at line 0

@@ -40,12 +40,15 @@ pub fn gather_files<S: Shelf>(
     lines: &[FileLine],
 ) -> Result<Gathered, LoadStop>
     ensures gathers { (files : Members ShelfFile) → S.files shelf.old ≡ Some files
-        → Answers found_of refusal_in result (unless_faulty (refusals_of files lines.now) (found_on files lines.now)) }
+        → Answers found_of refusal_in result
+        (unless_faulty (refusals_of files lines.now) (found_on files lines.now)) }
     ensures formed { IfOk result (IsFormed (length lines.now)) }
     ensures files { S.files shelf.new ≡ S.files shelf.old }
     ensures counted { S.faults shelf.old ≤ S.faults shelf.new }
-    ensures cause { IsErrOf result LoadStop.Fault → HasRisen (S.faults shelf.old) (S.faults shelf.new) }
-    ensures steady { S.is_steady shelf.old → (IsErrOf result LoadStop.Fault → ⊥) × S.is_steady shelf.new }
+    ensures cause { IsErrOf result LoadStop.Fault
+        → HasRisen (S.faults shelf.old) (S.faults shelf.new) }
+    ensures steady { S.is_steady shelf.old
+        → (IsErrOf result LoadStop.Fault → ⊥) × S.is_steady shelf.new }
 {
     let mut gathered = Gathered::new(alloc);
     for line in lines {
@@ -80,12 +83,16 @@ impl Gathered {
     ) -> Result<(), FileStop>
         ensures adds { (files : Members ShelfFile) → S.files shelf.old ≡ Some files
             → Answers (λ _. found_of self.new) file_fault_in result
-            (result_map_both (joined (found_of self.old)) (λ fault. fault) (file_on files self.old.composites.items line.now)) }
-        ensures formed { (most : ℕ) → IsFormed most self.old → OnOk result (IsFormed (most + 1) self.new) }
+            (result_map_both (joined (found_of self.old)) (λ fault. fault)
+            (file_on files self.old.composites.items line.now)) }
+        ensures formed { (most : ℕ) → IsFormed most self.old
+            → OnOk result (IsFormed (most + 1) self.new) }
         ensures files { S.files shelf.new ≡ S.files shelf.old }
         ensures counted { S.faults shelf.old ≤ S.faults shelf.new }
-        ensures cause { IsErrOf result FileStop.Fault → HasRisen (S.faults shelf.old) (S.faults shelf.new) }
-        ensures steady { S.is_steady shelf.old → (IsErrOf result FileStop.Fault → ⊥) × S.is_steady shelf.new }
+        ensures cause { IsErrOf result FileStop.Fault
+            → HasRisen (S.faults shelf.old) (S.faults shelf.new) }
+        ensures steady { S.is_steady shelf.old
+            → (IsErrOf result FileStop.Fault → ⊥) × S.is_steady shelf.new }
     {
         let octets = read_named(alloc, shelf, line.name.octets(), LONGEST_FILE)?;
         self.add_octets(alloc, line.kind, &octets)
@@ -95,8 +102,10 @@ impl Gathered {
     fn add_octets(&mut self, alloc: Global, kind: FileKind, octets: &[u8]) -> Result<(), FileStop>
         requires { length octets.now ≤ 4194304 }
         ensures adds { Answers (λ _. found_of self.new) file_fault_in result
-            (result_map_both (joined (found_of self.old)) Grammar (found_by kind self.old.composites.items octets.now)) }
-        ensures formed { (most : ℕ) → IsFormed most self.old → OnOk result (IsFormed (most + 1) self.new) }
+            (result_map_both (joined (found_of self.old)) Grammar
+            (found_by kind self.old.composites.items octets.now)) }
+        ensures formed { (most : ℕ) → IsFormed most self.old
+            → OnOk result (IsFormed (most + 1) self.new) }
         ensures unfailing { IsErrOf result FileStop.Fault → ⊥ }
     {
         match kind {
@@ -115,8 +124,10 @@ impl Gathered {
     fn add_message(&mut self, alloc: Global, octets: &[u8]) -> Result<(), FileStop>
         requires { length octets.now ≤ 4194304 }
         ensures adds { Answers (λ _. found_of self.new) file_fault_in result
-            (result_map_both (joined (found_of self.old)) Grammar (found_by FileKind.Message self.old.composites.items octets.now)) }
-        ensures formed { (most : ℕ) → IsFormed most self.old → OnOk result (IsFormed (most + 1) self.new) }
+            (result_map_both (joined (found_of self.old)) Grammar
+            (found_by FileKind.Message self.old.composites.items octets.now)) }
+        ensures formed { (most : ℕ) → IsFormed most self.old
+            → OnOk result (IsFormed (most + 1) self.new) }
         ensures unfailing { IsErrOf result FileStop.Fault → ⊥ }
     {
         let message = read_message(alloc, octets)?;

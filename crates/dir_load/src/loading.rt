@@ -28,12 +28,15 @@ pub fn load<S: Shelf>(alloc: Global, shelf: &mut S, name: &[u8]) -> Result<Direc
         → Answers (λ directory. directory) refusal_in result (load_of files name.now) }
     ensures files { S.files shelf.new ≡ S.files shelf.old }
     ensures counted { S.faults shelf.old ≤ S.faults shelf.new }
-    ensures cause { IsErrOf result LoadStop.Fault → HasRisen (S.faults shelf.old) (S.faults shelf.new) }
-    ensures steady { S.is_steady shelf.old → (IsErrOf result LoadStop.Fault → ⊥) × S.is_steady shelf.new }
+    ensures cause { IsErrOf result LoadStop.Fault
+        → HasRisen (S.faults shelf.old) (S.faults shelf.new) }
+    ensures steady { S.is_steady shelf.old
+        → (IsErrOf result LoadStop.Fault → ⊥) × S.is_steady shelf.new }
 
     // The store of a directory, under that name, gives this directory again.
     ensures again { (files : List ShelfFile) (directory : Parts) → IsDirectory directory
-        → octets_named 4194304 files name.now ≡ Ok (store_text directory) → load_of files name.now ≡ Ok directory }
+        → octets_named 4194304 files name.now ≡ Ok (store_text directory)
+        → load_of files name.now ≡ Ok directory }
 {
     let octets = match read_named(alloc, shelf, name, LONGEST_FILE) {
         Ok(octets) => octets,
@@ -56,7 +59,8 @@ fn is_store(octets: &[u8]) -> bool
 // The directory of the store of that name.
 fn load_store(alloc: Global, name: &[u8], octets: &[u8]) -> Result<Directory, LoadStop>
     requires { length octets.now ≤ 4194304 }
-    ensures loads { Answers (λ directory. directory) refusal_in result (store_under name.now octets.now) }
+    ensures loads { Answers (λ directory. directory) refusal_in result
+        (store_under name.now octets.now) }
     ensures unfailing { IsErrOf result LoadStop.Fault → ⊥ }
 {
     match read_store(alloc, octets) {
@@ -74,11 +78,14 @@ fn load_lines<S: Shelf>(
 ) -> Result<Directory, LoadStop>
     requires { length octets.now ≤ 4194304 }
     ensures loads { (files : List ShelfFile) → S.files shelf.old ≡ Some files
-        → Answers (λ directory. directory) refusal_in result (lines_under files name.now octets.now) }
+        → Answers (λ directory. directory) refusal_in result
+        (lines_under files name.now octets.now) }
     ensures files { S.files shelf.new ≡ S.files shelf.old }
     ensures counted { S.faults shelf.old ≤ S.faults shelf.new }
-    ensures cause { IsErrOf result LoadStop.Fault → HasRisen (S.faults shelf.old) (S.faults shelf.new) }
-    ensures steady { S.is_steady shelf.old → (IsErrOf result LoadStop.Fault → ⊥) × S.is_steady shelf.new }
+    ensures cause { IsErrOf result LoadStop.Fault
+        → HasRisen (S.faults shelf.old) (S.faults shelf.new) }
+    ensures steady { S.is_steady shelf.old
+        → (IsErrOf result LoadStop.Fault → ⊥) × S.is_steady shelf.new }
 {
     let manifest = match read_manifest(alloc, octets) {
         Ok(manifest) => manifest,

@@ -1,10 +1,9 @@
 //! Manifests: the labels of a directory, and the files that it is made of.
 ghost use Rattle.std.specs.Prelude.{◌≡◌, ◌≤◌, ◌+◌, ◌++◌, ◌∷◌, [], List, ℕ, length, IfOk, IfSome, OnOk, option_and_then};
-ghost use Rattle.std.specs.List.{flat_map, list_all};
-ghost use Rattle.edi_octets.specs.Profile.{with_earlier};
+ghost use Rattle.std.specs.List.{list_all};
 ghost use Rattle.dir_load.specs.Counted.{counted_left};
 ghost use Rattle.edi_tables.specs.Tag.{is_tag_octet_of};
-ghost use Rattle.dir_load.specs.Manifest.{HasLabelForms, is_in_turn as is_in_turn_of, kind_named, place_of, labels_on, file_on, file_faults, files_on, manifest_in, words_in};
+ghost use Rattle.dir_load.specs.Manifest.{HasLabelForms, is_in_turn as is_in_turn_of, kind_named, place_of, labels_on, file_on, file_faults, faults_on, files_on, manifest_in, words_in};
 ghost use Rattle.edi_octets.specs.DirStop.{fault_in};
 ghost use Rattle.edi_tables.specs.First.{Answers, unless_faulty};
 ghost use Rattle.edi_tables.specs.Forms.{is_label as is_label_of};
@@ -78,7 +77,8 @@ pub fn read_manifest(alloc: Global, octets: &[u8]) -> Result<Manifest, DirStop>
 fn read_files(alloc: Global, lines: CountedLines<'_>) -> Result<Vec<FileLine>, DirStop>
     ensures few { IfOk result (λ files. length files.items ≤ 400) }
     ensures reads { Answers (λ files. files.items) fault_in result
-        (unless_faulty (flat_map (λ p. file_faults p.0 p.1) (with_earlier (counted_left lines.entry))) (files_on (counted_left lines.entry))) }
+        (unless_faulty (faults_on (counted_left lines.entry))
+        (files_on (counted_left lines.entry))) }
 {
     let mut files = Vec::new(alloc);
     for line in lines {
@@ -178,9 +178,12 @@ impl FileKind {
 
 // Reads a line after others, whose files are given. Its file joins them.
 fn read_line(alloc: Global, line: &LineText<'_>, files: &mut Vec<FileLine>) -> Result<(), DirStop>
-    ensures judged { (earlier : List Line) → files.old.items ≡ files_on earlier → length files.old.items ≡ length earlier
-        → Answers (λ done. done) fault_in result (unless_faulty (file_faults earlier (line_shown line.now)) tt) }
-    ensures joins { OnOk result (files.new.items ≡ files.old.items ++ files_on (line_shown line.now ∷ [])) }
+    ensures judged { (earlier : List Line)
+        → files.old.items ≡ files_on earlier → length files.old.items ≡ length earlier
+        → Answers (λ done. done) fault_in result
+        (unless_faulty (file_faults earlier (line_shown line.now)) tt) }
+    ensures joins { OnOk result
+        (files.new.items ≡ files.old.items ++ files_on (line_shown line.now ∷ [])) }
     ensures one { OnOk result (length files.new.items ≡ length files.old.items + 1) }
     ensures few { OnOk result (length files.new.items ≤ 400) }
 {

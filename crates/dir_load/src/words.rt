@@ -19,7 +19,8 @@ pub fn two_words(line: &[u8]) -> Option<(&[u8], &[u8])>
 
 /// The four words of a line that has exactly four.
 pub fn four_words(line: &[u8]) -> Option<(&[u8], &[u8], &[u8], &[u8])>
-    ensures { option_map (λ p. (p.0.now, p.1.now, p.2.now, p.3.now)) result ≡ four_in (words_in line.now) }
+    ensures { option_map (λ p. (p.0.now, p.1.now, p.2.now, p.3.now)) result
+        ≡ four_in (words_in line.now) }
 {
     let (first, rest) = cut_word(line);
     let (second, rest) = cut_word(rest?);
@@ -33,7 +34,8 @@ pub fn four_words(line: &[u8]) -> Option<(&[u8], &[u8], &[u8], &[u8])>
 
 // The first word of a line, and what follows the space after it, if there is one.
 fn cut_word(line: &[u8]) -> (&[u8], Option<&[u8]>)
-    ensures { MatchOption result.1 (words_in line.now ≡ result.0.now ∷ []) (λ rest. words_in line.now ≡ result.0.now ∷ words_in rest.now) }
+    ensures { MatchOption result.1 (words_in line.now ≡ result.0.now ∷ [])
+        (λ rest. words_in line.now ≡ result.0.now ∷ words_in rest.now) }
 {
     match memchr(b' ', line) {
         Some(end) => (&line[..end], Some(&line[end + 1..])),

@@ -1,7 +1,7 @@
 -- Lists of faults: that there is none, and which is the first.
 use Rattle.std.proofs.Common.{◌≡◌, ℕ, ◌+◌, ◌<◌, Bool, true, false, not, List, [], ◌∷◌, ◌++◌, length, get_or, slice_get, take, drop, Some, Result, Err, sym, ap, ◌∙◌, refl, subst}
 use Rattle.std.specs.List.{flat_map}
-use Rattle.std.proofs.lemmas.List.{take-append-drop, drop_more, take_more, append-nil}
+use Rattle.std.proofs.lemmas.List.{take-append-drop, drop_more}
 use Rattle.std.proofs.lemmas.List.Concat.{flat_map-append}
 use Rattle.edi_tables.specs.Rows.{when}
 use Rattle.dir_compile.specs.declared.stop.CompileKind.{CompileKind}
@@ -48,12 +48,6 @@ first-stop Memory kind name xs h e = tt
 pub split_at : {A : Type 0} (xs : List A) (i : ℕ) (d : A) → i < length xs → xs ≡ take i xs ++ get_or xs i d ∷ drop (i + 1) xs
 split_at xs i d lt = sym (take-append-drop i xs) ∙ ap (λ l. take i xs ++ l) (drop_more xs i d lt)
 
--- no fault up to a place, and none there, is none up to the next
-pub none_more : {X A : Type 0} (f : X → List A) (xs : List X) (i : ℕ) (d : X) → i < length xs → flat_map f (take i xs) ≡ [] → f (get_or xs i d) ≡ [] → flat_map f (take (i + 1) xs) ≡ []
-none_more f xs i d lt before here =
-    ap (flat_map f) (take_more xs i d lt) ∙ flat_map-append f (take i xs) (get_or xs i d ∷ [])
-    ∙ nil-both (flat_map f (take i xs)) (f (get_or xs i d) ++ []) before (append-nil (f (get_or xs i d)) ∙ here)
-
 -- no fault up to a place, and the first one there, is the first one
 pub first_there : {X : Type 0} (f : X → List PartsFault) (stop : CompileStop) (xs : List X) (i : ℕ) (d : X) → i < length xs → flat_map f (take i xs) ≡ [] → IsFirstFault stop (f (get_or xs i d)) → IsFirstFault stop (flat_map f xs)
 first_there f stop xs i d lt before here =
@@ -71,11 +65,6 @@ judges_there f r stop told xs i x lt here before first is same =
     let told_there : IsFirstFault told (f (get_or xs i x)) = subst (λ y. IsFirstFault told (f y)) here first in
     subst (λ s. Judges s (flat_map f xs)) (sym (is ∙ ap Err same)) (first_there f told xs i x lt before told_there)
 
--- the same where the list is read as an equal one
-pub judges_there_in : {X T : Type 0} (f : X → List PartsFault) (r : Result T CompileStop) (stop told : CompileStop) (xs ys : List X) (i : ℕ) (x : X) → ys ≡ xs → i < length ys → x ≡ get_or ys i x → flat_map f (take i xs) ≡ [] → IsFirstFault told (f x) → r ≡ Err stop → stop ≡ told → Judges r (flat_map f xs)
-judges_there_in f r stop told xs ys i x same lt here =
-    judges_there f r stop told xs i x (subst (λ l. i < length l) same lt) (subst (λ l. x ≡ get_or l i x) same here)
-
 -- a judge of one rule: nothing where it holds, its fault where it doesn't
 pub when-held : {A : Type 0} (broken : Bool) (x : A) → broken ≡ false → when broken x ≡ []
 when-held broken x e = ap (λ b. when b x) e
@@ -88,17 +77,7 @@ first-when stop broken kind name e at =
 pub not-at : (b c : Bool) → c ≡ b → not b ≡ not c
 not-at b c e = ap not (sym e)
 
--- the same at an element that was read
-pub first_there_in : {X : Type 0} (f : X → List PartsFault) (stop : CompileStop) (xs ys : List X) (i : ℕ) (x : X) → ys ≡ xs → i < length ys → x ≡ get_or ys i x → flat_map f (take i xs) ≡ [] → IsFirstFault stop (f x) → IsFirstFault stop (flat_map f xs)
-first_there_in f stop xs ys i x same lt here before first =
-    first_there f stop xs i x (subst (λ l. i < length l) same lt) before
-    (subst (λ y. IsFirstFault stop (f y)) (subst (λ l. x ≡ get_or l i x) same here) first)
-
-pub none_more_in : {X A : Type 0} (f : X → List A) (xs ys : List X) (i : ℕ) (x : X) → ys ≡ xs → i < length ys → x ≡ get_or ys i x → flat_map f (take i xs) ≡ [] → f x ≡ [] → flat_map f (take (i + 1) xs) ≡ []
-none_more_in f xs ys i x same lt here before none =
-    none_more f xs i x (subst (λ l. i < length l) same lt) before
-    (subst (λ y. f y ≡ []) (subst (λ l. x ≡ get_or l i x) same here) none)
-
+-- the same at a place
 pub judges_there_at : {X T : Type 0} (f : X → List PartsFault) (r : Result T CompileStop) (stop told : CompileStop) (xs : List X) (i : ℕ) (d : X) → i < length xs → flat_map f (take i xs) ≡ [] → IsFirstFault told (f (get_or xs i d)) → r ≡ Err stop → stop ≡ told → Judges r (flat_map f xs)
 judges_there_at f r stop told xs i d lt before first is same =
     subst (λ s. Judges s (flat_map f xs)) (sym (is ∙ ap Err same)) (first_there f told xs i d lt before first)

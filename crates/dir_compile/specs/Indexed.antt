@@ -6,7 +6,8 @@ use Rattle.dir_compile.specs.declared.directory.Directory.TheInside.{Inside}
 use Rattle.dir_compile.specs.Names.{IsNamesOf}
 use Rattle.dir_compile.specs.Directory.{IsDirectory, tables_of}
 
--- its parts are a directory's, each name is at the place of its definition, and the tables and collisions are the parts'
+-- its parts are a directory's, each name is at the place of its definition, and the tables and collisions are those
+-- of the parts
 pub record IsIndexed (d : Inside) : Type 0 where
   pub lawful : IsDirectory d.parts
   pub names : IsNamesOf d.names d.parts

@@ -96,7 +96,8 @@ impl Directory {
 
     /// The place of the message of that name among the messages.
     fn place_of_message(&self, name: &[u8]) -> Option<usize>
-        ensures place { result ≡ position (λ m. bytes_eq (message_name m) name.now) self.now.messages }
+        ensures place { result
+            ≡ position (λ m. bytes_eq (message_name m) name.now) self.now.messages }
         ensures few { IfSome result (λ place. place < 4000000000) }
     {
         let messages = &self.names.messages;
@@ -135,7 +136,8 @@ impl Directory {
     /// The name of the message of that table.
     pub fn table_name(&self, i: usize) -> &[u8]
         requires { i < length (tables_of self.now) }
-        ensures { option_map (λ table. table.name) (slice_get (table_names self.now) i) ≡ Some result.now }
+        ensures { option_map (λ table. table.name) (slice_get (table_names self.now) i)
+            ≡ Some result.now }
     {
         if i == 0 {
             b"CONTRL"
@@ -147,7 +149,8 @@ impl Directory {
     /// Where the table of that number can place one list of segments in two ways, in order.
     pub fn collisions(&self, i: usize) -> &[Collision]
         requires { i < length (tables_of self.now) }
-        ensures { option_map collisions_of (slice_get (tables_of self.now) i) ≡ Some (map collision_seen result.now) }
+        ensures { option_map collisions_of (slice_get (tables_of self.now) i)
+            ≡ Some (map collision_seen result.now) }
     {
         self.collisions[i].items()
     }
@@ -204,7 +207,8 @@ fn build_tables(alloc: Global, messages: &[MessageDef]) -> Result<Vec<Table>, Al
 
 /// The collisions of each of these tables.
 fn find_collisions(alloc: Global, tables: &[Table]) -> Result<Vec<List<Collision>>, AllocError>
-    ensures { IfOk result (λ collisions. map (map collision_seen) collisions.items ≡ map collisions_of tables.now) }
+    ensures { IfOk result (λ collisions.
+        map (map collision_seen) collisions.items ≡ map collisions_of tables.now) }
 {
     let mut collisions = Vec::with_capacity(alloc, tables.len())?;
     for table in tables {

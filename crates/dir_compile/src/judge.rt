@@ -1,30 +1,31 @@
 //! The judges of references: what a definition names has to be there.
-ghost use Rattle.std.specs.Prelude.{◌≡◌};
+ghost use Rattle.std.specs.Prelude.{◌≡◌, List};
 ghost use Rattle.std.specs.List.{flat_map};
 ghost use Rattle.std.specs.Option.{option_copied};
 ghost use Rattle.edi_tables.specs.Rows.{table_faults, when};
 ghost use Rattle.dir_compile.specs.Judges.{Judges, reference_faults};
-ghost use Rattle.dir_compile.specs.Stop.{fault_with};
+ghost use Rattle.dir_compile.specs.Stop.{PartsFault, fault_with};
 ghost use Rattle.dir_compile.specs.Names.{IsNamesOf};
 ghost use Rattle.dir_compile.specs.Compile.{
   element_name,
   named_in,
-  list_faults,
+  list_fault,
   part_faults,
-  composite_faults,
+  composite_fault,
   item_faults,
-  segment_faults,
   row_faults,
   segment_fault,
   message_fault,
-  message_faults,
   is_filled_with,
 };
 
 use crate::names::Names;
 use crate::stop::fault;
 use crate::{CompileKind, CompileStop, Parts};
-use edi_tables::{Code, ElementDef, ItemDef, MessageDef, PartDef, SegmentDef, Table, TableRow};
+use edi_tables::{
+    Code, CodeList, CompositeDef, ElementDef, ItemDef, MessageDef, PartDef, SegmentDef, Table,
+    TableRow,
+};
 use service_tables::service_segment;
 use std::alloc::Global;
 
@@ -33,70 +34,140 @@ pub fn judge_references(alloc: Global, parts: &Parts, names: &Names) -> Result<(
     requires { IsNamesOf names.now parts.now }
     ensures { Judges result (reference_faults parts.now) }
 {
-    judge_lists(alloc, parts, names)?;
-    judge_composites(alloc, parts, names)?;
-    judge_segments(alloc, parts, names)?;
-    judge_messages(alloc, parts, names)
+    judge_each(alloc, parts, names, parts.lists.items())?;
+    judge_each(alloc, parts, names, parts.composites.items())?;
+    judge_each(alloc, parts, names, parts.segments.items())?;
+    judge_each(alloc, parts, names, parts.messages.items())
 }
 
-/// Finds the first list of an element that isn't there.
-fn judge_lists(alloc: Global, parts: &Parts, names: &Names) -> Result<(), CompileStop>
+/// What is judged by the definitions that it names.
+trait Judged {
+    ghost use Rattle.dir_compile.specs.declared.parts.Parts.{Parts};
+
+    ghost faults: { Parts → Self → List PartsFault };
+
+    /// Finds the first rule that it breaks among these parts.
+    fn judge(&self, alloc: Global, parts: &Parts, names: &Names) -> Result<(), CompileStop>
+        requires { IsNamesOf names.now parts.now }
+        ensures { Judges result (faults parts.now self.now) };
+}
+
+/// Judges these one after another.
+fn judge_each<T: Judged>(
+    alloc: Global,
+    parts: &Parts,
+    names: &Names,
+    items: &[T],
+) -> Result<(), CompileStop>
     requires { IsNamesOf names.now parts.now }
-    ensures { Judges result (list_faults parts.now) }
+    ensures { Judges result (flat_map (T.faults parts.now) items.now) }
 {
-    for list in parts.lists.items() {
-        let name = &list.element.octets;
+    for item in items {
+        item.judge(alloc, parts, names)?;
+    }
+    Ok(())
+}
+
+/// A list is of an element that is there.
+impl Judged for CodeList {
+    ghost faults = { list_fault };
+
+    fn judge(&self, alloc: Global, _parts: &Parts, names: &Names) -> Result<(), CompileStop> {
+        let name = &self.element.octets;
         if !names.elements.contains(name) {
             return Err(fault(alloc, CompileKind::UnknownElement, name));
         }
+        Ok(())
     }
-    Ok(())
 }
 
-/// Finds the first component of a composite whose element isn't there or has another representation.
-fn judge_composites(alloc: Global, parts: &Parts, names: &Names) -> Result<(), CompileStop>
-    requires { IsNamesOf names.now parts.now }
-    ensures { Judges result (composite_faults parts.now) }
-{
-    for composite in parts.composites.items() {
-        judge_parts(alloc, parts, names, composite.parts.items())?;
-    }
-    Ok(())
-}
+/// The element of a component is there, with the same representation.
+impl Judged for PartDef {
+    ghost faults = { part_faults };
 
-fn judge_parts(
-    alloc: Global,
-    parts: &Parts,
-    names: &Names,
-    components: &[PartDef],
-) -> Result<(), CompileStop>
-    requires { IsNamesOf names.now parts.now }
-    ensures { Judges result (flat_map (part_faults parts.now) components.now) }
-{
-    for part in components {
-        judge_part(alloc, parts, names, part)?;
-    }
-    Ok(())
-}
-
-fn judge_part(
-    alloc: Global,
-    parts: &Parts,
-    names: &Names,
-    part: &PartDef,
-) -> Result<(), CompileStop>
-    requires { IsNamesOf names.now parts.now }
-    ensures { Judges result (part_faults parts.now part.now) }
-{
-    match element_named(parts, names, part.code) {
-        None => Err(fault(alloc, CompileKind::UnknownElement, &part.code.octets)),
-        Some(element) => {
-            if part.repr == element.repr {
-                Ok(())
-            } else {
-                Err(fault(alloc, CompileKind::ReprDiffers, &part.code.octets))
+    fn judge(&self, alloc: Global, parts: &Parts, names: &Names) -> Result<(), CompileStop> {
+        match element_named(parts, names, self.code) {
+            None => Err(fault(alloc, CompileKind::UnknownElement, &self.code.octets)),
+            Some(element) => {
+                if self.repr == element.repr {
+                    Ok(())
+                } else {
+                    Err(fault(alloc, CompileKind::ReprDiffers, &self.code.octets))
+                }
             }
         }
+    }
+}
+
+/// The components of a composite are judged.
+impl Judged for CompositeDef {
+    ghost faults = { composite_fault };
+
+    fn judge(&self, alloc: Global, parts: &Parts, names: &Names) -> Result<(), CompileStop> {
+        judge_each(alloc, parts, names, self.parts.items())
+    }
+}
+
+/// An item is such a component, or of a composite that is there.
+impl Judged for ItemDef {
+    ghost faults = { item_faults };
+
+    fn judge(&self, alloc: Global, parts: &Parts, names: &Names) -> Result<(), CompileStop> {
+        match self {
+            ItemDef::Alone { part } => part.judge(alloc, parts, names),
+            ItemDef::Composite { code, .. } => {
+                let name = &code.octets;
+                if names.composites.contains(name) {
+                    Ok(())
+                } else {
+                    Err(fault(alloc, CompileKind::UnknownComposite, name))
+                }
+            }
+        }
+    }
+}
+
+/// A segment is no service segment, and its items are judged.
+impl Judged for SegmentDef {
+    ghost faults = { segment_fault };
+
+    fn judge(&self, alloc: Global, parts: &Parts, names: &Names) -> Result<(), CompileStop> {
+        if service_segment(self.tag).is_some() {
+            return Err(fault(alloc, CompileKind::Reserved, &self.tag.octets));
+        }
+        judge_each(alloc, parts, names, self.items.items())
+    }
+}
+
+/// The segment of a row is there, or is a service segment.
+impl Judged for TableRow {
+    ghost faults = { row_faults };
+
+    fn judge(&self, alloc: Global, _parts: &Parts, names: &Names) -> Result<(), CompileStop> {
+        let Some(tag) = self.tag else {
+            return Ok(());
+        };
+        if names.segments.contains(&tag.octets) {
+            return Ok(());
+        }
+        match service_segment(tag) {
+            Some(_) => Ok(()),
+            None => Err(fault(alloc, CompileKind::UnknownSegment, &tag.octets)),
+        }
+    }
+}
+
+/// A message isn't CONTRL, its rows are judged, and they are a segment table.
+impl Judged for MessageDef {
+    ghost faults = { message_fault };
+
+    fn judge(&self, alloc: Global, parts: &Parts, names: &Names) -> Result<(), CompileStop> {
+        let name = self.name.octets();
+        if name == b"CONTRL".as_slice() {
+            return Err(fault(alloc, CompileKind::Reserved, name));
+        }
+        judge_each(alloc, parts, names, self.rows.items())?;
+        judge_table(alloc, name, self.rows.items())
     }
 }
 
@@ -109,130 +180,10 @@ fn element_named<'a>(parts: &'a Parts, names: &Names, code: Code) -> Option<&'a 
     parts.elements.items().get(place)
 }
 
-/// Finds the first segment that is a service segment, or one of whose items is of something that isn't there.
-fn judge_segments(alloc: Global, parts: &Parts, names: &Names) -> Result<(), CompileStop>
-    requires { IsNamesOf names.now parts.now }
-    ensures { Judges result (segment_faults parts.now) }
-{
-    for segment in parts.segments.items() {
-        judge_segment(alloc, parts, names, segment)?;
-    }
-    Ok(())
-}
-
-fn judge_segment(
-    alloc: Global,
-    parts: &Parts,
-    names: &Names,
-    segment: &SegmentDef,
-) -> Result<(), CompileStop>
-    requires { IsNamesOf names.now parts.now }
-    ensures { Judges result (segment_fault parts.now segment.now) }
-{
-    if service_segment(segment.tag).is_some() {
-        return Err(fault(alloc, CompileKind::Reserved, &segment.tag.octets));
-    }
-    judge_items(alloc, parts, names, segment.items.items())
-}
-
-fn judge_items(
-    alloc: Global,
-    parts: &Parts,
-    names: &Names,
-    items: &[ItemDef],
-) -> Result<(), CompileStop>
-    requires { IsNamesOf names.now parts.now }
-    ensures { Judges result (flat_map (item_faults parts.now) items.now) }
-{
-    for item in items {
-        judge_item(alloc, parts, names, item)?;
-    }
-    Ok(())
-}
-
-fn judge_item(
-    alloc: Global,
-    parts: &Parts,
-    names: &Names,
-    item: &ItemDef,
-) -> Result<(), CompileStop>
-    requires { IsNamesOf names.now parts.now }
-    ensures { Judges result (item_faults parts.now item.now) }
-{
-    match item {
-        ItemDef::Alone { part } => judge_part(alloc, parts, names, part),
-        ItemDef::Composite { code, .. } => {
-            let name = &code.octets;
-            if names.composites.contains(name) {
-                Ok(())
-            } else {
-                Err(fault(alloc, CompileKind::UnknownComposite, name))
-            }
-        }
-    }
-}
-
-fn judge_rows(
-    alloc: Global,
-    parts: &Parts,
-    names: &Names,
-    rows: &[TableRow],
-) -> Result<(), CompileStop>
-    requires { IsNamesOf names.now parts.now }
-    ensures { Judges result (flat_map (row_faults parts.now) rows.now) }
-{
-    for row in rows {
-        judge_row(alloc, parts, names, row)?;
-    }
-    Ok(())
-}
-
-fn judge_row(alloc: Global, parts: &Parts, names: &Names, row: &TableRow) -> Result<(), CompileStop>
-    requires { IsNamesOf names.now parts.now }
-    ensures { Judges result (row_faults parts.now row.now) }
-{
-    let Some(tag) = row.tag else {
-        return Ok(());
-    };
-    if names.segments.contains(&tag.octets) {
-        return Ok(());
-    }
-    match service_segment(tag) {
-        Some(_) => Ok(()),
-        None => Err(fault(alloc, CompileKind::UnknownSegment, &tag.octets)),
-    }
-}
-
-/// Finds the first message that is CONTRL, names a segment that isn't there, or has rows that are no segment table.
-fn judge_messages(alloc: Global, parts: &Parts, names: &Names) -> Result<(), CompileStop>
-    requires { IsNamesOf names.now parts.now }
-    ensures { Judges result (message_faults parts.now) }
-{
-    for message in parts.messages.items() {
-        judge_message(alloc, parts, names, message)?;
-    }
-    Ok(())
-}
-
-fn judge_message(
-    alloc: Global,
-    parts: &Parts,
-    names: &Names,
-    message: &MessageDef,
-) -> Result<(), CompileStop>
-    requires { IsNamesOf names.now parts.now }
-    ensures { Judges result (message_fault parts.now message.now) }
-{
-    let name = message.name.octets();
-    if name == b"CONTRL".as_slice() {
-        return Err(fault(alloc, CompileKind::Reserved, name));
-    }
-    judge_rows(alloc, parts, names, message.rows.items())?;
-    judge_table(alloc, name, message.rows.items())
-}
-
+/// Judges the rows of a message as a segment table.
 fn judge_table(alloc: Global, name: &[u8], rows: &[TableRow]) -> Result<(), CompileStop>
-    ensures { Judges result (when (is_filled_with (table_faults rows.now)) (fault_with CompileKind.BadTable name.now)) }
+    ensures { Judges result (when (is_filled_with (table_faults rows.now))
+        (fault_with CompileKind.BadTable name.now)) }
 {
     match Table::first_fault(rows) {
         None => Ok(()),

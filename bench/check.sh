@@ -8,35 +8,20 @@ program=$top/crates/edicheck/out/edicheck
 work=$(mktemp -d)
 trap 'rm -rf "$work"' EXIT
 cp "$top"/examples/directory/* "$work"
+python3 "$top/bench/orders.py" 0 >"$work/usual"
+# 15 segments a message: one broken segment in a hundred.
+python3 "$top/bench/orders.py" 7 >"$work/broken"
 python3 - "$work" <<'P'
 import sys
 folder = sys.argv[1]
 limit = 4194304
 opening = b"UNB+UNOA:3+BUYER:14+SELLER:14+960105:0930+R1'"
 
-def message(number, broken):
-    lines = b"".join(b"LIN+%d++4000862141404:EN'QTY+21:%s'PRI+AAA:12.5'" % (j, b"4X" if broken and j == 2 else b"48")
-                     for j in (1, 2, 3))
-    body = (b"BGM+220+PO%d+9'DTM+137:19960105:102'NAD+BY+5412345000013::9'" % number) + lines + b"UNS+S'"
-    count = body.count(b"'") + 2
-    return b"UNH+%d+TSTORD:D:96A:UN'%sUNT+%d+%d'" % (number, body, count, number)
-
-def interchange(every):
-    parts, size, number = [opening], len(opening), 0
-    while size < limit - 400:
-        number += 1
-        parts.append(message(number, every and number % every == 0))
-        size += len(parts[-1])
-    return b"".join(parts) + b"UNZ+%d+R1'" % number
-
 def one_message(body):
     text = b"UNH+1+TSTORD:D:96A:UN'BGM+220'" + body
     count = text.count(b"'") + 1
     return opening + text + b"UNT+%d+1'UNZ+1+R1'" % count
 
-open(folder + "/usual", "wb").write(interchange(0))
-# 15 segments a message: one broken segment in a hundred.
-open(folder + "/broken", "wb").write(interchange(7))
 open(folder + "/terminators", "wb").write(b"'" * limit)
 open(folder + "/long", "wb").write(one_message(b"DTM+2'DTM+3'" + b"LIN+1'" * 300000 + b"UNS+1'"))
 rows = [b"UNH Message header M 1"] + [b"DTM Date C 1", b"RFF Reference C 1"] * 999 + [b"UNT Message trailer M 1"]

@@ -1,0 +1,86 @@
+"""The program's answers to random inputs, compared with the reading, and how a difference is shown."""
+import os
+import subprocess
+import tempfile
+
+from . import commands
+from .interchange import KINDS
+from .random_inputs import input_of
+
+SHOWN = 5
+PATIENCE = 60
+
+
+def shown(octets):
+    """Octets as a person can read them: lines that end with LF, and other octets escaped."""
+    return [repr(line)[2:-1] for line in octets.split(b"\n")]
+
+
+def show(name, reading, program):
+    """Prints what differs: the statuses, and the first lines from the first that differs."""
+    print("differs: " + name)
+    if reading[1] != program[1]:
+        print("  status: reading %d, program %d" % (reading[1], program[1]))
+    ours, theirs = shown(reading[0]), shown(program[0])
+    first = next((k for k in range(min(len(ours), len(theirs))) if ours[k] != theirs[k]),
+                 min(len(ours), len(theirs)))
+    for mark, lines in (("reading", ours), ("program", theirs)):
+        for place in range(first, min(first + 3, len(lines))):
+            print("  %s, line %d: %s" % (mark, place + 1, lines[place]))
+
+
+def show_input(made):
+    """Prints what the program was given."""
+    print("  words: " + " ".join(shown(word)[0] for word in made.words))
+    for name, octets in sorted(made.files.items()) + [(b"the input", made.given)]:
+        print("  %s:" % name.decode())
+        for line in shown(octets):
+            print("    " + line)
+
+
+def example_files(tests):
+    folder = os.path.join(tests, "../examples/directory")
+    found = {}
+    for name in ("m", "eded", "uncl", "edcd", "edsd", "tstord", "tstcol"):
+        with open(os.path.join(folder, name), "rb") as file:
+            found[name.encode()] = file.read()
+    return found
+
+
+def answer_of(program, made):
+    """What the program prints, and the status that it ends with."""
+    with tempfile.TemporaryDirectory() as room:
+        for name, octets in made.files.items():
+            path = os.path.join(room, name.decode())
+            os.makedirs(os.path.dirname(path), exist_ok=True)
+            with open(path, "wb") as file:
+                file.write(octets)
+        ran = subprocess.run([program.encode()] + made.words, cwd=room, input=made.given, capture_output=True,
+                             timeout=PATIENCE, check=False)
+    return ran.stdout + ran.stderr, ran.returncode
+
+
+def words_told(output):
+    """The kinds of errors and faults in an output: the words that end its lines, or stand before a tag there."""
+    return {word for line in output.split(b"\n") for word in line.split(b" ")[-2:]}
+
+
+def compare_random(seed, count, tests, program):
+    """Compares as many inputs, from this seed on, and gives how many agreed and how many differed."""
+    examples = example_files(tests)
+    agreed, differed, told = 0, 0, set()
+    for number in range(seed, seed + count):
+        made = input_of(number, examples)
+        reading = commands.run(made.words, made.files.get, lambda given=made.given: given)
+        answer = answer_of(program, made)
+        told |= words_told(reading[0])
+        if reading == answer:
+            agreed += 1
+            continue
+        differed += 1
+        if differed <= SHOWN:
+            show("seed %d" % number, reading, answer)
+            show_input(made)
+    never = [word for word, _code in KINDS if word.encode("ascii") not in told]
+    print("kinds of errors that no input had: " + (" ".join(never) or "none"))
+    return agreed, differed

@@ -85,5 +85,5 @@ def compare_cases(top, names, show):
             agreed += 1
         else:
             differed += 1
-            show("case " + name, (output, status), (case.output, case.status))
+            show("case " + name, (output, status), (case.output, case.status), "case")
     return agreed, differed, unknown

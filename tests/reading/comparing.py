@@ -16,15 +16,15 @@ def shown(octets):
     return [repr(line)[2:-1] for line in octets.split(b"\n")]
 
 
-def show(name, reading, program):
-    """Prints what differs: the statuses, and the first lines from the first that differs."""
+def show(name, reading, other, word="program"):
+    """Prints what differs: the statuses, and few lines from the first that differs. The word says what is compared."""
     print("differs: " + name)
-    if reading[1] != program[1]:
-        print("  status: reading %d, program %d" % (reading[1], program[1]))
-    ours, theirs = shown(reading[0]), shown(program[0])
+    if reading[1] != other[1]:
+        print("  status: reading %d, %s %d" % (reading[1], word, other[1]))
+    ours, theirs = shown(reading[0]), shown(other[0])
     first = next((k for k in range(min(len(ours), len(theirs))) if ours[k] != theirs[k]),
                  min(len(ours), len(theirs)))
-    for mark, lines in (("reading", ours), ("program", theirs)):
+    for mark, lines in (("reading", ours), (word, theirs)):
         for place in range(first, min(first + 3, len(lines))):
             print("  %s, line %d: %s" % (mark, place + 1, lines[place]))
 

@@ -7,7 +7,10 @@ CODES = [b"1131", b"1001", b"1004", b"2005", b"2380", b"3035", b"4440", b"5004",
 COMPOSITE_CODES = [b"C002", b"C108", b"C507", b"C516"]
 TAGS = [b"BGM", b"DTM", b"FTX", b"LIN", b"QTY", b"RFF", b"X1Y"]
 NAMES = [b"TSTORD", b"ABCDEF", b"B12345"]
-VALUES = [b"1", b"2", b"9", b"137", b"220", b"231", b"A", b"AAA", b"ZZZ", b"EN", b"9X", b"?", b"a", b"A.1"]
+# Words that are put into the lines of files.
+ODD_WORDS = [b"M", b"C", b"0", b"1", b"an..3", b"n2", b"1001", b"9999", b"C002", b"BGM", b"UNT", b"UNB", b"+", b"X",
+             b"", b"----------", b"Repr:", b"1000000", b"x", b"999", b"005", b"0005", b"C" * 36]
+VALUES = [b"A" * 35, b"1", b"2", b"9", b"137", b"220", b"231", b"A", b"AAA", b"ZZZ", b"EN", b"9X", b"?", b"a", b"A.1"]
 TITLES = [b"Name", b"Date/time, coded", b"NAME OF A THING", b"M C x", b"- Segment group 1 -", b"a+b"]
 
 
@@ -99,11 +102,19 @@ def status(member):
 
 
 class Files:
-    """Spells definitions as files, with blank lines, marks and texts where the rules allow them."""
+    """Spells definitions as files, with blank lines, marks and texts where the rules allow them.
 
-    def __init__(self, rng):
+    A line in so many slips: it may be indented otherwise, or have other words.
+    """
+
+    def __init__(self, rng, slips=0.0):
         self.rng = rng
+        self.slips = slips
         self.line_end = rng.choice([b"\n", b"\n", b"\r\n"])
+
+    def slip(self, due, *others):
+        """What is due, or now and then one of the others."""
+        return self.rng.choice(others) if self.rng.random() < self.slips else due
 
     def marked(self, indentation):
         """Spaces in front of a line, some of which may be written as marks."""
@@ -113,7 +124,16 @@ class Files:
         return b" " * indentation
 
     def line(self, indentation, *words):
+        indentation = self.slip(indentation, 0, 1, 4, 5, 7, 8, 9, 10)
+        place = self.rng.randrange(len(words))
+        word = words[place]
+        words = self.slip(words, words[:place] + words[place + 1:], words[:place] + (word, word) + words[place + 1:],
+                          words[:place] + (self.rng.choice(ODD_WORDS),) + words[place + 1:])
         return self.marked(indentation) + (b" " * self.rng.randint(1, 3)).join(words)
+
+    def text(self, least):
+        """No line, or one of text that is indented by at least so many spaces."""
+        return self.rng.choice([[], [], [self.line(self.rng.randint(least, least + 3), self.title())]])
 
     def title(self):
         return self.rng.choice(TITLES)
@@ -121,7 +141,7 @@ class Files:
     def file(self, entries):
         """A file of entries, each a list of lines."""
         lines = self.rng.choice([[], [b"A text before it.", b"  10  x"]])
-        for entry in entries:
+        for entry in self.slip(entries, entries + entries[-1:], entries[:1] + entries):
             lines.append(b"-" * self.rng.randint(10, 70))
             for line in entry:
                 lines += [b""] * self.rng.choice([0, 0, 0, 1])
@@ -136,14 +156,14 @@ class Files:
     def codes(self, parts):
         return self.file([[self.line(2, code, self.title())]
                           + [line for value in values for line in
-                             (self.line(self.rng.randint(1, 7), value, self.title()), self.line(14, self.title()))]
+                             [self.line(self.rng.randint(1, 7), value, self.title())] + self.text(10)]
                           for code, values in parts.lists.items()])
 
     def positions(self, digits):
         """Positions that ascend."""
         place = 0
         while True:
-            place += self.rng.choice([1, 10, 10])
+            place = max(0, place + self.slip(self.rng.choice([1, 10, 10]), 0, -1))
             mark = self.rng.choice([b""] * 9 + [b" +", b" X"])
             yield b"%0*d" % (digits, place) + mark
 
@@ -153,19 +173,21 @@ class Files:
                 for position, member in zip(self.positions(3), members)]
 
     def composites(self, parts):
-        return self.file([[self.line(7, code, self.title()), self.line(7, b"Desc:", self.title())]
-                          + self.member_lines(members) for code, members in parts.composites.items()])
+        return self.file([[self.line(7, code, self.title())] + self.text(5) + self.member_lines(members)
+                          for code, members in parts.composites.items()])
 
     def segments(self, parts):
         """The items of each segment, some with the parts of their composites below them."""
         entries = []
         for tag, items in parts.segments.items():
-            lines = [self.line(7, tag, self.title())]
+            lines = [self.line(7, tag, self.title())] + self.text(5)
             for item, line in zip(items, self.member_lines(items)):
                 lines.append(line)
                 if not item.representation and self.rng.random() < 0.5:
-                    lines += [self.line(7, part.code, self.title(), status(part), part.representation)
-                              for part in parts.composites.get(item.code, [])]
+                    again = [self.line(7, part.code, self.title(), status(part), part.representation)
+                             for part in parts.composites.get(item.code, [])]
+                    lines += self.slip(again, again[::-1], again[:-1])
+                lines += self.text(5)
             entries.append(lines)
         return self.file(entries)
 
@@ -180,16 +202,18 @@ class Files:
                 groups += 1
                 head = self.rng.choice([
                     b"---- Segment group %d ----", b"-- SEGMENT  Group %d", b"--- segment group %d -"])
-                drawn = head % groups, drawing + b"+"
+                drawn = head % self.slip(groups, groups + 1, 0), drawing + self.slip(b"+", b"", b"+|+")
             else:
-                drawn = row.tag + b" " + self.title(), drawing + b"+" * max(0, row.depth - after)
+                ends = max(0, row.depth - after)
+                drawn = row.tag + b" " + self.title(), drawing + b"+" * self.slip(ends, ends + 1, max(0, ends - 1))
+            lines += self.text(5)
             lines.append(position + b" " + drawn[0] + b" " + status(row) + b" %d" % row.greatest + b" " + drawn[1])
         return self.line_end.join(lines) + self.rng.choice([b"", self.line_end])
 
 
-def files_of(rng, parts):
+def files_of(rng, parts, slips=0.0):
     """The files of a directory by their names, the manifest's among them."""
-    files = Files(rng)
+    files = Files(rng, slips)
     manifest = [b"directory " + b" ".join(parts.labels), b"elements ed/e", b"codes ed/c", b"composites ed/p",
                 b"segments ed/s"]
     found = {b"ed/e": files.elements(parts), b"ed/c": files.codes(parts), b"ed/p": files.composites(parts),

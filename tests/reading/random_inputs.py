@@ -4,15 +4,12 @@ from typing import NamedTuple
 
 from . import random_directories, random_texts
 from .acknowledgement import acknowledgement_of
-from .directory import load
+from .directory import Directory, load
 from .interchange import Reading
 from .random_texts import edit
 from .store import write_store
 
 
-# Words that are put into the lines of files.
-ODD_WORDS = [b"M", b"C", b"0", b"1", b"an..3", b"n2", b"1001", b"9999", b"C002", b"BGM", b"UNT", b"UNB", b"+", b"X",
-             b"", b"----------", b"Repr:", b"1000000", b"x", b"999", b"005", b"0005"]
 BAD_LINES = [b"error\n", b"replace 0 00 0\n\n", b"replace 0 0 4194305\n", b"replace 0 0 1\nXY\n", b"\n", b"End\n",
              b"contrl 960106:080 C1\n", b"contrl 960106:0800 c1\n", b"contrl 960106:0800 C\r\n", b"end \n",
              b"contrl 960106:0800 ABCDEFGHIJ12345\n", b"replace 0 0\n", b"text text\n", b"\xff", b"errors\r\n",
@@ -43,7 +40,7 @@ def input_of(seed, examples):
     rng = Hand(seed)
     make = rng.choices([reading_input, checking_input, script_input, table_input, broken_files_input,
                         broken_parts_input, store_input, drill_input, odd_words_input],
-                       [4, 10, 14, 6, 5, 3, 4, 0.2, 0.5])[0]
+                       [4, 12, 12, 6, 10, 4, 8, 0.2, 0.5])[0]
     return make(rng, examples)
 
 
@@ -80,7 +77,7 @@ def reading_input(rng, examples):
 def checking_input(rng, examples):
     files, directory = some_directory(rng, examples)
     files[b"t"] = text_for(rng, directory)
-    words = rng.choice([[b"check", b"m", b"t"], [b"contrl", b"m", b"t"] + stamp_words(rng)])
+    words = rng.choice([[b"check", b"m", b"t"]] + 2 * [[b"contrl", b"m", b"t"] + stamp_words(rng)])
     return Input(words, files, b"")
 
 
@@ -91,9 +88,12 @@ def table_input(rng, examples):
 
 def broken_files_input(rng, examples):
     """A directory one of whose files is changed in few places, by lines or by octets."""
-    files, _directory = some_directory(rng, examples)
+    if rng.random() < 0.6:
+        files = random_directories.files_of(rng, random_directories.Parts(rng), 0.03)
+    else:
+        files, _directory = some_directory(rng, examples)
     name = rng.choice(sorted(files))
-    for _ in range(rng.choice([1, 1, 1, 2, 3])):
+    for _ in range(rng.choice([0, 1, 1, 2])):
         files[name] = rng.choice([changed_lines, changed_lines, changed_words, changed_octets])(rng, files[name])
     if rng.random() < 0.05:
         del files[rng.choice(sorted(files))]
@@ -130,7 +130,7 @@ def changed_words(rng, octets):
     place = rng.randrange(len(lines))
     words = lines[place].split(b" ")
     k = rng.randrange(len(words))
-    other = rng.choice(ODD_WORDS + [rng.choice(words)])
+    other = rng.choice(random_directories.ODD_WORDS + [rng.choice(words)])
     words[k:k + 1] = rng.choice([[], [other], [other], [words[k], other], [other, words[k]]])
     lines[place] = b" ".join(words)
     return b"\n".join(lines)
@@ -144,13 +144,24 @@ def changed_octets(rng, octets):
 
 def store_input(rng, examples):
     """A store, and a text that is checked by it; now and then the store is changed."""
-    files, directory = some_directory(rng, examples)
-    store = write_store(directory)
-    for _ in range(rng.choice([0, 1, 1, 2])):
+    _files, directory = some_directory(rng, examples)
+    store = write_store(spoiled(rng, directory) if rng.random() < 0.4 else directory)
+    for _ in range(rng.choice([0, 0, 1, 1, 2])):
         store = rng.choice([changed_lines, changed_words, changed_octets, changed_octets])(rng, store)
     text = text_for(rng, directory)
     words = rng.choice([[b"check", b"s", b"t"], [b"tables", b"s"], [b"compile", b"s"]])
     return Input(words, {b"s": store, b"t": text}, b"")
+
+
+def spoiled(rng, directory):
+    """A directory as none can be: its definitions, one of which is changed."""
+    parts = random_directories.Parts(rng)
+    parts.elements, parts.lists = dict(directory.elements), dict(directory.lists)
+    parts.composites, parts.segments = dict(directory.composites), dict(directory.segments)
+    parts.messages = {name: list(rows) for name, rows in directory.messages.items()}
+    random_directories.spoil(rng, parts)
+    return Directory(directory.labels, parts.elements.items(), parts.lists.items(), parts.composites.items(),
+                     parts.segments.items(), parts.messages.items())
 
 
 def script_input(rng, examples):
@@ -170,9 +181,12 @@ def script(rng, text):
         if commands[-1].startswith(b"replace"):
             before, text = text, text_after(commands[-1], text)
     commands.append(b"end\n" + rng.choice([b"", b"errors\n"]))
-    if rng.random() < 0.15:
-        commands[rng.randrange(len(commands))] = bad_line(rng)
+    if rng.random() < 0.25:
+        commands[rng.randrange(len(commands))] = rng.choice(BAD_LINES)
     octets = b"".join(commands)
+    if rng.random() < 0.1:
+        line = rng.choice(BAD_LINES)
+        return b"".join(commands[:rng.randrange(len(commands))]) + line[:rng.randint(1, len(line))]
     return octets[:rng.randint(0, len(octets))] if rng.random() < 0.1 else octets
 
 
@@ -207,10 +221,6 @@ def command(rng, text):
     if roll < 0.72:
         return b"contrl %s %s\n" % tuple(stamp_words(rng))
     return rng.choice([b"errors\n", b"tree\n"])
-
-
-def bad_line(rng):
-    return rng.choice(BAD_LINES)
 
 
 def drill_input(rng, _examples):

@@ -126,7 +126,7 @@ def interchange(rng, directory):
             [wrong(rng, b"SELL+ER:"), b"14", b"ROUTE'?"], [b"960105", b"0930"],
             [wrong(rng, rng.choice([b"R1", b"R?1"]))]]
     head += rng.choice([[], [], [[b""], [b"APP"], [b"A"], [b"1"]], [[b"REF", b"AA"], [b""], [b""], [b"5"]]])
-    make = rng.choice([message, message, group])
+    make = rng.choice([message, group])
     units = [make(rng, directory, b"%d" % (k + 1)) for k in range(0 if rng.slips(0.2) else rng.randint(1, 3))]
     if rng.slips(0.1):
         units.append(message(rng, directory, b"77"))

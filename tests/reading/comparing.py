@@ -1,4 +1,5 @@
 """The program's answers to random inputs, compared with the reading, and how a difference is shown."""
+import difflib
 import os
 import subprocess
 import tempfile
@@ -9,24 +10,25 @@ from .random_inputs import input_of
 
 SHOWN = 5
 PATIENCE = 60
+WIDTH = 2000
+LINES = 20
 
 
 def shown(octets):
-    """Octets as a person can read them: lines that end with LF, and other octets escaped."""
-    return [repr(line)[2:-1] for line in octets.split(b"\n")]
+    """Octets as a person can read them: lines that end with LF, other octets escaped, and long lines cut off."""
+    lines = octets.split(b"\n")
+    return [repr(line[:WIDTH])[2:-1] + (" .. (%d octets)" % len(line) if len(line) > WIDTH else "") for line in lines]
 
 
 def show(name, reading, other, word="program"):
-    """Prints what differs: the statuses, and few lines from the first that differs. The word says what is compared."""
+    """Prints what differs: the statuses, and the first lines. The word says what the reading is compared with."""
     print("differs: " + name)
     if reading[1] != other[1]:
         print("  status: reading %d, %s %d" % (reading[1], word, other[1]))
     ours, theirs = shown(reading[0]), shown(other[0])
-    first = next((k for k in range(min(len(ours), len(theirs))) if ours[k] != theirs[k]),
-                 min(len(ours), len(theirs)))
-    for mark, lines in (("reading", ours), (word, theirs)):
-        for place in range(first, min(first + 3, len(lines))):
-            print("  %s, line %d: %s" % (mark, place + 1, lines[place]))
+    lines = difflib.unified_diff(ours, theirs, "reading", word, n=0, lineterm="")
+    for line in list(lines)[:LINES]:
+        print("  " + line)
 
 
 def show_input(made):
@@ -55,8 +57,11 @@ def answer_of(program, made):
             os.makedirs(os.path.dirname(path), exist_ok=True)
             with open(path, "wb") as file:
                 file.write(octets)
-        ran = subprocess.run([program.encode()] + made.words, cwd=room, input=made.given, capture_output=True,
-                             timeout=PATIENCE, check=False)
+        try:
+            ran = subprocess.run([program.encode()] + made.words, cwd=room, input=made.given, capture_output=True,
+                                 timeout=PATIENCE, check=False)
+        except subprocess.TimeoutExpired:
+            return b"(no answer within %d seconds)" % PATIENCE, -1
     return ran.stdout + ran.stderr, ran.returncode
 
 
@@ -81,6 +86,7 @@ def compare_random(seed, count, tests, program):
         if differed <= SHOWN:
             show("seed %d" % number, reading, answer)
             show_input(made)
-    never = [word for word, _code in KINDS if word.encode("ascii") not in told]
-    print("kinds of errors that no input had: " + (" ".join(never) or "none"))
+    if count > 1:
+        never = [word for word, _code in KINDS if word.encode("ascii") not in told]
+        print("kinds of errors that no input had: " + (" ".join(never) or "none"))
     return agreed, differed

@@ -8,6 +8,7 @@ from .directory import Directory, load
 from .interchange import Reading
 from .random_texts import edit
 from .store import write_store
+from .text import TEXT_LIMIT
 
 
 BAD_LINES = [b"error\n", b"replace 0 00 0\n\n", b"replace 0 0 4194305\n", b"replace 0 0 1\nXY\n", b"\n", b"End\n",
@@ -39,8 +40,8 @@ def input_of(seed, examples):
     """The input that a seed makes. The files of the example directory are told."""
     rng = Hand(seed)
     make = rng.choices([reading_input, checking_input, script_input, table_input, broken_files_input,
-                        broken_parts_input, store_input, drill_input, odd_words_input],
-                       [4, 12, 12, 6, 10, 4, 8, 0.2, 0.5])[0]
+                        broken_parts_input, store_input, limits_input, drill_input, odd_words_input],
+                       [4, 12, 12, 6, 10, 4, 8, 0.3, 0.2, 0.5])[0]
     return make(rng, examples)
 
 
@@ -61,7 +62,8 @@ def text_for(rng, directory):
         answer, _why_not = acknowledgement_of(Reading(directory, octets), (b"960106", b"0800"), b"C1")
         return answer or octets
     if rng.random() < 0.05:
-        return bytes(rng.choice(random_texts.ODD_OCTETS) for _ in range(rng.randint(0, 40)))
+        return rng.choice([b"", b"UNA", b"UNB+"]) + bytes(rng.choice(random_texts.ODD_OCTETS)
+                                                          for _ in range(rng.randint(0, 40)))
     return octets
 
 
@@ -79,6 +81,12 @@ def checking_input(rng, examples):
     files[b"t"] = text_for(rng, directory)
     words = rng.choice([[b"check", b"m", b"t"]] + 2 * [[b"contrl", b"m", b"t"] + stamp_words(rng)])
     return Input(words, files, b"")
+
+
+def limits_input(rng, examples):
+    files, directory = some_directory(rng, examples)
+    files[b"t"] = random_texts.near_limits(rng, directory)
+    return Input([b"contrl", b"m", b"t"] + stamp_words(rng), files, b"")
 
 
 def table_input(rng, examples):
@@ -138,7 +146,7 @@ def changed_words(rng, octets):
 
 def changed_octets(rng, octets):
     place = rng.randint(0, len(octets))
-    return octets[:place] + rng.choice([b"", b" ", b"\n", b"\r", b"+", b"0", b"9", b"M", b"-"]) \
+    return octets[:place] + rng.choice([b"", b" ", b"\n", b"\r", b"\t", b"+", b"0", b"9", b"M", b"-"]) \
         + octets[place + rng.choice([0, 1, 1]):]
 
 
@@ -204,7 +212,8 @@ def text_after(line, text):
     """The text that an edit leaves, if it is inside."""
     head, data = line.split(b"\n", 1)
     at, cut, _size = (int(word) for word in head.split(b" ")[1:])
-    return text[:at] + data[:-1] + text[at + cut:] if at + cut <= len(text) else text
+    left = text[:at] + data[:-1] + text[at + cut:]
+    return left if at + cut <= len(text) and len(left) <= TEXT_LIMIT else text
 
 
 def command(rng, text):
@@ -216,6 +225,10 @@ def command(rng, text):
         at, cut = rng.choice([(len(text), 1), (len(text) + 1, 0), (0, len(text) + 1), (9999999999999999999, 1),
                               (9999999999999999999, 9999999999999999999), (0, 0)])
         return b"replace %d %d 1\n'\n" % (at, cut)
+    if roll < 0.602:
+        # One octet more than a text may have.
+        size = TEXT_LIMIT - len(text) + 1
+        return b"replace %d 0 %d\n%s\n" % (rng.randint(0, len(text)), size, b" " * size)
     if roll < 0.62:
         return b"text\n"
     if roll < 0.72:

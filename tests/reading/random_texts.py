@@ -95,7 +95,8 @@ def message_tags(rng, table):
 
 def wrong(rng, value):
     """The value, or now and then another one."""
-    return rng.choice([b"", b"0" + value, b"9", value + b"X"]) if rng.slips(0.07) else value
+    others = [b"", b"0" + value, b"9", value + b"X", value.rjust(19, b"0"), value.rjust(20, b"0")]
+    return rng.choice(others) if rng.slips(0.07) else value
 
 
 def message(rng, directory, reference):
@@ -132,6 +133,18 @@ def interchange(rng, directory):
         units.append(message(rng, directory, b"77"))
     tail = [[b"UNZ"], [wrong(rng, b"%d" % len(units))], [wrong(rng, head[5][0])]]
     return [head] + [part for unit in units for part in unit] + [tail]
+
+
+def near_limits(rng, directory):
+    """A message with as many errors, elements or components as an acknowledgement can tell, or one more or less."""
+    near = rng.choice([98, 99, 100, 997, 998, 999, 1000, 1001])
+    segments = [[b"UNB"], [b"UNOA", b"3"], [b"A"], [b"B"], [b"960105", b"0930"], [b"R1"]], [
+        [b"UNH"], [b"1"], list(rng.choice(sorted(directory.tables)))]
+    tag = rng.choice(sorted(directory.segments))
+    body = rng.choice([[[[tag]] + [[b"a", b"b"]] * near], [[[tag], [b"a"] * near, [b"b"]]], [[[tag]]] * near,
+                       [[[tag], [b"a"], [b"", b"b"]]] * near, [[[b"Z"]]] * near])
+    ends = [[[b"UNT"], [b"%d" % (len(body) + 2)], [b"1"]], [[b"UNZ"], [b"1"], [b"R1"]]]
+    return b"".join(segment_octets(segment, DEFAULT) for segment in list(segments) + body + ends)
 
 
 def shuffled(rng, segments):

@@ -17,7 +17,8 @@ closing_text n = codes "UNZ+" ++ decimal n ++ codes "+R1'"
 -- UNH, BGM and DTM of the message with this reference
 unfoldable pub head_text : ℕ → List ℕ
 head_text reference =
-    codes "UNH+" ++ decimal reference ++ codes "+TSTORD:D:96A:UN'BGM+220+PO" ++ decimal reference ++ codes "+9'DTM+137:19960105:102'"
+    codes "UNH+" ++ decimal reference ++ codes "+TSTORD:D:96A:UN'BGM+220+PO" ++ decimal reference
+    ++ codes "+9'DTM+137:19960105:102'"
 
 -- LIN and QTY: line j of an order, and its quantity
 unfoldable pub line_text : ℕ → ℕ → List ℕ

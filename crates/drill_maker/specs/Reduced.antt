@@ -1,33 +1,23 @@
 -- The reduced directory of a drill: that of the example, with the message TSTORD alone.
-use Rattle.std.specs.Prelude.{ℕ, false, List, [], ◌∷◌, codes}
+use Rattle.std.specs.Prelude.{ℕ, List, [], ◌∷◌, codes}
 use Rattle.edi_tables.specs.declared.element.Class.{Class}
 use Rattle.edi_tables.specs.declared.element.Class.TheVariants.{N, An}
 use Rattle.edi_tables.specs.declared.element.ElementDef.{ElementDef}
 use Rattle.edi_tables.specs.declared.element.CodeList.{CodeList}
-use Rattle.edi_tables.specs.declared.element.PartDef.{PartDef}
 use Rattle.edi_tables.specs.declared.element.CompositeDef.{CompositeDef}
-use Rattle.edi_tables.specs.declared.segment.ItemDef.{ItemDef}
 use Rattle.edi_tables.specs.declared.segment.SegmentDef.{SegmentDef}
 use Rattle.edi_tables.specs.declared.segment.TableRow.{TableRow}
 use Rattle.edi_tables.specs.declared.segment.MessageDef.{MessageDef}
 use Rattle.dir_compile.specs.declared.parts.Parts.{Parts}
-use Rattle.service_tables.specs.ServiceTables.{M, C, up_to, part, alone, composite, segment_row, group_row}
+use Rattle.service_tables.specs.ServiceTables.{M, C, up_to, repr_of, part, alone, composite, composite_of, segment_of, segment_row, group_row}
 
 -- an element with values of up to so many octets
 abbrev pub element : List ℕ → Class → ℕ → ElementDef
-element code class most = record { code = record { octets = code }; repr = record { class = class; exact = false; max = most } }
+element code class most = record { code = record { octets = code }; repr = repr_of class (up_to most) }
 
 -- the codes of an element
 abbrev pub list_of : List ℕ → List (List ℕ) → CodeList
 list_of code values = record { element = record { octets = code }; values = values }
-
--- a composite and its parts
-abbrev pub composite_of : List ℕ → List PartDef → CompositeDef
-composite_of code parts = record { code = record { octets = code }; parts = parts }
-
--- a segment and its items
-abbrev pub segment_of : List ℕ → List ItemDef → SegmentDef
-segment_of tag items = record { tag = record { octets = tag }; items = items }
 
 abbrev pub elements : List ElementDef
 elements =

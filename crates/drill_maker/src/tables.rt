@@ -1,11 +1,6 @@
 //! The tables of the reduced directory.
-use edi_tables::{Class, Code, ElementDef, ItemDef, PartDef, Repr, TableRow, Tag};
-
-/// Mandatory.
-const M: bool = true;
-
-/// Conditional.
-const C: bool = false;
+use edi_tables::{Code, ElementDef, ItemDef, PartDef, TableRow, Tag};
+use service_tables::{alone, composite, part, repr, row};
 
 /// A code list: the element, and its values.
 #[derive(Clone, Copy)]
@@ -28,66 +23,12 @@ pub struct SegmentRow {
     pub items: &'static [ItemDef],
 }
 
-/// A data element: its code, its class and its greatest length.
+/// A data element: its code and its representation.
 macro_rules! element {
     ($code:literal $class:ident .. $max:literal) => {
         ElementDef {
             code: Code { octets: *$code },
-            repr: Repr {
-                class: Class::$class,
-                exact: false,
-                max: $max,
-            },
-        }
-    };
-}
-
-/// The same with its status, where it is used.
-macro_rules! part {
-    ($code:literal $class:ident .. $max:literal $status:ident) => {
-        PartDef {
-            code: Code { octets: *$code },
-            must: $status,
-            repr: Repr {
-                class: Class::$class,
-                exact: false,
-                max: $max,
-            },
-        }
-    };
-}
-
-/// A data element that stands alone in a segment.
-macro_rules! alone {
-    ($($word:tt)+) => { ItemDef::Alone { part: part!($($word)+) } };
-}
-
-/// A composite in a segment: its code and its status.
-macro_rules! composite {
-    ($code:literal $status:ident) => {
-        ItemDef::Composite {
-            code: Code { octets: *$code },
-            must: $status,
-        }
-    };
-}
-
-/// A row of a table: a tag or `group`, its status, its greatest count and the number of groups round it.
-macro_rules! row {
-    (group $status:ident $max:literal depth $depth:literal) => {
-        TableRow {
-            tag: None,
-            must: $status,
-            max: $max,
-            depth: $depth,
-        }
-    };
-    ($tag:literal $status:ident $max:literal depth $depth:literal) => {
-        TableRow {
-            tag: Some(Tag { octets: *$tag }),
-            must: $status,
-            max: $max,
-            depth: $depth,
+            repr: repr!($class .. $max),
         }
     };
 }

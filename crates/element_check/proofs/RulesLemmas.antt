@@ -16,7 +16,7 @@ use Rattle.edi_tables.specs.Tag.{is_tag_of}
 use Rattle.dir_compile.specs.Compile.{composite_name, named_in, segment_name}
 use Rattle.dir_compile.specs.Directory.{IsDirectory}
 use Rattle.dir_compile.specs.declared.parts.Parts.{Parts}
-use Rattle.service_tables.specs.ServiceTables.{Named, service_composites, service_items_of, service_parts_of, service_segments, value_named}
+use Rattle.service_tables.specs.ServiceTables.{held_by, service_composites, service_items_of, service_parts_of, service_segments}
 use Rattle.seg_lexer.specs.declared.context.Context.{Context}
 use Rattle.element_check.specs.Rules.{SegmentRules, defined_rules, parts_by, parts_of, rules_of, service_rules}
 
@@ -30,13 +30,13 @@ named_in-passes name p (y ∷ ys) wanted x all found =
       | inr miss ↦ named_in-passes name p ys wanted x parts.1 (sym (ap (λ (b : Bool). cond b (Some y) (named_in name ys wanted)) miss) ∙ found)
     ]
 
-value_named-passes : {X : Type 0} (p : X → Bool) (ns : List (Named X)) (name : List ℕ) (x : X) → list_all (λ n. p n.value) ns ≡ true → value_named ns name ≡ Some x → p x ≡ true
-value_named-passes p [] name x all found = absurd (cc)
-value_named-passes p (n ∷ ns) name x all found =
-    let parts = and_parts (p n.value) (list_all (λ m. p m.value) ns) all in
-    elim (cases_Bool (bytes_eq n.name name)) [
+held_by-passes : {X Y : Type 0} (name : X → List ℕ) (value : X → Y) (p : Y → Bool) (xs : List X) (wanted : List ℕ) (y : Y) → list_all (λ x. p (value x)) xs ≡ true → held_by name value xs wanted ≡ Some y → p y ≡ true
+held_by-passes name value p [] wanted y all found = absurd (cc)
+held_by-passes name value p (x ∷ xs) wanted y all found =
+    let parts = and_parts (p (value x)) (list_all (λ z. p (value z)) xs) all in
+    elim (cases_Bool (bytes_eq (name x) wanted)) [
       | inl hit ↦ grind (arith, parts.0, hit, found)
-      | inr miss ↦ value_named-passes p ns name x parts.1 (sym (ap (λ (b : Bool). cond b (Some n.value) (value_named ns name)) miss) ∙ found)
+      | inr miss ↦ held_by-passes name value p xs wanted y parts.1 (sym (ap (λ (b : Bool). cond b (Some (value x)) (held_by name value xs wanted)) miss) ∙ found)
     ]
 
 -- a segment that a directory defines has at most 99 items, and a composite at most 99 parts
@@ -62,14 +62,14 @@ defined-few parts tag segment lawful found = few_items segment (named_in-passes 
 service-few : (tag : List ℕ) (items : List ItemDef) → service_items_of tag ≡ Some items → length items ≤ 99
 unfolding service_items_of
 service-few tag items found =
-    let most : nat_le (length items) 99 ≡ true = value_named-passes (λ xs. nat_le (length xs) 99) service_segments tag items refl found in
+    let most : nat_le (length items) 99 ≡ true = held_by-passes segment_name (λ segment. segment.items) (λ xs. nat_le (length xs) 99) service_segments tag items refl found in
     grind (arith, nat_tests)
 
 service_parts-few : (code : List ℕ) (o : Option (List PartDef)) → service_parts_of code ≡ o → length (unwrap_or o []) ≤ 99
 unfolding service_parts_of
 service_parts-few code None found = lit≤ tt
 service_parts-few code (Some parts) found =
-    let most : nat_le (length parts) 99 ≡ true = value_named-passes (λ xs. nat_le (length xs) 99) service_composites code parts refl found in
+    let most : nat_le (length parts) 99 ≡ true = held_by-passes composite_name (λ composite. composite.parts) (λ xs. nat_le (length xs) 99) service_composites code parts refl found in
     grind (arith, nat_tests)
 
 defined_parts-few : (parts : Parts) (code : List ℕ) (o : Option CompositeDef) → IsDirectory parts → named_in composite_name parts.composites code ≡ o

@@ -3,9 +3,12 @@ use Rattle.std.specs.Prelude.{ℕ, Bool, true, false, List, [], ◌∷◌, Optio
 use Rattle.std.specs.Str.{bytes_eq}
 use Rattle.edi_tables.specs.declared.element.Class.{Class}
 use Rattle.edi_tables.specs.declared.element.Class.TheVariants.{A, N, An}
+use Rattle.edi_tables.specs.declared.element.CompositeDef.{CompositeDef}
 use Rattle.edi_tables.specs.declared.element.PartDef.{PartDef}
+use Rattle.edi_tables.specs.declared.element.Repr.{Repr}
 use Rattle.edi_tables.specs.declared.segment.ItemDef.{ItemDef}
 use Rattle.edi_tables.specs.declared.segment.ItemDef.TheVariants.{Alone, Composite}
+use Rattle.edi_tables.specs.declared.segment.SegmentDef.{SegmentDef}
 use Rattle.edi_tables.specs.declared.segment.TableRow.{TableRow}
 
 -- the two statuses: mandatory and conditional
@@ -26,78 +29,77 @@ exactly n = record { exact = true; max = n }
 abbrev pub up_to : ℕ → Length
 up_to n = record { exact = false; max = n }
 
+-- a representation: the class of the octets, and how many there are
+abbrev pub repr_of : Class → Length → Repr
+repr_of class long = record { class = class; exact = long.exact; max = long.max }
+
 -- a data element: its code, class, length and status
 abbrev pub part : List ℕ → Class → Length → Bool → PartDef
-part code class long must =
-    record { code = record { octets = code }; must = must; repr = record { class = class; exact = long.exact; max = long.max } }
+part code class long must = record { code = record { octets = code }; must = must; repr = repr_of class long }
 
 abbrev pub alone : List ℕ → Class → Length → Bool → ItemDef
 alone code class long must = Alone (part code class long must)
 
+-- a composite where it is used: its code and its status
 abbrev pub composite : List ℕ → Bool → ItemDef
 composite code must = Composite (record { octets = code }) must
 
--- a name and what it stands for
-pub record Named (A : Type 0) : Type 0 where
-  pub name : List ℕ
-  pub value : A
+-- the composite of these parts
+abbrev pub composite_of : List ℕ → List PartDef → CompositeDef
+composite_of code parts = record { code = record { octets = code }; parts = parts }
 
-abbrev pub named : {A : Type 0} → List ℕ → A → Named A
-named name value = record { name = name; value = value }
-
--- what a name stands for, if it is there
-abbrev pub value_named : {A : Type 0} → List (Named A) → List ℕ → Option A
-value_named [] name = None
-value_named (n ∷ more) name = if bytes_eq n.name name then Some n.value else value_named more name
+-- the segment of these items
+abbrev pub segment_of : List ℕ → List ItemDef → SegmentDef
+segment_of tag items = record { tag = record { octets = tag }; items = items }
 
 -- the composites of the service segments, with their components in order
-abbrev pub service_composites : List (Named (List PartDef))
+abbrev pub service_composites : List CompositeDef
 service_composites =
-    named (codes "S001") (
+    composite_of (codes "S001") (
     part (codes "0001") A (exactly 4) M ∷
     part (codes "0002") N (exactly 1) M ∷ [])
-    ∷ named (codes "S002") (
+    ∷ composite_of (codes "S002") (
     part (codes "0004") An (up_to 35) M ∷
     part (codes "0007") An (up_to 4) C ∷
     part (codes "0008") An (up_to 14) C ∷ [])
-    ∷ named (codes "S003") (
+    ∷ composite_of (codes "S003") (
     part (codes "0010") An (up_to 35) M ∷
     part (codes "0007") An (up_to 4) C ∷
     part (codes "0014") An (up_to 14) C ∷ [])
-    ∷ named (codes "S004") (
+    ∷ composite_of (codes "S004") (
     part (codes "0017") N (exactly 6) M ∷
     part (codes "0019") N (exactly 4) M ∷ [])
-    ∷ named (codes "S005") (
+    ∷ composite_of (codes "S005") (
     part (codes "0022") An (up_to 14) M ∷
     part (codes "0025") An (exactly 2) C ∷ [])
-    ∷ named (codes "S006") (
+    ∷ composite_of (codes "S006") (
     part (codes "0040") An (up_to 35) M ∷
     part (codes "0007") An (up_to 4) C ∷ [])
-    ∷ named (codes "S007") (
+    ∷ composite_of (codes "S007") (
     part (codes "0044") An (up_to 35) M ∷
     part (codes "0007") An (up_to 4) C ∷ [])
-    ∷ named (codes "S008") (
+    ∷ composite_of (codes "S008") (
     part (codes "0052") An (up_to 3) M ∷
     part (codes "0054") An (up_to 3) M ∷
     part (codes "0057") An (up_to 6) C ∷ [])
-    ∷ named (codes "S009") (
+    ∷ composite_of (codes "S009") (
     part (codes "0065") An (up_to 6) M ∷
     part (codes "0052") An (up_to 3) M ∷
     part (codes "0054") An (up_to 3) M ∷
     part (codes "0051") An (up_to 2) M ∷
     part (codes "0057") An (up_to 6) C ∷ [])
-    ∷ named (codes "S010") (
+    ∷ composite_of (codes "S010") (
     part (codes "0070") N (up_to 2) M ∷
     part (codes "0073") A (exactly 1) C ∷ [])
-    ∷ named (codes "S011") (
+    ∷ composite_of (codes "S011") (
     part (codes "0098") N (up_to 3) M ∷
     part (codes "0104") N (up_to 3) C ∷ [])
     ∷ []
 
 -- the service segments, with their data elements in order
-abbrev pub service_segments : List (Named (List ItemDef))
+abbrev pub service_segments : List SegmentDef
 service_segments =
-    named (codes "UNB") (
+    segment_of (codes "UNB") (
     composite (codes "S001") M ∷
     composite (codes "S002") M ∷
     composite (codes "S003") M ∷
@@ -109,7 +111,7 @@ service_segments =
     alone (codes "0031") N (exactly 1) C ∷
     alone (codes "0032") An (up_to 35) C ∷
     alone (codes "0035") N (exactly 1) C ∷ [])
-    ∷ named (codes "UNG") (
+    ∷ segment_of (codes "UNG") (
     alone (codes "0038") An (up_to 6) M ∷
     composite (codes "S006") M ∷
     composite (codes "S007") M ∷
@@ -118,23 +120,23 @@ service_segments =
     alone (codes "0051") An (up_to 2) M ∷
     composite (codes "S008") M ∷
     alone (codes "0058") An (up_to 14) C ∷ [])
-    ∷ named (codes "UNH") (
+    ∷ segment_of (codes "UNH") (
     alone (codes "0062") An (up_to 14) M ∷
     composite (codes "S009") M ∷
     alone (codes "0068") An (up_to 35) C ∷
     composite (codes "S010") C ∷ [])
-    ∷ named (codes "UNT") (
+    ∷ segment_of (codes "UNT") (
     alone (codes "0074") N (up_to 6) M ∷
     alone (codes "0062") An (up_to 14) M ∷ [])
-    ∷ named (codes "UNE") (
+    ∷ segment_of (codes "UNE") (
     alone (codes "0060") N (up_to 6) M ∷
     alone (codes "0048") An (up_to 14) M ∷ [])
-    ∷ named (codes "UNZ") (
+    ∷ segment_of (codes "UNZ") (
     alone (codes "0036") N (up_to 6) M ∷
     alone (codes "0020") An (up_to 14) M ∷ [])
-    ∷ named (codes "UNS") (
+    ∷ segment_of (codes "UNS") (
     alone (codes "0081") A (exactly 1) M ∷ [])
-    ∷ named (codes "UCI") (
+    ∷ segment_of (codes "UCI") (
     alone (codes "0020") An (up_to 14) M ∷
     composite (codes "S002") M ∷
     composite (codes "S003") M ∷
@@ -142,7 +144,7 @@ service_segments =
     alone (codes "0085") An (up_to 3) C ∷
     alone (codes "0013") An (exactly 3) C ∷
     composite (codes "S011") C ∷ [])
-    ∷ named (codes "UCF") (
+    ∷ segment_of (codes "UCF") (
     alone (codes "0048") An (up_to 14) M ∷
     composite (codes "S006") M ∷
     composite (codes "S007") M ∷
@@ -150,17 +152,17 @@ service_segments =
     alone (codes "0085") An (up_to 3) C ∷
     alone (codes "0013") An (exactly 3) C ∷
     composite (codes "S011") C ∷ [])
-    ∷ named (codes "UCM") (
+    ∷ segment_of (codes "UCM") (
     alone (codes "0062") An (up_to 14) M ∷
     composite (codes "S009") M ∷
     alone (codes "0083") An (up_to 3) M ∷
     alone (codes "0085") An (up_to 3) C ∷
     alone (codes "0013") An (exactly 3) C ∷
     composite (codes "S011") C ∷ [])
-    ∷ named (codes "UCS") (
+    ∷ segment_of (codes "UCS") (
     alone (codes "0096") N (up_to 6) M ∷
     alone (codes "0085") An (up_to 3) C ∷ [])
-    ∷ named (codes "UCD") (
+    ∷ segment_of (codes "UCD") (
     alone (codes "0085") An (up_to 3) M ∷
     composite (codes "S011") M ∷ [])
     ∷ []
@@ -192,10 +194,17 @@ contrl_table_rows =
     ∷ segment_row (codes "UNT") M 1 0
     ∷ []
 
+-- what the first of these with that name holds, if there is one
+abbrev pub held_by : {A B : Type 0} → (A → List ℕ) → (A → B) → List A → List ℕ → Option B
+held_by name value [] wanted = None
+held_by name value (x ∷ xs) wanted =
+    if bytes_eq (name x) wanted then Some (value x) else held_by name value xs wanted
+
 -- the data elements of a service segment, if there is one of that tag
 unfoldable pub service_items_of : List ℕ → Option (List ItemDef)
-service_items_of tag = value_named service_segments tag
+service_items_of tag = held_by (λ segment. segment.tag.octets) (λ segment. segment.items) service_segments tag
 
 -- the components of a composite of the service segments, if there is one of that code
 unfoldable pub service_parts_of : List ℕ → Option (List PartDef)
-service_parts_of code = value_named service_composites code
+service_parts_of code =
+    held_by (λ composite. composite.code.octets) (λ composite. composite.parts) service_composites code

@@ -5,8 +5,8 @@ ghost use Rattle.std.specs.Option.{option_copied};
 ghost use Rattle.service_tables.specs.ServiceTables.{service_parts_of};
 ghost use Rattle.service_tables.specs.Sound.{is_sound_part};
 
-use crate::macros::{C, M, part};
-use edi_tables::{Class, Code, PartDef, Repr};
+use crate::part;
+use edi_tables::{Code, PartDef};
 
 const S001: &[PartDef] = &[part!(b"0001" A 4 M), part!(b"0002" N 1 M)];
 

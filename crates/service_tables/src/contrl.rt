@@ -5,28 +5,8 @@ ghost use Rattle.edi_tables.specs.Rows.{table_faults};
 ghost use Rattle.service_tables.specs.ServiceTables.{contrl_table_rows};
 ghost use Rattle.service_tables.specs.Sound.{is_sound_row};
 
-use crate::macros::{C, M};
-use edi_tables::{TableRow, Tag};
-
-/// A row: the segment's tag or `group`, its status, its greatest count and the number of groups round it.
-macro_rules! row {
-    (group $status:ident $max:literal depth $depth:literal) => {
-        TableRow {
-            tag: None,
-            must: $status,
-            max: $max,
-            depth: $depth,
-        }
-    };
-    ($tag:literal $status:ident $max:literal depth $depth:literal) => {
-        TableRow {
-            tag: Some(Tag { octets: *$tag }),
-            must: $status,
-            max: $max,
-            depth: $depth,
-        }
-    };
-}
+use crate::row;
+use edi_tables::TableRow;
 
 const CONTRL: &[TableRow] = &[
     row!(b"UNH" M 1 depth 0),
@@ -58,6 +38,7 @@ pub fn contrl_rows() -> &'static [TableRow]
 #[cfg(test)]
 mod tests {
     use super::*;
+    use edi_tables::Tag;
 
     #[test]
     fn the_rows_of_contrl_begin_and_end_with_the_message(rt: HostRuntime) {

@@ -1,52 +1,89 @@
-//! Short forms of the tables' entries.
+//! Short forms of the entries of tables, written as the standard writes them.
 
-/// A mandatory data element, composite, segment or group.
-pub const M: bool = true;
+/// A status: `M` is mandatory, `C` is conditional.
+#[macro_export]
+macro_rules! must {
+    (M) => {
+        true
+    };
+    (C) => {
+        false
+    };
+}
 
-/// A conditional one.
-pub const C: bool = false;
+/// A representation: its class, and its length (exact, or after `..` the greatest one).
+#[macro_export]
+macro_rules! repr {
+    ($class:ident .. $max:literal) => {
+        edi_tables::Repr {
+            class: edi_tables::Class::$class,
+            exact: false,
+            max: $max,
+        }
+    };
+    ($class:ident $max:literal) => {
+        edi_tables::Repr {
+            class: edi_tables::Class::$class,
+            exact: true,
+            max: $max,
+        }
+    };
+}
 
-/// A data element: its code, its class, its length (exact, or behind `..` the greatest one), and its status.
+/// A data element where it is used: its code, its representation and its status.
+#[macro_export]
 macro_rules! part {
     ($code:literal $class:ident .. $max:literal $status:ident) => {
-        PartDef {
-            code: Code { octets: *$code },
-            must: $status,
-            repr: Repr {
-                class: Class::$class,
-                exact: false,
-                max: $max,
-            },
+        edi_tables::PartDef {
+            code: edi_tables::Code { octets: *$code },
+            must: $crate::must!($status),
+            repr: $crate::repr!($class .. $max),
         }
     };
     ($code:literal $class:ident $max:literal $status:ident) => {
-        PartDef {
-            code: Code { octets: *$code },
-            must: $status,
-            repr: Repr {
-                class: Class::$class,
-                exact: true,
-                max: $max,
-            },
+        edi_tables::PartDef {
+            code: edi_tables::Code { octets: *$code },
+            must: $crate::must!($status),
+            repr: $crate::repr!($class $max),
         }
     };
 }
 
 /// A data element that stands alone in a segment.
+#[macro_export]
 macro_rules! alone {
-    ($($word:tt)+) => { ItemDef::Alone { part: part!($($word)+) } };
+    ($($word:tt)+) => { edi_tables::ItemDef::Alone { part: $crate::part!($($word)+) } };
 }
 
 /// A composite in a segment: its code and its status.
+#[macro_export]
 macro_rules! composite {
     ($code:literal $status:ident) => {
-        ItemDef::Composite {
-            code: Code { octets: *$code },
-            must: $status,
+        edi_tables::ItemDef::Composite {
+            code: edi_tables::Code { octets: *$code },
+            must: $crate::must!($status),
         }
     };
 }
 
-pub(crate) use alone;
-pub(crate) use composite;
-pub(crate) use part;
+/// A row of a segment table: the segment's tag or `group`, its status, its greatest count and the number of groups
+/// round it.
+#[macro_export]
+macro_rules! row {
+    (group $status:ident $max:literal depth $depth:literal) => {
+        edi_tables::TableRow {
+            tag: None,
+            must: $crate::must!($status),
+            max: $max,
+            depth: $depth,
+        }
+    };
+    ($tag:literal $status:ident $max:literal depth $depth:literal) => {
+        edi_tables::TableRow {
+            tag: Some(edi_tables::Tag { octets: *$tag }),
+            must: $crate::must!($status),
+            max: $max,
+            depth: $depth,
+        }
+    };
+}

@@ -5,8 +5,8 @@ ghost use Rattle.std.specs.Option.{option_copied};
 ghost use Rattle.service_tables.specs.ServiceTables.{service_items_of};
 ghost use Rattle.service_tables.specs.Sound.{is_sound_item};
 
-use crate::macros::{C, M, alone, composite, part};
-use edi_tables::{Class, Code, ItemDef, PartDef, Repr, Tag};
+use crate::{alone, composite};
+use edi_tables::{ItemDef, Tag};
 
 const UNB: &[ItemDef] = &[
     composite!(b"S001" M),

@@ -15,7 +15,7 @@ use Rattle.edi_octets.specs.DirStop.{fault_in}
 use Rattle.edi_octets.proofs.EarlierLemmas.{judged-none, judged-first}
 use Rattle.dir_messages.specs.declared.drawing.Drawing.{Drawing}
 use Rattle.dir_messages.specs.Message.{name_on, is_type_line, is_table_line, is_group_line, line_faults, open_faults, rows_of, row_fault, message_after, message_from, message_in, rows_faults}
-use Rattle.dir_messages.specs.Drawing.{IsDrawn, Judges}
+use Rattle.dir_messages.specs.Drawing.{DrawsOrStops, IsDrawn}
 
 -- what each line breaks behind those before it
 abbrev pub judge : List Line × Line → List DirFault
@@ -54,7 +54,7 @@ unfolding answer
 answer-none type lines = refl
 
 -- a line at which the reading stops
-pub Answers-stopped : (type : Line) (lines seen rest : List Line) (line : Line) (old new : Drawing) (stop : DirStop) → lines ≡ seen ++ (line ∷ rest) → HasRead seen old → Judges seen line (Err stop) new → Answers (λ (m : MessageDef). m) fault_in (Err stop) (message_after type lines)
+pub Answers-stopped : (type : Line) (lines seen rest : List Line) (line : Line) (old new : Drawing) (stop : DirStop) → lines ≡ seen ++ (line ∷ rest) → HasRead seen old → DrawsOrStops seen line (Err stop) new → Answers (λ (m : MessageDef). m) fault_in (Err stop) (message_after type lines)
 Answers-stopped type lines seen rest line old new (Fault fault) whole read first =
     message_after-is type lines ∙ ap (λ all. answer type lines (flat_map judge (with_earlier all))) whole
     ∙ ap (answer type lines) (judged-first judge seen line rest fault first.0 read.sound first.1)

@@ -1,4 +1,5 @@
--- What bodies and their invariants need of a drawing: what has been drawn after some table lines, and what the next line does to it.
+-- What bodies and their invariants need of a drawing: what has been drawn after some table lines, and what the next
+-- line does to it.
 use Rattle.std.specs.Prelude.{◌≡◌, ◌+◌, ◌-◌, ℕ, List, [], ◌∷◌, ◌++◌, map, filter, min, Some, Result, Ok, Err, is_some, if◌then◌else◌}
 use Rattle.edi_tables.specs.declared.segment.TableRow.{TableRow}
 use Rattle.edi_octets.specs.declared.fault.DirFault.{DirFault}
@@ -36,14 +37,16 @@ pub record Puts (old : Drawing) (number position : ℕ) (drawn : DrawnRow) (new 
   pub rows : new.rows.items ≡ old.rows.items ++ (drawn.row ∷ [])
   pub numbers : new.row_lines.items ≡ old.row_lines.items ++ (number ∷ [])
   pub groups : new.groups ≡ (if is_some drawn.row.tag then old.groups else old.groups + 1)
-  pub open_groups : new.open_groups ≡ (if is_some drawn.row.tag then old.open_groups - drawn.ends else old.open_groups + 1)
+  pub open_groups :
+      new.open_groups ≡ (if is_some drawn.row.tag then old.open_groups - drawn.ends else old.open_groups + 1)
   pub last_position : new.last_position ≡ Some position
 
 -- what a line after these does: it breaks no rule and is drawn, or its first fault is answered, or memory runs out
-abbrev pub Judges : List Line → Line → Result (Unit {0}) DirStop → Drawing → Type 0
-Judges earlier line (Ok done) drawing = (line_faults earlier line ≡ []) × IsDrawn (filter is_table_line (earlier ++ (line ∷ []))) drawing
-Judges earlier line (Err (Fault fault)) drawing = BeginsWith fault (line_faults earlier line)
-Judges earlier line (Err Memory) drawing = Unit {0}
+abbrev pub DrawsOrStops : List Line → Line → Result (Unit {0}) DirStop → Drawing → Type 0
+DrawsOrStops earlier line (Ok done) drawing =
+    (line_faults earlier line ≡ []) × IsDrawn (filter is_table_line (earlier ++ (line ∷ []))) drawing
+DrawsOrStops earlier line (Err (Fault fault)) drawing = BeginsWith fault (line_faults earlier line)
+DrawsOrStops earlier line (Err Memory) drawing = Unit {0}
 
 -- nothing is wrong, or the first fault is answered, or memory runs out
 abbrev pub FirstOf : Result (Unit {0}) DirStop → List DirFault → Type 0

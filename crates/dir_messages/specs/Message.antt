@@ -106,12 +106,14 @@ is_plain_number field =
 -- the fields that a group line begins with: two or more `-`, and the words `Segment` and `group` in any case
 abbrev pub begins_group : List ℕ → List ℕ → List ℕ → Bool
 begins_group dashes segment group =
-    nat_le 2 (length dashes) && is_dashes dashes && str_eq_ignore_ascii_case segment (codes "Segment") && str_eq_ignore_ascii_case group (codes "group")
+    nat_le 2 (length dashes) && is_dashes dashes && str_eq_ignore_ascii_case segment (codes "Segment")
+    && str_eq_ignore_ascii_case group (codes "group")
 
 -- a group line has these there, a number, and fields of `-` alone
 abbrev pub number_drawn : List (List ℕ) → Option ℕ
 number_drawn (dashes ∷ segment ∷ group ∷ number ∷ more) =
-    if begins_group dashes segment group && is_plain_number number && list_all is_dashes more then Some (digits_value 10 number) else None
+    if begins_group dashes segment group && is_plain_number number && list_all is_dashes more
+    then Some (digits_value 10 number) else None
 number_drawn fields = None
 
 abbrev pub is_group_line : Line → Bool
@@ -154,7 +156,8 @@ drawing_faults earlier line =
 -- what a table line breaks after these: its status and rest, its position, its form, its groups, in this order
 abbrev pub kinds_broken : List Line → Line → List DirKind
 kinds_broken earlier line =
-    when (not (has_rest line)) BadLine ++ when (not (is_in_order earlier line)) BadPosition ++ drawing_faults earlier line
+    when (not (has_rest line)) BadLine ++ when (not (is_in_order earlier line)) BadPosition
+    ++ drawing_faults earlier line
 
 abbrev pub table_line_faults : List Line → Line → List DirFault
 table_line_faults earlier line = map (λ kind. at_line kind line) (kinds_broken earlier line)
@@ -199,7 +202,11 @@ kind_of table.NoTrigger = NoTrigger
 
 -- a fault of the rows stands at its row's line, or at the type line where there is no such row
 abbrev pub row_fault : Line → List Line → RowFault → DirFault
-row_fault type lines fault = elim (slice_get lines fault.at) [ None ↦ at_line (kind_of fault.kind) type | Some line ↦ at_line (kind_of fault.kind) line ]
+row_fault type lines fault =
+    elim (slice_get lines fault.at) [
+      | None ↦ at_line (kind_of fault.kind) type
+      | Some line ↦ at_line (kind_of fault.kind) line
+    ]
 
 -- what the rows break, each fault at its row's line
 abbrev pub rows_faults : Line → List Line → List DirFault

@@ -41,7 +41,7 @@ impl Drawing {
     ghost use Rattle.edi_tables.specs.First.{Answers, unless_faulty};
     ghost use Rattle.edi_octets.specs.DirStop.{fault_in};
     ghost use Rattle.dir_messages.specs.Message.{is_table_line, kinds_broken, position_of, open_faults, rows_faults, rows_of};
-    ghost use Rattle.dir_messages.specs.Drawing.{IsDrawn, Judges, FirstOf, DrawsRow, Puts, BeginsWith};
+    ghost use Rattle.dir_messages.specs.Drawing.{IsDrawn, DrawsOrStops, FirstOf, DrawsRow, Puts, BeginsWith};
 
     /// Nothing drawn yet. It takes no memory.
     pub(crate) fn new(alloc: Global) -> Drawing
@@ -60,7 +60,7 @@ impl Drawing {
     pub(crate) fn judge(&mut self, line: &LineText<'_>) -> Result<(), DirStop>
         requires { self.old.groups < 2 ^ 63 }
         ensures { (earlier : List Line) → IsDrawn (filter is_table_line earlier) self.old
-            → Judges earlier (line_shown line.now) result self.new }
+            → DrawsOrStops earlier (line_shown line.now) result self.new }
     {
         if words::type_name(line).is_some() {
             return Err(stop_at(line.number, DirKind::BadLine));
@@ -87,7 +87,8 @@ impl Drawing {
     ) -> Result<MessageDef, DirStop>
         ensures { (type : Line) (drawn : List Line) → type.number ≡ type_line → IsDrawn drawn self
             → Answers (λ m. m) fault_in result
-            (unless_faulty (open_faults drawn ++ rows_faults type drawn) (record { name = name.now; rows = rows_of drawn })) }
+            (unless_faulty (open_faults drawn ++ rows_faults type drawn)
+            (record { name = name.now; rows = rows_of drawn })) }
     {
         if let Some(line) = self.unclosed_line() {
             return Err(stop_at(line, DirKind::NotClosed));
@@ -115,8 +116,8 @@ impl Drawing {
 
     /// Judges the rows as a segment table: the first fault stands at its row's line, or at the type line.
     fn judge_rows(&self, type_line: u32) -> Result<(), DirStop>
-        ensures { (type : Line) (drawn : List Line) → type.number ≡ type_line → IsDrawn drawn self.now
-            → FirstOf result (rows_faults type drawn) }
+        ensures { (type : Line) (drawn : List Line) → type.number ≡ type_line
+            → IsDrawn drawn self.now → FirstOf result (rows_faults type drawn) }
     {
         match Table::first_fault(&self.rows) {
             None => Ok(()),
@@ -141,7 +142,8 @@ impl Drawing {
         requires few { self.now.groups < 2 ^ 63 }
         requires table_line { is_table_line (line_shown line.now) ≡ true }
         requires position { position_of (line_shown line.now) ≡ position }
-        ensures closes { IfOk result (λ drawn. IsSome drawn.row.tag → drawn.ends ≤ self.now.open_groups) }
+        ensures closes { IfOk result
+            (λ drawn. IsSome drawn.row.tag → drawn.ends ≤ self.now.open_groups) }
         ensures judged { (earlier : List Line) → IsDrawn earlier self.now
             → MatchResult result
             (λ drawn. DrawsRow earlier (line_shown line.now) drawn)

@@ -44,7 +44,8 @@ fn segment_tag(mut middle: Cells<'_>) -> Option<Tag>
 
 /// The number of a group line: `-`, `Segment`, `group`, a number, and fields of `-` alone stand there.
 fn group_number(mut middle: Cells<'_>) -> Option<&[u8]>
-    ensures number { option_map (digits_value 10) (option_copied result) ≡ number_drawn (cells_left middle.entry) }
+    ensures number { option_map (digits_value 10) (option_copied result)
+        ≡ number_drawn (cells_left middle.entry) }
     ensures plain { IfSome result (λ number. is_plain_number number.now ≡ true) }
 {
     let dashes = middle.next()?;

@@ -42,7 +42,8 @@ fn read_drawing(
     lines: Lines<'_>,
 ) -> Result<MessageDef, DirStop>
     requires { length (lines_left lines) ≤ 4194304 }
-    ensures { (type : Line) → type.number ≡ type_line → name_on (fields_of type.octets) ≡ Some name.now
+    ensures { (type : Line) → type.number ≡ type_line
+        → name_on (fields_of type.octets) ≡ Some name.now
         → Answers (λ m. m) fault_in result (message_after type (lines_left lines.entry)) }
 {
     let mut drawing = Drawing::new(alloc);

@@ -1,22 +1,25 @@
 -- The errors of all elements, one way through the components, are those of each element.
-use Rattle.std.proofs.Common.{◌≡◌, ℕ, zero, suc, ◌+◌, ◌-◌, ◌<◌, ◌≤◌, max, ltb, eqb, Bool, true, false, ◌&&◌, ◌||◌, cond, List, [], ◌∷◌, ◌++◌, map, filter, length, refl, sym, ap, subst, ◌∙◌, inl, inr, zero-add, arith}
+use Rattle.std.proofs.Common.{◌≡◌, ℕ, zero, suc, ◌+◌, ◌-◌, ◌<◌, ◌≤◌, max, ltb, eqb, Bool, true, false, ◌&&◌, ◌||◌, cond, not, List, [], ◌∷◌, ◌++◌, map, filter, length, refl, sym, ap, subst, ◌∙◌, inl, inr, zero-add, arith}
 use Rattle.std.proofs.Math.Nat.{le_refl}
 use Rattle.std.proofs.lemmas.Bool.{cases_Bool}
 use Rattle.std.proofs.lemmas.Bool.Decides.{nat_tests}
-use Rattle.std.specs.Prelude.{Some, None, slice_get}
+use Rattle.std.specs.Prelude.{Option, Some, None, slice_get}
+use Rattle.std.specs.Option.{option_map}
+use Rattle.edi_tables.specs.declared.tag.Tag.{Tag}
 use Rattle.std.specs.List.{flat_map, list_any, range_with_len}
 use Rattle.edi_tables.specs.Rows.{when}
 use Rattle.edi_tables.specs.declared.segment.ItemDef.{ItemDef}
 use Rattle.error_ledger.specs.declared.kind.Kind.TheVariants.{BadTag, TooManyElements, UnknownSegment}
-use Rattle.seg_lexer.specs.Fields.{Component, IsInOrder}
+use Rattle.seg_lexer.specs.Fields.{Component, IsInOrder, PlacedComponent, unplaced}
 use Rattle.seg_lexer.proofs.OrderLemmas.{IsInOrder-lower}
 use Rattle.element_check.specs.Local.{element_errors, elements_errors, error_at, errors_by, errors_tagged, is_filled, last_written, local_errors_of, values_in}
-use Rattle.seg_lexer.specs.Tag.{tag_of}
+use Rattle.seg_lexer.specs.Tag.{past_tag_field, tag_of}
 use Rattle.seg_lexer.specs.declared.context.Context.{Context}
 use Rattle.dir_compile.specs.declared.parts.Parts.{Parts}
 use Rattle.element_check.specs.Rules.{SegmentRules, rules_of}
-use Rattle.element_check.specs.Streams.{after_front, front_values, item_errors, items_errors, surplus_elements}
+use Rattle.element_check.specs.Streams.{after_front, errors_past, errors_ruled, front_values, item_errors, items_errors, surplus_elements}
 use Rattle.element_check.specs.declared.error.LocalError.{LocalError}
+use Rattle.element_check.proofs.StreamLemmas.{after-few}
 use Rattle.element_check.proofs.ElementLemmas.{HoldsFrom, element-item, element-past, holds-here, holds-later, holds-none}
 
 -- the tests of two numbers
@@ -216,16 +219,65 @@ module _ (rules : SegmentRules) (components : List Component) where
       sym (ap (λ (n : ℕ). flat_map errors_of_element (range_with_len 1 n)) total
       ∙ items-walk rules.items m 0 (after_front 0 components) (λ k. ap (slice_get rules.items) (zero-add k)) (λ element less. sym (after-values 0 element components less)) (after-order 0 components order) (omega arith))
 
--- the errors of a segment, by its tag and its rules
-module _ (parts : Parts) (context : Context) (components : List Component) where
-  pub errors-untagged : tag_of components ≡ None → error_at 0 0 BadTag ∷ [] ≡ local_errors_of parts context components
-  unfolding local_errors_of
-  errors-untagged none = sym (ap (errors_tagged parts context components) none)
+-- where no component is of the tag field, all are past it
+past-all : (n : ℕ) (fs : List PlacedComponent) → 0 < n → IsInOrder n (map unplaced fs) → past_tag_field fs ≡ fs
+past-all n [] low order = refl
+past-all n (f ∷ fs) low order =
+    let above = order.0 in
+    let other : eqb f.element 0 ≡ false = eq-above f.element 0 (omega arith) in
+    ap (λ b. cond (not b) (f ∷ past_tag_field fs) (past_tag_field fs)) other
+    ∙ ap (λ gs. f ∷ gs) (past-all f.element fs (omega arith) order.1)
 
-  pub errors-unknown : (tag : List ℕ) → tag_of components ≡ Some tag → rules_of parts context tag ≡ None → error_at 0 0 UnknownSegment ∷ [] ≡ local_errors_of parts context components
-  unfolding local_errors_of
-  errors-unknown tag tagged none = sym (ap (errors_tagged parts context components) tagged ∙ ap (errors_by components) none)
+-- the components past the tag field are those after the ones of element 0
+pub past-front : (fs : List PlacedComponent) → IsInOrder 0 (map unplaced fs) → map unplaced (past_tag_field fs) ≡ after_front 0 (map unplaced fs)
+past-front [] order = refl
+past-front (f ∷ fs) order = elim (cases_Bool (eqb f.element 0)) [
+  | inl same ↦
+      ap (λ b. map unplaced (cond (not b) (f ∷ past_tag_field fs) (past_tag_field fs))) same
+      ∙ past-front fs (IsInOrder-lower 0 f.element (map unplaced fs) (omega arith) order.1)
+      ∙ sym (ap (λ b. cond b (after_front 0 (map unplaced fs)) (unplaced f ∷ map unplaced fs)) same)
+  | inr differs ↦
+      let above : 0 < f.element = grind (arith, nat_tests) in
+      ap (λ b. map unplaced (cond (not b) (f ∷ past_tag_field fs) (past_tag_field fs))) differs
+      ∙ ap (λ gs. unplaced f ∷ map unplaced gs) (past-all f.element fs above order.1)
+      ∙ sym (ap (λ b. cond b (after_front 0 (map unplaced fs)) (unplaced f ∷ map unplaced fs)) differs)
+]
 
-  pub errors-known : (tag : List ℕ) (rules : SegmentRules) → tag_of components ≡ Some tag → rules_of parts context tag ≡ Some rules → elements_errors rules components ≡ local_errors_of parts context components
-  unfolding local_errors_of
-  errors-known tag rules tagged known = sym (ap (errors_tagged parts context components) tagged ∙ ap (errors_by components) known)
+-- the errors of a segment, by its tag and its components past the tag field
+module _ (parts : Parts) (context : Context) (components : List Component) (order : IsInOrder 0 components) where
+  ruled : (o : Option SegmentRules) → errors_ruled (after_front 0 components) o ≡ errors_by components o
+  ruled None = refl
+  ruled (Some rules) = elements-walk rules components order
+
+  tagged : (o : Option (List ℕ)) → errors_past parts context (after_front 0 components) o ≡ errors_tagged parts context components o
+  tagged None = refl
+  tagged (Some tag) = ruled (rules_of parts context tag)
+
+pub errors-past : (parts : Parts) (context : Context) (all past : List PlacedComponent) (tag : Option (List ℕ))
+    → IsInOrder 0 (map unplaced all) → past ≡ past_tag_field all → tag ≡ tag_of (map unplaced all)
+    → errors_past parts context (map unplaced past) tag ≡ local_errors_of parts context (map unplaced all)
+unfolding local_errors_of
+errors-past parts context all past tag order past_is tag_is =
+    ap (λ (fs : List PlacedComponent). errors_past parts context (map unplaced fs) tag) past_is
+    ∙ ap (λ (cs : List Component). errors_past parts context cs tag) (past-front all order)
+    ∙ ap (errors_past parts context (after_front 0 (map unplaced all))) tag_is
+    ∙ tagged parts context (map unplaced all) order (tag_of (map unplaced all))
+
+pub past-few : (all past : List PlacedComponent) (n : ℕ) → IsInOrder 0 (map unplaced all) → past ≡ past_tag_field all → length (map unplaced all) < n → length (map unplaced past) < n
+past-few all past n order past_is few =
+    after-few 0 n (map unplaced all) (map unplaced past) (ap (map unplaced) past_is ∙ past-front all order) few
+
+-- the errors by the tag that there is or isn't, and by its rules
+module _ (parts : Parts) (context : Context) (elements : List Component) where
+  pub past-untagged : (tag : Option Tag) → tag ≡ None → error_at 0 0 BadTag ∷ [] ≡ errors_past parts context elements (option_map (λ t. t.octets) tag)
+  past-untagged tag none = sym (ap (λ (t : Option Tag). errors_past parts context elements (option_map (λ t. t.octets) t)) none)
+
+  pub past-unknown : (tag : Option Tag) (found : Tag) → tag ≡ Some found → rules_of parts context found.octets ≡ None
+      → error_at 0 0 UnknownSegment ∷ [] ≡ errors_past parts context elements (option_map (λ t. t.octets) tag)
+  past-unknown tag found is none =
+      sym (ap (λ (t : Option Tag). errors_past parts context elements (option_map (λ t. t.octets) t)) is ∙ ap (errors_ruled elements) none)
+
+  pub past-known : (tag : Option Tag) (found : Tag) (rules : SegmentRules) → tag ≡ Some found → rules_of parts context found.octets ≡ Some rules
+      → items_errors rules 0 rules.items elements ≡ errors_past parts context elements (option_map (λ t. t.octets) tag)
+  past-known tag found rules is known =
+      sym (ap (λ (t : Option Tag). errors_past parts context elements (option_map (λ t. t.octets) t)) is ∙ ap (errors_ruled elements) known)

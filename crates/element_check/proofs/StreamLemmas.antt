@@ -175,3 +175,12 @@ after-few element n xs ys is h =
     let e = after-length element xs in
     let same : length ys ≡ length (after_front element xs) = ap length is in
     omega arith
+
+-- where no value of an element is next, what comes after it is all
+after_none-cond : (b : Bool) (v : List ℕ) (vs : List (List ℕ)) (x : Component) (xs ys : List Component) → cond b (v ∷ vs) [] ≡ [] → cond b ys (x ∷ xs) ≡ x ∷ xs
+after_none-cond true v vs x xs ys none = absurd (cc)
+after_none-cond false v vs x xs ys none = refl
+
+pub after_front-none : (element : ℕ) (xs : List Component) → front_values element xs ≡ [] → after_front element xs ≡ xs
+after_front-none element [] none = refl
+after_front-none element (x ∷ xs) none = after_none-cond (eqb x.element element) x.octets (front_values element xs) x xs (after_front element xs) none

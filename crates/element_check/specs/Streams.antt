@@ -1,5 +1,5 @@
 -- For bodies and their invariants: the errors of a segment as one way through its components finds them.
-use Rattle.std.specs.Prelude.{ℕ, ◌+◌, Bool, false, ◌&&◌, ◌==◌, nat_lt, List, [], ◌∷◌, ◌++◌, map, Option, None, if◌then◌else◌}
+use Rattle.std.specs.Prelude.{ℕ, ◌+◌, Bool, false, ◌&&◌, ◌==◌, nat_lt, List, [], ◌∷◌, ◌++◌, map, Option, Some, None, if◌then◌else◌}
 use Rattle.std.specs.List.{list_any}
 use Rattle.edi_octets.specs.declared.octets.Octets.{Ghosts}
 use Rattle.edi_tables.specs.Rows.{when}
@@ -8,16 +8,18 @@ use Rattle.edi_tables.specs.declared.element.PartDef.{PartDef}
 use Rattle.edi_tables.specs.declared.element.Repr.{Repr}
 use Rattle.edi_tables.specs.declared.segment.ItemDef.{ItemDef}
 use Rattle.edi_tables.specs.declared.segment.ItemDef.TheVariants.{Alone, Composite}
+use Rattle.dir_compile.specs.declared.parts.Parts.{Parts}
 use Rattle.error_ledger.specs.declared.kind.Kind.{Kind}
-use Rattle.error_ledger.specs.declared.kind.Kind.TheVariants.{TooManyElements, TooManyComponents, Missing}
-use Rattle.seg_lexer.specs.Fields.{Component}
-use Rattle.seg_lexer.specs.Left.{components_left}
+use Rattle.error_ledger.specs.declared.kind.Kind.TheVariants.{BadTag, UnknownSegment, TooManyElements, TooManyComponents, Missing}
+use Rattle.seg_lexer.specs.Fields.{Component, unplaced}
+use Rattle.seg_lexer.specs.Left.{components_left, placed_in}
+use Rattle.seg_lexer.specs.declared.components.Component.{Component as ReadComponent}
 use Rattle.seg_lexer.specs.declared.context.Context.{Context}
 use Rattle.element_check.specs.Local.{error_at, is_filled, is_list_named, value_kinds}
-use Rattle.element_check.specs.Rules.{SegmentRules, list_of, parts_of}
+use Rattle.element_check.specs.Rules.{SegmentRules, list_of, parts_of, rules_of}
 use Rattle.element_check.specs.Value.{fails}
 use Rattle.element_check.specs.declared.error.LocalError.{LocalError}
-use Rattle.element_check.specs.declared.values.ElementValues.{ElementValues}
+use Rattle.element_check.specs.declared.values.Ahead.{Ahead}
 
 -- the values of the components at the front that belong to an element
 abbrev pub front_values : ℕ → List Component → List (List ℕ)
@@ -29,9 +31,22 @@ abbrev pub after_front : ℕ → List Component → List Component
 after_front element [] = []
 after_front element (x ∷ xs) = if x.element == element then after_front element xs else x ∷ xs
 
+-- a component that was read
+abbrev pub seen : {O : Type 0} {o : Ghosts O} → ReadComponent O o → Component
+seen c = unplaced (placed_in c)
+
+-- these components, after one that was read before them
+abbrev pub after_read : {O : Type 0} {o : Ghosts O} → Option (ReadComponent O o) → List Component → List Component
+after_read None xs = xs
+after_read (Some c) xs = seen c ∷ xs
+
+-- the components that are left
+unfoldable pub components_ahead : {O : Type 0} {o : Ghosts O} → Ahead O o → List Component
+components_ahead a = after_read a.read (components_left a.rest)
+
 -- the values of an element that are left
-unfoldable pub values_left : {O : Type 0} {o : Ghosts O} → ElementValues O o → List (List ℕ)
-values_left v = front_values v.element (components_left v.rest)
+unfoldable pub values_left : {O : Type 0} {o : Ghosts O} → ℕ → Ahead O o → List (List ℕ)
+values_left element a = front_values element (components_ahead a)
 
 -- the first value, or an empty one
 abbrev pub first_value : List (List ℕ) → List ℕ
@@ -101,3 +116,13 @@ items_errors rules n [] components = surplus_elements n components
 items_errors rules n (item ∷ items) components =
     item_errors rules (n + 1) item (front_values (n + 1) components)
     ++ items_errors rules (n + 1) items (after_front (n + 1) components)
+
+-- the errors of a segment whose tag has these rules, by its components after the tag field
+abbrev pub errors_ruled : List Component → Option SegmentRules → List LocalError
+errors_ruled elements None = error_at 0 0 UnknownSegment ∷ []
+errors_ruled elements (Some rules) = items_errors rules 0 rules.items elements
+
+-- the errors of a segment that has a tag or none, by its components after the tag field
+abbrev pub errors_past : Parts → Context → List Component → Option (List ℕ) → List LocalError
+errors_past parts context elements None = error_at 0 0 BadTag ∷ []
+errors_past parts context elements (Some tag) = errors_ruled elements (rules_of parts context tag)

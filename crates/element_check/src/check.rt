@@ -1,22 +1,25 @@
 //! The local errors of a segment.
 ghost use Rattle.std.specs.Prelude.{◌≡◌, ◌+◌, ◌++◌, ◌<◌, ◌≤◌, ◌^◌, length, IfOk, IsErr, OnOk, OnErr};
+ghost use Rattle.std.specs.Option.{option_map};
 ghost use Rattle.seg_lexer.specs.Fields.{IsInOrder, components_at};
 ghost use Rattle.seg_lexer.specs.Left.{components_left};
 ghost use Rattle.seg_lexer.specs.Service.{IsUsable};
+ghost use Rattle.seg_lexer.specs.Tag.{tag_of};
 ghost use Rattle.seg_lexer.specs.declared.TheConstants.{LONGEST_TEXT};
 ghost use Rattle.element_check.specs.Ascending.{AreAscending};
-ghost use Rattle.element_check.specs.Local.{elements_errors, local_errors_of};
-ghost use Rattle.element_check.specs.Streams.{items_errors, surplus_elements};
+ghost use Rattle.element_check.specs.Local.{local_errors_of};
+ghost use Rattle.element_check.specs.Streams.{components_ahead, errors_past, items_errors, surplus_elements};
 
 use crate::LocalError;
 use crate::element::check_item;
 use crate::error::Errors;
 use crate::rules::Rules;
-use crate::values::{ElementValues, after_element};
+use crate::values::Ahead;
 use dir_compile::Directory;
 use edi_octets::Octets;
+use edi_tables::Tag;
 use error_ledger::Kind;
-use seg_lexer::{Context, Fields, fields, read_tag};
+use seg_lexer::{Context, Fields, fields};
 use smallvec::SmallVec;
 use std::alloc::{AllocError, Global};
 
@@ -40,59 +43,77 @@ pub fn check_segment<O: Octets>(
     ensures only_past_four { IsErr result
         → 4 < length (local_errors_of directory.now context.now (components_at context.now.service (O.octets text.now) start end)) }
 {
-    let mut errors = Errors::new(alloc);
-    gather(directory, context, text, start, end, &mut errors)?;
-    Ok(errors.into_list())
+    let components = fields(text, &context.service, start, end);
+    let (_, errors) = check_components(alloc, directory, context, components)?;
+    Ok(errors)
 }
 
-/// Puts the errors of the segment `start..end`.
+/// The tag of the segment that has these components, all of them, and its local errors, by its context and a directory, in
+/// order of element, component and kind. Each component is read once. Up to four errors take no memory.
+pub fn check_components<O: Octets>(
+    alloc: Global,
+    directory: &Directory,
+    context: &Context,
+    components: Fields<'_, O>,
+) -> Result<(Option<Tag>, SmallVec<LocalError, 4>), AllocError>
+    requires in_order { IsInOrder 0 (components_left components) }
+    requires few { length (components_left components) < 2 ^ 31 }
+    ensures tag { IfOk result (λ found. option_map (λ t. t.octets) found.0 ≡ tag_of (components_left components.entry)) }
+    ensures errors { IfOk result (λ found. found.1.items
+        ≡ local_errors_of directory.now context.now (components_left components.entry)) }
+    ensures ascending { IfOk result (λ found. AreAscending found.1.items) }
+    ensures only_past_four { IsErr result
+        → 4 < length (local_errors_of directory.now context.now (components_left components.entry)) }
+{
+    let mut elements = components;
+    let tag = elements.take_tag();
+    let mut errors = Errors::new(alloc);
+    gather(directory, context, tag, elements, &mut errors)?;
+    Ok((tag, errors.into_list()))
+}
+
+/// Puts the errors of the segment that has this tag and these components of elements.
 fn gather<O: Octets>(
     directory: &Directory,
     context: &Context,
-    text: &O,
-    start: usize,
-    end: usize,
+    tag: Option<Tag>,
+    elements: Fields<'_, O>,
     errors: &mut Errors,
 ) -> Result<(), AllocError>
-    requires usable { IsUsable context.now.service (O.octets text.now) }
-    requires short { length (O.octets text.now) ≤ LONGEST_TEXT }
-    requires ordered { start ≤ end }
-    requires within { end ≤ length (O.octets text.now) }
+    requires few { length (components_left elements) < 2 ^ 31 }
     ensures ok { OnOk result (errors.new ≡ errors.old
-        ++ local_errors_of directory.now context.now (components_at context.now.service (O.octets text.now) start end)) }
+        ++ errors_past directory.now context.now (components_left elements.entry) (option_map (λ t. t.octets) tag)) }
     ensures full { OnErr result (4 < length errors.old
-        + length (local_errors_of directory.now context.now (components_at context.now.service (O.octets text.now) start end))) }
+        + length (errors_past directory.now context.now (components_left elements.entry) (option_map (λ t. t.octets) tag))) }
 {
-    let Some(tag) = read_tag(text, &context.service, start, end) else {
+    let Some(tag) = tag else {
         return errors.put_if(true, 0, 0, Kind::BadTag);
     };
     let Some(rules) = Rules::of(directory, context, tag) else {
         return errors.put_if(true, 0, 0, Kind::UnknownSegment);
     };
-    let components = fields(text, &context.service, start, end);
-    check_elements(&rules, components, errors)
+    check_elements(&rules, elements, errors)
 }
 
 /// Puts the errors of all elements of a segment.
 fn check_elements<O: Octets>(
     rules: &Rules<'_>,
-    components: Fields<'_, O>,
+    elements: Fields<'_, O>,
     errors: &mut Errors,
 ) -> Result<(), AllocError>
-    requires in_order { IsInOrder 0 (components_left components) }
-    requires few { length (components_left components) < 2 ^ 31 }
+    requires few { length (components_left elements) < 2 ^ 31 }
     requires short { length rules.now.items ≤ 99 }
     ensures ok { OnOk result (errors.new
-        ≡ errors.old ++ elements_errors rules.now (components_left components.entry)) }
+        ≡ errors.old ++ items_errors rules.now 0 rules.now.items (components_left elements.entry)) }
     ensures full { OnErr result (4
-        < length errors.old + length (elements_errors rules.now (components_left components.entry))) }
+        < length errors.old + length (items_errors rules.now 0 rules.now.items (components_left elements.entry))) }
 {
     let mut element = 0;
-    let mut rest = after_element(components, element);
+    let mut rest = Ahead::of(elements);
     for item in rules.items {
         element += 1;
-        check_item(rules, item, ElementValues { element, rest }, errors)?;
-        rest = after_element(rest, element);
+        check_item(rules, item, element, &mut rest, errors)?;
+        rest.pass(element);
     }
     check_surplus(element, rest, errors)
 }
@@ -100,16 +121,17 @@ fn check_elements<O: Octets>(
 /// Puts the errors of the elements past the one of this number.
 fn check_surplus<O: Octets>(
     last: u32,
-    components: Fields<'_, O>,
+    elements: Ahead<'_, O>,
     errors: &mut Errors,
 ) -> Result<(), AllocError>
     ensures ok { OnOk result (errors.new
-        ≡ errors.old ++ surplus_elements last (components_left components.entry)) }
+        ≡ errors.old ++ surplus_elements last (components_ahead elements.entry)) }
     ensures full { OnErr result (4
-        < length errors.old + length (surplus_elements last (components_left components.entry))) }
+        < length errors.old + length (surplus_elements last (components_ahead elements.entry))) }
 {
+    let mut rest = elements;
     let mut told = last;
-    for found in components {
+    while let Some(found) = rest.step() {
         if found.element > told && !found.value.is_empty() {
             told = found.element;
             errors.put_if(true, told, 0, Kind::TooManyElements)?;

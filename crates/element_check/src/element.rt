@@ -4,12 +4,12 @@ ghost use Rattle.std.specs.List.{list_any};
 ghost use Rattle.std.specs.Option.{option_map};
 ghost use Rattle.seg_lexer.specs.Value.{octets_of};
 ghost use Rattle.element_check.specs.Local.{is_filled as is_filled_of, is_list_named as is_list_named_of, names_list};
-ghost use Rattle.element_check.specs.Streams.{alone_errors, composite_errors, item_errors, part_errors, parts_errors, surplus_components, values_left};
+ghost use Rattle.element_check.specs.Streams.{after_front, alone_errors, components_ahead, composite_errors, item_errors, part_errors, parts_errors, surplus_components, values_left};
 
 use crate::error::Errors;
 use crate::rules::Rules;
 use crate::value::{put_failed, test_value};
-use crate::values::ElementValues;
+use crate::values::Ahead;
 use edi_octets::Octets;
 use edi_tables::{ItemDef, PartDef};
 use error_ledger::Kind;
@@ -20,19 +20,22 @@ use std::alloc::AllocError;
 pub(crate) fn check_item<O: Octets>(
     rules: &Rules<'_>,
     item: &ItemDef,
-    values: ElementValues<'_, O>,
+    element: u32,
+    values: &mut Ahead<'_, O>,
     errors: &mut Errors,
 ) -> Result<(), AllocError>
-    requires few { length (values_left values) < 2 ^ 31 }
+    requires few { length (values_left element values.old) < 2 ^ 31 }
     ensures ok { OnOk result (errors.new
-        ≡ errors.old ++ item_errors rules.now values.entry.element item.now (values_left values.entry)) }
+        ≡ errors.old ++ item_errors rules.now element item.now (values_left element values.old)) }
     ensures full { OnErr result (4
-        < length errors.old + length (item_errors rules.now values.entry.element item.now (values_left values.entry))) }
+        < length errors.old + length (item_errors rules.now element item.now (values_left element values.old))) }
+    ensures after { OnOk result (after_front element (components_ahead values.new)
+        ≡ after_front element (components_ahead values.old)) }
 {
     match item {
-        ItemDef::Alone { part } => check_alone(rules, part, values, errors),
+        ItemDef::Alone { part } => check_alone(rules, part, element, values, errors),
         ItemDef::Composite { code, must } => {
-            check_composite(rules, rules.parts(*code), *must, values, errors)
+            check_composite(rules, rules.parts(*code), *must, element, values, errors)
         }
     }
 }
@@ -41,19 +44,21 @@ pub(crate) fn check_item<O: Octets>(
 fn check_alone<O: Octets>(
     rules: &Rules<'_>,
     part: &PartDef,
-    values: ElementValues<'_, O>,
+    element: u32,
+    values: &mut Ahead<'_, O>,
     errors: &mut Errors,
 ) -> Result<(), AllocError>
-    requires few { length (values_left values) < 2 ^ 31 }
+    requires few { length (values_left element values.old) < 2 ^ 31 }
     ensures ok { OnOk result (errors.new
-        ≡ errors.old ++ alone_errors rules.now values.entry.element part.now (values_left values.entry)) }
+        ≡ errors.old ++ alone_errors rules.now element part.now (values_left element values.old)) }
     ensures full { OnErr result (4
-        < length errors.old + length (alone_errors rules.now values.entry.element part.now (values_left values.entry))) }
+        < length errors.old + length (alone_errors rules.now element part.now (values_left element values.old))) }
+    ensures after { OnOk result (after_front element (components_ahead values.new)
+        ≡ after_front element (components_ahead values.old)) }
 {
-    let mut later = values;
-    let first = later.next();
-    check_part(rules, part, false, first, values.element, 0, errors)?;
-    check_surplus(values.element, later, 2, errors)
+    let first = values.take(element);
+    check_part(rules, part, false, first, element, 0, errors)?;
+    check_surplus(element, values, 2, errors)
 }
 
 /// Puts the errors of a composite.
@@ -61,27 +66,32 @@ fn check_composite<O: Octets>(
     rules: &Rules<'_>,
     parts: &[PartDef],
     must: bool,
-    values: ElementValues<'_, O>,
+    element: u32,
+    values: &mut Ahead<'_, O>,
     errors: &mut Errors,
 ) -> Result<(), AllocError>
-    requires few { length (values_left values) < 2 ^ 31 }
+    requires few { length (values_left element values.old) < 2 ^ 31 }
     requires short { length parts.now < 2 ^ 31 }
     ensures ok { OnOk result (errors.new
-        ≡ errors.old ++ composite_errors rules.now values.entry.element must parts.now (values_left values.entry)) }
+        ≡ errors.old ++ composite_errors rules.now element must parts.now (values_left element values.old)) }
     ensures full { OnErr result (4
-        < length errors.old + length (composite_errors rules.now values.entry.element must parts.now (values_left values.entry))) }
+        < length errors.old + length (composite_errors rules.now element must parts.now (values_left element values.old))) }
+    ensures after { OnOk result (after_front element (components_ahead values.new)
+        ≡ after_front element (components_ahead values.old)) }
 {
-    if is_any_filled(values) {
-        check_parts(rules, parts, is_list_named(parts, values), values, errors)
+    if is_any_filled(element, values) {
+        let named = is_list_named(parts, element, values);
+        check_parts(rules, parts, named, element, values, errors)
     } else {
-        errors.put_if(must, values.element, 0, Kind::Missing)
+        errors.put_if(must, element, 0, Kind::Missing)
     }
 }
 
-fn is_any_filled<O: Octets>(values: ElementValues<'_, O>) -> bool
-    ensures { result ≡ list_any is_filled_of (values_left values.entry) }
+fn is_any_filled<O: Octets>(element: u32, values: &Ahead<'_, O>) -> bool
+    ensures { result ≡ list_any is_filled_of (values_left element values.now) }
 {
-    for value in values {
+    let mut values = *values;
+    while let Some(value) = values.take(element) {
         if !value.is_empty() {
             return true;
         }
@@ -94,10 +104,10 @@ const LIST_NAME: [u8; 4] = *b"1131";
 
 /// Whether a composite itself names the list that its codes are from. Few have a part for that, and else no value is read.
 #[tactic(auto, using(crate::proofs::StreamLemmas::unnamed_list))]
-fn is_list_named<O: Octets>(parts: &[PartDef], values: ElementValues<'_, O>) -> bool
-    ensures { result ≡ is_list_named_of parts.now (values_left values.entry) }
+fn is_list_named<O: Octets>(parts: &[PartDef], element: u32, values: &Ahead<'_, O>) -> bool
+    ensures { result ≡ is_list_named_of parts.now (values_left element values.now) }
 {
-    has_list_name(parts) && is_list_name_filled(parts, values)
+    has_list_name(parts) && is_list_name_filled(parts, element, values)
 }
 
 fn has_list_name(parts: &[PartDef]) -> bool
@@ -106,12 +116,12 @@ fn has_list_name(parts: &[PartDef]) -> bool
     parts.iter().any(|part| part.code.octets == LIST_NAME)
 }
 
-fn is_list_name_filled<O: Octets>(parts: &[PartDef], values: ElementValues<'_, O>) -> bool
-    ensures { result ≡ is_list_named_of parts.now (values_left values.entry) }
+fn is_list_name_filled<O: Octets>(parts: &[PartDef], element: u32, values: &Ahead<'_, O>) -> bool
+    ensures { result ≡ is_list_named_of parts.now (values_left element values.now) }
 {
-    let mut values = values;
+    let mut values = *values;
     for part in parts {
-        let Some(value) = values.next() else {
+        let Some(value) = values.take(element) else {
             return false;
         };
         if part.code.octets == LIST_NAME && !value.is_empty() {
@@ -126,24 +136,26 @@ fn check_parts<O: Octets>(
     rules: &Rules<'_>,
     parts: &[PartDef],
     named: bool,
-    values: ElementValues<'_, O>,
+    element: u32,
+    values: &mut Ahead<'_, O>,
     errors: &mut Errors,
 ) -> Result<(), AllocError>
-    requires few { length (values_left values) < 2 ^ 31 }
+    requires few { length (values_left element values.old) < 2 ^ 31 }
     requires short { length parts.now < 2 ^ 31 }
     ensures ok { OnOk result (errors.new
-        ≡ errors.old ++ parts_errors rules.now values.entry.element 1 named parts.now (values_left values.entry)) }
+        ≡ errors.old ++ parts_errors rules.now element 1 named parts.now (values_left element values.old)) }
     ensures full { OnErr result (4
-        < length errors.old + length (parts_errors rules.now values.entry.element 1 named parts.now (values_left values.entry))) }
+        < length errors.old + length (parts_errors rules.now element 1 named parts.now (values_left element values.old))) }
+    ensures after { OnOk result (after_front element (components_ahead values.new)
+        ≡ after_front element (components_ahead values.old)) }
 {
-    let mut rest = values;
     let mut component = 1;
     for part in parts {
-        let value = rest.next();
-        check_part(rules, part, named, value, values.element, component, errors)?;
+        let value = values.take(element);
+        check_part(rules, part, named, value, element, component, errors)?;
         component += 1;
     }
-    check_surplus(values.element, rest, component, errors)
+    check_surplus(element, values, component, errors)
 }
 
 /// Puts the errors of one data element, by its value: it must have one, or the value must pass its tests. Where the
@@ -194,18 +206,20 @@ fn check_value<O: Octets>(
 /// Puts the errors of the components past the last one that is defined, of which the first has this number.
 fn check_surplus<O: Octets>(
     element: u32,
-    values: ElementValues<'_, O>,
+    values: &mut Ahead<'_, O>,
     first: u32,
     errors: &mut Errors,
 ) -> Result<(), AllocError>
-    requires few { first + length (values_left values) < 2 ^ 32 }
+    requires few { first + length (values_left element values.old) < 2 ^ 32 }
     ensures ok { OnOk result (errors.new
-        ≡ errors.old ++ surplus_components element first (values_left values.entry)) }
+        ≡ errors.old ++ surplus_components element first (values_left element values.old)) }
     ensures full { OnErr result (4
-        < length errors.old + length (surplus_components element first (values_left values.entry))) }
+        < length errors.old + length (surplus_components element first (values_left element values.old))) }
+    ensures after { OnOk result (after_front element (components_ahead values.new)
+        ≡ after_front element (components_ahead values.old)) }
 {
     let mut component = first;
-    for value in values {
+    while let Some(value) = values.take(element) {
         errors.put_if(
             !value.is_empty(),
             element,

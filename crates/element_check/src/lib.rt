@@ -12,5 +12,5 @@ mod tests;
 mod value;
 mod values;
 
-pub use check::check_segment;
+pub use check::{check_components, check_segment};
 pub use error::LocalError;

@@ -1,51 +1,64 @@
-//! The values of one element, and what comes after it.
-ghost use Rattle.std.specs.Prelude.{◌≡◌, ⊤};
+//! The components of a segment that are left, each of which is read once.
+ghost use Rattle.std.specs.Prelude.{◌≡◌, None};
+ghost use Rattle.std.specs.Iterator.{YieldsFirstBy};
 ghost use Rattle.seg_lexer.specs.Left.{components_left};
-ghost use Rattle.element_check.specs.Streams.{after_front};
+ghost use Rattle.seg_lexer.specs.Value.{octets_of};
+ghost use Rattle.element_check.specs.Streams.{after_front, components_ahead, seen, values_left};
 
 use edi_octets::Octets;
-use seg_lexer::{Fields, Value};
+use seg_lexer::{Component, Fields, Value};
 
-/// The values of an element that are left, in order. A copy goes on by itself.
+/// The components that are left, in order. One that belongs to a later element than was asked for is kept for later. A copy
+/// goes on by itself.
 #[derive_where(Clone, Copy, Debug)]
-pub(crate) struct ElementValues<'a, O: Octets> {
-    pub element: u32,
-    pub rest: Fields<'a, O>,
+pub(crate) struct Ahead<'a, O: Octets> {
+    read: Option<Component<'a, O>>,
+    rest: Fields<'a, O>,
 }
 
-impl<'a, O: Octets> Iterator for ElementValues<'a, O> {
-    type Item = Value<'a, O>;
+impl<'a, O: Octets> Ahead<'a, O> {
+    /// These components.
+    #[tactic(auto, unfolding(crate::specs::Streams::components_ahead))]
+    pub(crate) fn of(rest: Fields<'a, O>) -> Ahead<'a, O>
+        ensures { components_ahead result ≡ components_left rest.entry }
+    {
+        Ahead { read: None, rest }
+    }
 
-    ghost use Rattle.std.specs.Iterator.{YieldsFirstBy, item_count};
-    ghost use Rattle.seg_lexer.specs.Value.{octets_of};
-    ghost use Rattle.element_check.specs.Streams.{values_left};
+    /// Takes the next component.
+    #[tactic(auto, unfolding(crate::specs::Streams::components_ahead))]
+    pub(crate) fn step(&mut self) -> Option<Component<'a, O>>
+        ensures next { YieldsFirstBy seen components_ahead self.old result self.new }
+        ensures unread { self.new.read ≡ None }
+    {
+        match self.read {
+            Some(found) => {
+                self.read = None;
+                Some(found)
+            }
+            None => self.rest.next(),
+        }
+    }
 
-    ghost next_gives = { YieldsFirstBy octets_of values_left };
-
-    ghost remaining = { item_count values_left };
-
-    #[tactic(auto, unfolding(crate::specs::Streams::values_left))]
-    fn next(&mut self) -> Option<Value<'a, O>> {
-        let mut rest = self.rest;
-        let found = rest.next()?;
-        if found.element != self.element {
+    /// Takes the value of the next component, if it belongs to an element.
+    #[tactic(auto, unfolding(crate::specs::Streams::components_ahead, crate::specs::Streams::values_left))]
+    pub(crate) fn take(&mut self, element: u32) -> Option<Value<'a, O>>
+        ensures value { YieldsFirstBy octets_of (values_left element) self.old result self.new }
+        ensures after { after_front element (components_ahead self.new)
+            ≡ after_front element (components_ahead self.old) }
+    {
+        let found = self.step()?;
+        if found.element != element {
+            self.read = Some(found);
             return None;
         }
-        self.rest = rest;
         Some(found.value)
     }
-}
 
-/// The components after those at the front that belong to an element.
-pub(crate) fn after_element<O: Octets>(components: Fields<'_, O>, element: u32) -> Fields<'_, O>
-    ensures { components_left result ≡ after_front element (components_left components.entry) }
-{
-    let mut rest = components;
-    loop {
-        let mut next = rest;
-        match next.next() {
-            Some(found) if found.element == element => rest = next,
-            _ => return rest,
-        }
+    /// Takes all components of an element that are next.
+    pub(crate) fn pass(&mut self, element: u32)
+        ensures { components_ahead self.new ≡ after_front element (components_ahead self.old) }
+    {
+        while let Some(_value) = self.take(element) {}
     }
 }

@@ -1,62 +1,58 @@
-use Rattle.std.proofs.Common.{◌++◌, ◌+◌, List, drop, refl, ap, ◌∙◌, arith}
+use Rattle.std.proofs.Common.{◌≡◌, ◌<◌, ◌++◌, ◌+◌, ◌^◌, List, drop, length, refl, sym, ap, subst, ◌∙◌, arith}
 use Rattle.seg_lexer.specs.Fields.{Component}
 use Rattle.seg_lexer.specs.Left.{components_left}
-use Rattle.element_check.specs.Local.{elements_errors}
 use Rattle.element_check.specs.Rules.{SegmentRules}
-use Rattle.element_check.specs.Streams.{items_errors, values_left}
+use Rattle.element_check.specs.Streams.{after_front, components_ahead, items_errors, values_left}
 use Rattle.element_check.specs.declared.error.LocalError.{LocalError}
-use Rattle.element_check.proofs.BridgeLemmas.{elements-walk}
 use Rattle.element_check.proofs.ErrorsLemmas.{full_step, next_step, last_full, on_err, on_err_then, on_ok_then}
 use Rattle.element_check.proofs.StreamLemmas.{after-few, front-few, items-end, items-step}
 use Rattle.element_check.proofs.check.check_elements.Goals as goal
 
 pub loop-item-init : goal.loop-item-init
 loop-item-init g c = record {
-  same = ap (λ (cs : List Component). c.args.errors.now ++ items_errors c.args.rules.now 0 c.args.rules.now.items cs) c.after_element-rest.ensures;
+  same = ap (λ (cs : List Component). c.args.errors.now ++ items_errors c.args.rules.now 0 c.args.rules.now.items cs) c.of-rest.ensures;
   number = refl;
-  few = after-few 0 _ (components_left c.args.components) (components_left c.after_element-rest.result) c.after_element-rest.ensures c.requires.few;
+  few = subst (λ (cs : List Component). length cs < 2 ^ 31) (sym c.of-rest.ensures) c.requires.few;
 }
 
 pub check_item-requires : goal.check_item-requires
 unfolding values_left
-check_item-requires g c = record { few = front-few (c.loop-item.element + 1) _ (components_left c.loop-item.rest) c.loop-item.invariant.few }
+check_item-requires g c = record { few = front-few (c.loop-item.element + 1) _ (components_ahead c.loop-item.rest) c.loop-item.invariant.few }
 
 pub returns-in_err-check_item-clause-full : goal.returns-in_err-check_item-clause-full
 unfolding values_left
 returns-in_err-check_item-clause-full g c =
-    on_err c.from_residual.result (full_step c.args.errors.now c.loop-item.errors _ _ (elements_errors c.args.rules.now (components_left c.args.components))
+    on_err c.from_residual.result (full_step c.args.errors.now c.loop-item.errors _ _ (items_errors c.args.rules.now 0 c.args.rules.now.items (components_left c.args.elements))
     (ap (λ (es : List LocalError). c.loop-item.errors ++ es)
-    (items-step c.args.rules.now c.loop-item.element c.rules.inside.items.now c.loop-item.item-index _ (components_left c.loop-item.rest) (ap (λ (r : SegmentRules). r.items) c.rules.view_is) c.loop-item-test.true)
-    ∙ c.loop-item.invariant.same
-    ∙ ap (λ (es : List LocalError). c.args.errors.now ++ es) (elements-walk c.args.rules.now (components_left c.args.components) c.requires.in_order))
+    (items-step c.args.rules.now c.loop-item.element c.rules.inside.items.now c.loop-item.item-index _ (components_ahead c.loop-item.rest) (ap (λ (r : SegmentRules). r.items) c.rules.view_is) c.loop-item-test.true)
+    ∙ c.loop-item.invariant.same)
     c.in_err-check_item.ensures.full)
 
 pub loop-item-preserved : goal.loop-item-preserved
 unfolding values_left
 loop-item-preserved g c =
     let number = c.loop-item.invariant.number in
+    let passed : components_ahead c.pass.new.self ≡ after_front (c.loop-item.element + 1) (components_ahead c.loop-item.rest) = c.pass.ensures ∙ c.in_ok-check_item.ensures.after in
     record {
       same =
-          ap (λ (cs : List Component). c.check_item.new.errors ++ items_errors c.args.rules.now (c.loop-item.element + 1) (drop (c.loop-item.item-index + 1) c.args.rules.now.items) cs) c.after_element-rest-in-loop-item.ensures
+          ap (λ (cs : List Component). c.check_item.new.errors ++ items_errors c.args.rules.now (c.loop-item.element + 1) (drop (c.loop-item.item-index + 1) c.args.rules.now.items) cs) passed
           ∙ next_step c.args.errors.now c.loop-item.errors _ _ _ c.check_item.new.errors
           (ap (λ (es : List LocalError). c.loop-item.errors ++ es)
-          (items-step c.args.rules.now c.loop-item.element c.rules.inside.items.now c.loop-item.item-index _ (components_left c.loop-item.rest) (ap (λ (r : SegmentRules). r.items) c.rules.view_is) c.loop-item-test.true)
+          (items-step c.args.rules.now c.loop-item.element c.rules.inside.items.now c.loop-item.item-index _ (components_ahead c.loop-item.rest) (ap (λ (r : SegmentRules). r.items) c.rules.view_is) c.loop-item-test.true)
           ∙ c.loop-item.invariant.same)
           c.in_ok-check_item.ensures.ok;
       number = omega arith;
-      few = after-few (c.loop-item.element + 1) _ (components_left c.loop-item.rest) _ c.after_element-rest-in-loop-item.ensures c.loop-item.invariant.few;
+      few = after-few (c.loop-item.element + 1) _ (components_ahead c.loop-item.rest) _ passed c.loop-item.invariant.few;
     }
 
 pub returns-clause-ok : goal.returns-clause-ok
 returns-clause-ok g c =
     on_ok_then c.check_surplus.result c.check_surplus.ensures.ok (λ is.
-    is ∙ ap (λ (es : List LocalError). c.loop-item.errors ++ es) (items-end c.args.rules.now c.loop-item.element c.rules.inside.items.now c.loop-item.item-index (components_left c.loop-item.rest) (ap (λ (r : SegmentRules). r.items) c.rules.view_is) c.loop-item-test.false)
-    ∙ c.loop-item.invariant.same
-    ∙ ap (λ (es : List LocalError). c.args.errors.now ++ es) (elements-walk c.args.rules.now (components_left c.args.components) c.requires.in_order))
+    is ∙ ap (λ (es : List LocalError). c.loop-item.errors ++ es) (items-end c.args.rules.now c.loop-item.element c.rules.inside.items.now c.loop-item.item-index (components_ahead c.loop-item.rest) (ap (λ (r : SegmentRules). r.items) c.rules.view_is) c.loop-item-test.false)
+    ∙ c.loop-item.invariant.same)
 
 pub returns-clause-full : goal.returns-clause-full
 returns-clause-full g c =
-    on_err_then c.check_surplus.result c.check_surplus.ensures.full (last_full c.args.errors.now c.loop-item.errors _ (elements_errors c.args.rules.now (components_left c.args.components))
-    (ap (λ (es : List LocalError). c.loop-item.errors ++ es) (items-end c.args.rules.now c.loop-item.element c.rules.inside.items.now c.loop-item.item-index (components_left c.loop-item.rest) (ap (λ (r : SegmentRules). r.items) c.rules.view_is) c.loop-item-test.false)
-    ∙ c.loop-item.invariant.same
-    ∙ ap (λ (es : List LocalError). c.args.errors.now ++ es) (elements-walk c.args.rules.now (components_left c.args.components) c.requires.in_order)))
+    on_err_then c.check_surplus.result c.check_surplus.ensures.full (last_full c.args.errors.now c.loop-item.errors _ (items_errors c.args.rules.now 0 c.args.rules.now.items (components_left c.args.elements))
+    (ap (λ (es : List LocalError). c.loop-item.errors ++ es) (items-end c.args.rules.now c.loop-item.element c.rules.inside.items.now c.loop-item.item-index (components_ahead c.loop-item.rest) (ap (λ (r : SegmentRules). r.items) c.rules.view_is) c.loop-item-test.false)
+    ∙ c.loop-item.invariant.same))

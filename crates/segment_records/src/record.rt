@@ -12,8 +12,8 @@ use crate::step::take_step;
 use dir_compile::Directory;
 use edi_octets::Octets;
 use edi_tables::Tag;
-use element_check::{LocalError, check_segment};
-use seg_lexer::{Context, fields, read_tag};
+use element_check::{LocalError, check_components};
+use seg_lexer::{Context, fields};
 use seq_tree::Measured;
 use smallvec::SmallVec;
 use std::alloc::{AllocError, Global};
@@ -113,10 +113,9 @@ impl Record {
         ensures counted { placed.new ≤ placed.old + 1 }
     {
         let Place { from, start, end } = place;
-        let tag = read_tag(text, &context.service, start, end);
         let components = fields(text, &context.service, start, end);
+        let (tag, local) = check_components(alloc, directory, context, components)?;
         let step = take_step(alloc, directory, before, tag, components, placed)?;
-        let local = check_segment(alloc, directory, context, text, start, end)?;
         Ok(Record {
             octets: (end + 1 - from) as u32,
             breaks: (start - from) as u32,

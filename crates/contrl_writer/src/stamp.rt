@@ -60,38 +60,3 @@ fn is_octet(octet: u8) -> bool
 {
     octet.is_ascii_uppercase() || octet.is_ascii_digit()
 }
-
-#[cfg(test)]
-mod tests {
-    use super::*;
-
-    #[test]
-    fn a_stamp_is_ten_digits_with_a_colon_after_the_sixth(rt: HostRuntime) {
-        let stamp = Stamp {
-            date: *b"960106",
-            time: *b"0800",
-        };
-        assert!(rt; read_stamp(b"960106:0800") == Some(stamp));
-        for other in [
-            b"".as_slice(),
-            b"960106 0800",
-            b"9601060800",
-            b"960106:080",
-            b"960106:08000",
-            b"96010A:0800",
-            b"960106:08 0",
-        ] {
-            assert!(rt; read_stamp(other).is_none(), "{other:?}");
-        }
-    }
-
-    #[test]
-    fn a_reference_is_capitals_and_digits(rt: HostRuntime) {
-        for reference in [b"C1".as_slice(), b"7", b"ABCDEFGHIJ0129"] {
-            assert!(rt; is_reference(reference), "{reference:?}");
-        }
-        for other in [b"".as_slice(), b"c1", b"C 1", b"ABCDEFGHIJ01234"] {
-            assert!(rt; !is_reference(other), "{other:?}");
-        }
-    }
-}

@@ -100,37 +100,6 @@ fn body(alloc: Global, summary: &Summary) -> Result<Chunk, Fail> {
 }
 
 #[test]
-fn an_interchange_without_errors_is_acknowledged(rt: HostRuntime) -> Result<(), Fail> {
-    let alloc = rt.alloc();
-    let messages = vec![in alloc; message(alloc, b"1", (2, 10), None)?]?;
-    let summary = summary(alloc, Vec::new(alloc), messages, Vec::new(alloc))?;
-    assert!(rt;
-        body(alloc, &summary)?.octets()
-            == b"UCI+R1+BUYER:14+SELLER:14+7'UNT+3+1'UNZ+1+C1'".as_slice()
-    );
-    Ok(())
-}
-
-#[test]
-fn errors_of_a_message_are_told(rt: HostRuntime) -> Result<(), Fail> {
-    let alloc = rt.alloc();
-    let messages = vec![in alloc; message(alloc, b"1", (2, 5), None)?]?;
-    #[rattlefmt::skip]
-    let errors = vec![in alloc;
-        error(4, b"DTM", (1, 3), Kind::TooLong),
-        error(4, b"DTM", (2, 0), Kind::TooManyElements),
-        error(5, b"UNT", (0, 0), Kind::MissingSegment),
-        error(5, b"UNT", (1, 0), Kind::Count)
-    ]?;
-    let summary = summary(alloc, Vec::new(alloc), messages, errors)?;
-    assert!(rt;
-        body(alloc, &summary)?.octets()
-            == b"UCI+R1+BUYER:14+SELLER:14+7'UCM+1+TSTORD:D:96A:UN+4+29+UNT+2'UCS+3'UCD+39+2:3'UCD+16+3'UCS+4+13'UNT+8+1'UNZ+1+C1'".as_slice()
-    );
-    Ok(())
-}
-
-#[test]
 fn groups_are_answered(rt: HostRuntime) -> Result<(), Fail> {
     let alloc = rt.alloc();
     let groups = vec![in alloc;
@@ -154,24 +123,6 @@ fn groups_are_answered(rt: HostRuntime) -> Result<(), Fail> {
     assert!(rt;
         body(alloc, &summary)?.octets()
             == b"UCI+R1+BUYER:14+SELLER:14+7'UCF+G1+BUYER+SELLER+4+32+UNG'UCF+G2+BUYER+SELLER+7'UCM+1+TSTORD:D:96A:UN+4+12+UNH+3'UCS+2+15'UCF+G3+BUYER+SELLER+4+31+UNH'UNT+8+1'UNZ+1+C1'".as_slice()
-    );
-    Ok(())
-}
-
-#[test]
-fn an_interchange_is_rejected_for_its_first_error(rt: HostRuntime) -> Result<(), Fail> {
-    let alloc = rt.alloc();
-    let messages = vec![in alloc; message(alloc, b"1", (2, 6), None)?]?;
-    #[rattlefmt::skip]
-    let errors = vec![in alloc;
-        error(3, b"BGM", (1, 0), Kind::Missing),
-        error(7, b"UNZ", (2, 0), Kind::Reference),
-        error(8, b"UNZ", (0, 0), Kind::AfterEnd)
-    ]?;
-    let summary = summary(alloc, Vec::new(alloc), messages, errors)?;
-    assert!(rt;
-        body(alloc, &summary)?.octets()
-            == b"UCI+R1+BUYER:14+SELLER:14+4+28+UNZ+3'UNT+3+1'UNZ+1+C1'".as_slice()
     );
     Ok(())
 }

@@ -12,7 +12,8 @@ text_with text at cut put = take at text ++ put ++ drop (at + cut) text
 abbrev pub reading_with : Reading → ℕ → ℕ → List ℕ → Reading
 reading_with before at cut put = record { directory = before.directory; text = text_with before.text at cut put }
 
--- why an edit isn't made, by the lengths of the text and of the octets that are put: it reaches past the end of the text, or else the text would have over 4,194,304 octets
+-- why an edit isn't made, by the lengths of the text and of the octets that are put: it reaches past the end of the
+-- text, or else the text would have over 4,194,304 octets
 abbrev pub stop_by : ℕ → ℕ → ℕ → ℕ → Option EditStop
 stop_by length at cut put =
     if nat_lt length (at + cut) then Some Range
@@ -21,7 +22,8 @@ stop_by length at cut put =
 abbrev pub stop_of : List ℕ → ℕ → ℕ → List ℕ → Option EditStop
 stop_of text at cut put = stop_by (length text) at cut (length put)
 
--- what an edit comes to: the text of the edit, with its length; or the reading as it was, where the edit isn't made, or memory was refused for one that may be made
+-- what an edit comes to: the text of the edit, with its length; or the reading as it was, where the edit isn't made, or
+-- memory was refused for one that may be made
 abbrev pub IsEdit : Reading → ℕ → ℕ → List ℕ → Reading → Result ℕ EditStop → Type 0
 IsEdit before at cut put now (Ok n) =
     (stop_of before.text at cut put ≡ None)

@@ -49,9 +49,13 @@ local_line k segment error = error_of k segment error.element error.component er
 abbrev pub local_lines : Parts → Context → ℕ → Segment → List ErrorLine
 local_lines dir context k segment = map (local_line k segment) (local_errors_of dir context segment.components)
 
+-- that a node is missing: a segment or a group
+abbrev pub missing_kind : List Node → ℕ → Kind
+missing_kind nodes node = if is_group_at nodes node then kind.MissingGroup else kind.MissingSegment
+
 -- a node that is missing at segment k: a segment, or a group by its trigger
 abbrev pub missing_line : List Node → ℕ → Segment → ℕ → ErrorLine
-missing_line nodes k segment node = record (error_of k segment 0 0 (if is_group_at nodes node then kind.MissingGroup else kind.MissingSegment)) {
+missing_line nodes k segment node = record (error_of k segment 0 0 (missing_kind nodes node)) {
   node = node;
   missing = tag_at nodes (entry_for nodes node);
 }
@@ -72,7 +76,8 @@ nodes_in dir (Within table e) = nodes_at dir table
 -- the structure errors at the segment at place i
 abbrev pub structure_lines : Parts → List Segment → ℕ → Segment → List ErrorLine
 structure_lines dir segments i segment =
-    map (λ error. fault_line (nodes_in dir (position_at dir segments i)) (i + 1) segment error.fault) (faults_at dir segments i)
+    map (λ error. fault_line (nodes_in dir (position_at dir segments i)) (i + 1) segment error.fault)
+    (faults_at dir segments i)
 
 -- a value is filled, and none of these
 abbrev pub is_unknown : List ℕ → List (List ℕ) → Bool

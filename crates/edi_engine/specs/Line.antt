@@ -49,7 +49,9 @@ ends_before (Some kept) = bounds_message kept.tag
 abbrev pub end_lines : Parts → SeenSegment → List ErrorLine
 end_lines dir seen =
     if ends_before seen.next
-    then fault_lines (nodes_of_mode dir seen.kept.step.after) seen (map Missing (missing_at_end dir seen.kept.step.after)) else []
+    then fault_lines (nodes_of_mode dir seen.kept.step.after) seen
+    (map Missing (missing_at_end dir seen.kept.step.after))
+    else []
 
 -- the structure errors at a segment
 abbrev pub structure_seen : Parts → SeenSegment → List ErrorLine

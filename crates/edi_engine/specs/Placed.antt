@@ -25,23 +25,27 @@ entry_shown _ = None
 abbrev pub entries_shown : List TreeLine → Extent → List (Option ℕ)
 entries_shown tree e = map (λ line. entry_shown line.place) (slice_range tree (e.first - 1) e.last)
 
--- UNH is at entry 0, and a later segment that is placed without a structure error of its placement is at the first candidate with its tag that has nothing missing and isn't over
+-- UNH is at entry 0, and a later segment that is placed without a structure error of its placement is at the first
+-- candidate with its tag that has nothing missing and isn't over
 pub record IsFirstPlaced (nodes : List Node) (tags : List (Option Tag)) (shown : List (Option ℕ)) : Type 0 where
   pub opening : slice_get shown 0 ≡ Some (Some 0)
   pub later : (k : ℕ) → k + 1 < length shown → faults_at nodes shown (k + 1) ≡ []
       → member_at shown (k + 1) ≡ first_free nodes (take (k + 1) shown) (tag_in tags (k + 1))
 
--- where the table lists no collision, a derivation of the tags is what is shown, and nothing is wrong in the structure of the message
+-- where the table lists no collision, a derivation of the tags is what is shown, and nothing is wrong in the structure
+-- of the message
 abbrev pub IsOnlyDerivation : List Node → List (Option Tag) → List (Option ℕ) → Type 0
 IsOnlyDerivation nodes tags shown =
-    collisions_of nodes ≡ [] → (names : List Tag) (entries : List ℕ) → map Some names ≡ tags → IsDerivation nodes names entries
+    collisions_of nodes ≡ [] → (names : List Tag) (entries : List ℕ) → map Some names ≡ tags
+    → IsDerivation nodes names entries
     → (shown ≡ map Some entries) × ((closed : Bool) → structure_errors_of nodes tags closed ≡ [])
 
 -- both hold of what is shown for a message with this table
 abbrev pub IsMessagePlaced : List Node → List (Option Tag) → List (Option ℕ) → Type 0
 IsMessagePlaced nodes tags shown = IsFirstPlaced nodes tags shown × IsOnlyDerivation nodes tags shown
 
--- the tree of a text places the segments of each message with a table so: of the message that any segment of the text lies in
+-- the tree of a text places the segments of each message with a table so: of the message that any segment of the text
+-- lies in
 abbrev pub AreMessagesPlaced : Parts → List ℕ → Type 0
 AreMessagesPlaced dir text =
     (i table : ℕ) (e : Extent) → position_at dir (segments_in text) i ≡ Within table e

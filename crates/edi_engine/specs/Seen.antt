@@ -79,11 +79,12 @@ abbrev pub bounds_message : Option Tag → Bool
 bounds_message tag =
     list_any (λ name. has_name name tag) (codes "UNH" ∷ codes "UNB" ∷ codes "UNG" ∷ codes "UNE" ∷ codes "UNZ" ∷ [])
 
--- a segment follows its mode: both modes are of the directory, and a segment that bounds no message takes the step in it
+-- a segment follows its mode: both are of the directory, and a segment that bounds no message takes the step in it
 pub record Follows (dir : Parts) (seen : SeenSegment) : Type 0 where
   pub before : IsModeOf dir 4194303 seen.before
   pub after : IsModeOf dir 4194304 seen.kept.step.after
-  pub inner : bounds_message seen.kept.tag ≡ false → seen.kept.step ≡ inner_step dir seen.before (read_as seen.kept.tag [])
+  pub inner : bounds_message seen.kept.tag ≡ false
+      → seen.kept.step ≡ inner_step dir seen.before (read_as seen.kept.tag [])
 
 -- a segment lies in a text
 abbrev pub LiesIn : List ℕ → SeenSegment → Type 0

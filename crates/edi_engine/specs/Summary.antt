@@ -22,23 +22,25 @@ use Rattle.contrl_writer.specs.Contrl.{answer_to}
 use Rattle.segment_records.specs.Segments.{Segment, segments_in, tags_in, value_in}
 use Rattle.edi_engine.specs.Errors.{errors_of}
 
--- a party of an interchange, in an element of UNB: S002 (0004, 0007, 0008) is its sender, S003 (0010, 0007, 0014) its recipient
-abbrev pub interchange_party_in : List Component → ℕ → Party
-interchange_party_in components element = record {
+-- a party in an element of UNB or UNG, by its first two components, with this route
+abbrev pub party_in : List Component → ℕ → List ℕ → Party
+party_in components element route = record {
   id = value_in components element 1;
   qualifier = value_in components element 2;
-  route = value_in components element 3;
+  route = route;
 }
+
+-- a party of an interchange, in an element of UNB: S002 (0004, 0007, 0008) is its sender, S003 (0010, 0007, 0014) its
+-- recipient
+abbrev pub interchange_party_in : List Component → ℕ → Party
+interchange_party_in components element = party_in components element (value_in components element 3)
 
 -- a party of a functional group, in an element of UNG: S006 (0040, 0007) is its sender, S007 (0044, 0007) its recipient
 abbrev pub group_party_in : List Component → ℕ → Party
-group_party_in components element = record {
-  id = value_in components element 1;
-  qualifier = value_in components element 2;
-  route = [];
-}
+group_party_in components element = party_in components element []
 
--- a UNB with these local errors: it is bad where it has one; else it gives sender, recipient and reference (0020), by this level and version
+-- a UNB with these local errors: it is bad where it has one; else it gives sender, recipient and reference (0020), by
+-- this level and version
 abbrev pub opening_by : Context → List Component → List LocalError → Opening
 opening_by context components [] =
     Good context.level context.version
@@ -72,7 +74,8 @@ group_head_of e components = record {
 abbrev pub group_of : List Extent → ℕ → Option ℕ
 group_of groups i = option_map (λ p. p.0) (find (λ p. lies_in i p.1) (enumerate_from 0 groups))
 
--- a message, by its group and its UNH: reference (0062), and type (0065), version (0052), release (0054), agency (0051) and association assigned code (0057)
+-- a message, by its group and its UNH: reference (0062), and type (0065), version (0052), release (0054), agency (0051)
+-- and association assigned code (0057)
 abbrev pub message_head_of : Option ℕ → Extent → List Component → MessageHead
 message_head_of group e components = record {
   first = e.first;
@@ -95,7 +98,8 @@ groups_in segments =
 abbrev pub messages_in : List Segment → List MessageHead
 messages_in segments =
     let groups = group_extents (tags_in segments) in
-    map (λ e. message_head_of (group_of groups (e.first - 1)) e (opening_components segments e)) (message_extents (tags_in segments))
+    map (λ e. message_head_of (group_of groups (e.first - 1)) e (opening_components segments e))
+    (message_extents (tags_in segments))
 
 -- what an acknowledgement tells of a text, by a directory
 unfoldable pub summary_of : Parts → List ℕ → Summary

@@ -38,7 +38,11 @@ abbrev pub mark_seen : SeenSegment → SegmentMark
 mark_seen seen = record { start = (as_segment seen).start; tag = seen.kept.tag }
 
 abbrev pub line_in_tree : Parts → SeenSegment → TreeLine
-line_in_tree dir seen = record { segment = seen.number; tag = seen.kept.tag; place = place_by dir seen.before (as_segment seen) seen.kept.step }
+line_in_tree dir seen = record {
+  segment = seen.number;
+  tag = seen.kept.tag;
+  place = place_by dir seen.before (as_segment seen) seen.kept.step;
+}
 
 -- a segment as a head, where its tag is one of the six
 abbrev pub head_when : Service → List ℕ → SeenSegment → Option Head

@@ -60,7 +60,8 @@ impl<'d> Engine<'d> {
         placed: &mut Steps<M>,
     ) -> Result<Engine<'d>, AllocError>
         requires { length octets.now ≤ 4194304 }
-        ensures opened { IfOk result (λ e. e ≡ record { directory = directory.now; text = octets.now }) }
+        ensures opened { IfOk result
+            (λ e. e ≡ record { directory = directory.now; text = octets.now }) }
         ensures lexed { lexed.new ≤ lexed.old + (segment_count_of octets.now + 2) }
         ensures placed { placed.new ≤ placed.old + segment_count_of octets.now }
     {

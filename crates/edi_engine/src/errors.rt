@@ -1,5 +1,5 @@
 //! All errors of a text, in order.
-ghost use Rattle.std.specs.Prelude.{◌≡◌, ◌++◌, IfOk, OnOk, map};
+ghost use Rattle.std.specs.Prelude.{◌≡◌, ◌++◌, IfOk, OnOk};
 ghost use Rattle.std.specs.List.{enumerate_from, flat_map};
 ghost use Rattle.std.specs.List.Sorted.{IsPermutation};
 ghost use Rattle.error_ledger.specs.Order.{IsAscending};
@@ -23,7 +23,8 @@ impl Engine<'_> {
     /// All errors of the text, in ascending order. Only want of memory is an error. The work grows with the number of
     /// segments.
     pub fn errors(&self, alloc: Global) -> Result<Vec<ErrorLine>, AllocError>
-        ensures exact { IfOk result (λ list. list.items ≡ errors_of self.now.directory self.now.text) }
+        ensures exact { IfOk result
+            (λ list. list.items ≡ errors_of self.now.directory self.now.text) }
         ensures ascending { IfOk result (λ list. IsAscending list.items) }
         ensures same { IfOk result
             (λ list. IsPermutation (errors_found self.now.directory self.now.text) list.items) }
@@ -48,7 +49,8 @@ impl Engine<'_> {
     // The errors of its envelopes.
     fn envelope_errors(&self, alloc: Global) -> Result<Vec<ErrorLine>, AllocError>
         ensures { IfOk result (λ errors. let segments = segments_in self.now.text in
-            errors.items ≡ envelope_errors_of (heads_of self.now.directory segments) (marks_of segments)) }
+            errors.items
+            ≡ envelope_errors_of (heads_of self.now.directory segments) (marks_of segments)) }
     {
         let heads = self.heads(alloc)?;
         let marks = self.marks(alloc)?;
@@ -59,7 +61,8 @@ impl Engine<'_> {
     fn put_segments(&self, alloc: Global, list: &mut Vec<ErrorLine>) -> Result<(), AllocError>
         ensures { OnOk result (list.new.items ≡ list.old.items
             ++ (let segments = segments_in self.now.text in
-            flat_map (segment_lines self.now.directory (context_of self.now.text) segments) (enumerate_from 0 segments))) }
+            flat_map (segment_lines self.now.directory (context_of self.now.text) segments)
+            (enumerate_from 0 segments))) }
     {
         let directory = self.directory();
         for seen in self.segments() {

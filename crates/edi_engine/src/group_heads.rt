@@ -1,20 +1,20 @@
 //! The functional groups of a text.
 ghost use Rattle.std.specs.Prelude.{◌≡◌, ◌+◌, ◌++◌, ◌<◌, ◌≤◌, IfOk, None, OnOk, Some, codes, if◌then◌else◌, length};
 ghost use Rattle.edi_tables.specs.Rows.{has_name};
-ghost use Rattle.seg_lexer.specs.Left.{components_left};
 ghost use Rattle.seg_lexer.specs.Service.{IsUsable};
 ghost use Rattle.seg_lexer.specs.declared.TheConstants.{LONGEST_TEXT};
 ghost use Rattle.segment_records.specs.Segments.{segments_in};
 ghost use Rattle.edi_engine.specs.Look.{seen_of};
 ghost use Rattle.edi_engine.specs.Spans.{ended_by, group_ended, group_seen, last_by as last_by_of, stops_group as stops_group_of};
-ghost use Rattle.edi_engine.specs.Summary.{group_party_in, groups_in};
+ghost use Rattle.edi_engine.specs.Summary.{groups_in};
 
 use crate::engine::Engine;
 use crate::seen::Seen;
-use contrl_writer::{GroupHead, Party};
+use crate::values::copy_party;
+use contrl_writer::GroupHead;
 use edi_octets::Octets;
 use edi_tables::{Chunk, Tag};
-use seg_lexer::{Fields, Service, fields};
+use seg_lexer::Service;
 use segment_records::{copy_value, is_named, is_no_part};
 use std::alloc::{AllocError, Global};
 
@@ -90,34 +90,16 @@ fn read_group<O: Octets>(
     ensures { IfOk result (λ head. head
         ≡ group_seen service.now (O.octets text.now) (seen_of seen.now)) }
 {
-    let components = fields(text, service, seen.start() as usize, seen.end() as usize);
+    let components = seen.components(text, service);
     let reference = copy_value(alloc, components, 5, 1)?;
-    let sender = copy_party(alloc, components, 2)?;
-    let recipient = copy_party(alloc, components, 3)?;
+    let sender = copy_party(alloc, components, 2, Chunk::empty(alloc))?;
+    let recipient = copy_party(alloc, components, 3, Chunk::empty(alloc))?;
     Ok(GroupHead {
         first: seen.number,
         last: seen.number,
         reference,
         sender,
         recipient,
-    })
-}
-
-// A party of a group, in an element of its UNG.
-fn copy_party<O: Octets>(
-    alloc: Global,
-    components: Fields<'_, O>,
-    element: u32,
-) -> Result<Party, AllocError>
-    ensures { IfOk result (λ party. party
-        ≡ group_party_in (components_left components.entry) element) }
-{
-    let id = copy_value(alloc, components, element, 1)?;
-    let qualifier = copy_value(alloc, components, element, 2)?;
-    Ok(Party {
-        id,
-        qualifier,
-        route: Chunk::empty(alloc),
     })
 }
 

@@ -1,22 +1,19 @@
 //! The segments of a text as the rules on envelopes see them.
-ghost use Rattle.std.specs.Prelude.{◌≡◌, ◌+◌, ◌≤◌, length, map, IfOk};
-ghost use Rattle.std.specs.List.{filter_map};
-ghost use Rattle.seg_lexer.specs.Fields.{components_at};
+ghost use Rattle.std.specs.Prelude.{◌≡◌, ◌+◌, ◌≤◌, length, IfOk};
 ghost use Rattle.seg_lexer.specs.Left.{components_left};
 ghost use Rattle.seg_lexer.specs.Service.{IsUsable};
 ghost use Rattle.seg_lexer.specs.declared.TheConstants.{LONGEST_TEXT};
 ghost use Rattle.segment_records.specs.Segments.{segments_in};
 ghost use Rattle.edi_engine.specs.Heads.{count_in, heads_of, marks_of, name_in, reference_in};
 ghost use Rattle.edi_engine.specs.Look.{seen_of};
-ghost use Rattle.edi_engine.specs.Told.{head_seen, mark_seen};
-ghost use Rattle.edi_engine.specs.Seen.{as_segment};
+ghost use Rattle.edi_engine.specs.Told.{head_seen};
 
 use crate::engine::Engine;
 use crate::seen::Seen;
 use edi_octets::Octets;
 use edi_tables::Chunk;
 use envelope_check::{Head, HeadKind, SegmentMark};
-use seg_lexer::{Fields, Service, fields};
+use seg_lexer::{Fields, Service};
 use segment_records::copy_value;
 use seq_tree::Seq;
 use std::alloc::{AllocError, Global};
@@ -24,7 +21,8 @@ use std::alloc::{AllocError, Global};
 impl Engine<'_> {
     // All segments that open or close an envelope, in order. Their values are read from the text.
     pub(crate) fn heads(&self, alloc: Global) -> Result<Vec<Head>, AllocError>
-        ensures { IfOk result (λ heads. heads.items ≡ heads_of self.now.directory (segments_in self.now.text)) }
+        ensures { IfOk result (λ heads. heads.items
+            ≡ heads_of self.now.directory (segments_in self.now.text)) }
     {
         let text = self.whole();
         let service = self.service();
@@ -64,9 +62,10 @@ fn read_head<O: Octets>(
     requires usable { IsUsable service.now (O.octets text.now) }
     requires short { length (O.octets text.now) ≤ LONGEST_TEXT }
     requires within { seen.now.from + seen.now.record.now.octets ≤ length (O.octets text.now) }
-    ensures { IfOk result (λ head. head ≡ head_seen service.now (O.octets text.now) (seen_of seen.now) kind) }
+    ensures { IfOk result (λ head. head
+        ≡ head_seen service.now (O.octets text.now) (seen_of seen.now) kind) }
 {
-    let components = fields(text, service, seen.start() as usize, seen.end() as usize);
+    let components = seen.components(text, service);
     let reference = copy_reference(alloc, components, kind)?;
     let count = copy_count(alloc, components, kind)?;
     let name = copy_name(alloc, components, kind)?;
@@ -88,7 +87,8 @@ fn copy_reference<O: Octets>(
     components: Fields<'_, O>,
     kind: HeadKind,
 ) -> Result<Chunk, AllocError>
-    ensures { IfOk result (λ octets. octets ≡ reference_in (components_left components.entry) kind) }
+    ensures { IfOk result (λ octets. octets
+        ≡ reference_in (components_left components.entry) kind) }
 {
     match kind {
         HeadKind::Unb | HeadKind::Ung => copy_value(alloc, components, 5, 1),

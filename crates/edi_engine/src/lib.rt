@@ -13,6 +13,7 @@ mod seen;
 mod structure;
 mod summary;
 mod tree;
+mod values;
 
 pub use edit::EditStop;
 pub use engine::Engine;

@@ -14,7 +14,7 @@ use crate::seen::Seen;
 use contrl_writer::MessageHead;
 use edi_octets::Octets;
 use edi_tables::Tag;
-use seg_lexer::{Service, fields};
+use seg_lexer::Service;
 use segment_records::{copy_value, is_named};
 use std::alloc::{AllocError, Global};
 
@@ -99,7 +99,7 @@ fn read_message<O: Octets>(
     ensures { IfOk result (λ head. head
         ≡ message_seen service.now (O.octets text.now) group (seen_of seen.now)) }
 {
-    let components = fields(text, service, seen.start() as usize, seen.end() as usize);
+    let components = seen.components(text, service);
     let reference = copy_value(alloc, components, 1, 1)?;
     let kind = copy_value(alloc, components, 2, 1)?;
     let version = copy_value(alloc, components, 2, 2)?;

@@ -18,7 +18,7 @@ use crate::errors::error_with;
 use crate::seen::Seen;
 use edi_octets::Octets;
 use error_ledger::{ErrorLine, Kind};
-use seg_lexer::{Lexed, Service, Value, fields, next_segment};
+use seg_lexer::{Lexed, Service, Value, next_segment};
 use segment_records::is_named;
 use std::alloc::AllocError;
 use std::marker::Brand;
@@ -33,7 +33,8 @@ const VERSIONS: [&[u8]; 3] = [b"1", b"2", b"3"];
 impl Engine<'_> {
     // Puts that the service string advice can't be used.
     pub(crate) fn put_advice(&self, list: &mut Vec<ErrorLine>) -> Result<(), AllocError>
-        ensures { OnOk result (list.new.items ≡ list.old.items ++ advice_lines (service_of self.now.text).sound) }
+        ensures { OnOk result (list.new.items
+            ≡ list.old.items ++ advice_lines (service_of self.now.text).sound) }
     {
         if !self.service().sound {
             list.push(error_with(0, 0, None, 0, 0, Kind::BadUna))?;
@@ -44,7 +45,8 @@ impl Engine<'_> {
     // Puts that something is left after the last segment.
     pub(crate) fn put_tail(&self, list: &mut Vec<ErrorLine>) -> Result<(), AllocError>
         ensures { OnOk result (list.new.items ≡ list.old.items
-            ++ tail_lines (segment_count_of self.now.text) (tail_of (service_of self.now.text) self.now.text)) }
+            ++ tail_lines (segment_count_of self.now.text)
+            (tail_of (service_of self.now.text) self.now.text)) }
     {
         let tail = find_tail::<_, Brand>(
             &self.whole(),
@@ -61,7 +63,8 @@ impl Engine<'_> {
 
     // Puts that the first segment, where it is UNB, names a level or a version of the syntax that there isn't.
     pub(crate) fn put_syntax(&self, list: &mut Vec<ErrorLine>) -> Result<(), AllocError>
-        ensures { OnOk result (list.new.items ≡ list.old.items ++ syntax_lines (slice_get (segments_in self.now.text) 0)) }
+        ensures { OnOk result (list.new.items
+            ≡ list.old.items ++ syntax_lines (slice_get (segments_in self.now.text) 0)) }
     {
         match self.segments().next() {
             Some(first) if is_named(b"UNB", first.record.tag()) => {
@@ -84,7 +87,8 @@ fn find_tail<O: Octets, L: Ledger>(
     requires some { 0 < blank.parts }
     requires usable { IsUsable service.now (O.octets text.now) }
     requires short { length (O.octets text.now) ≤ LONGEST_TEXT }
-    requires last { from ≡ slice_index (boundaries_of service.now (O.octets text.now)) (length (ends_of service.now (O.octets text.now))) }
+    requires last { from ≡ slice_index (boundaries_of service.now (O.octets text.now))
+        (length (ends_of service.now (O.octets text.now))) }
     ensures { result ≡ tail_of service.now (O.octets text.now) }
 {
     let mut lexed = Steps::<L>::start(blank);
@@ -108,7 +112,7 @@ fn put_opening<O: Octets>(
     ensures { OnOk result (list.new.items
         ≡ list.old.items ++ opening_seen service.now (O.octets text.now) (seen_of first.now)) }
 {
-    let components = fields(text, service, first.start() as usize, first.end() as usize);
+    let components = first.components(text, service);
     if is_unknown(components.value_at(1, 1), &LEVELS) {
         list.push(first.error(1, 1, Kind::Syntax))?;
     }
@@ -120,7 +124,8 @@ fn put_opening<O: Octets>(
 
 // Whether a value is filled, and none of these.
 fn is_unknown<O: Octets>(value: Option<Value<'_, O>>, known: &[&[u8]]) -> bool
-    ensures { result ≡ is_unknown_of (unwrap_or (option_map octets_of value.entry) []) (map (λ name. name.now) known.now) }
+    ensures { result ≡ is_unknown_of (unwrap_or (option_map octets_of value.entry) [])
+        (map (λ name. name.now) known.now) }
 {
     match value {
         Some(value) => !value.is_empty() && !is_among(&value, known),
@@ -130,7 +135,8 @@ fn is_unknown<O: Octets>(value: Option<Value<'_, O>>, known: &[&[u8]]) -> bool
 
 // Whether a value is one of these.
 fn is_among<O: Octets>(value: &Value<'_, O>, known: &[&[u8]]) -> bool
-    ensures { result ≡ list_any (bytes_eq (octets_of value.now)) (map (λ name. name.now) known.now) }
+    ensures { result
+        ≡ list_any (bytes_eq (octets_of value.now)) (map (λ name. name.now) known.now) }
 {
     for name in known {
         if is_name(value, name) {

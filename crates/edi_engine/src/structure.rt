@@ -25,7 +25,8 @@ pub(crate) fn put_structure(
     list: &mut Vec<ErrorLine>,
 ) -> Result<(), AllocError>
     requires { Follows directory.now (seen_of seen.now) }
-    ensures { OnOk result (list.new.items ≡ list.old.items ++ structure_seen directory.now (seen_of seen.now)) }
+    ensures { OnOk result (list.new.items
+        ≡ list.old.items ++ structure_seen directory.now (seen_of seen.now)) }
 {
     put_step(directory, seen, list)?;
     put_end(alloc, directory, seen, list)
@@ -57,10 +58,12 @@ fn put_walked(
     list: &mut Vec<ErrorLine>,
 ) -> Result<(), AllocError>
     requires shaped { IsShaped table.now state.now }
-    requires entry { seen.now.record.now.step.entry ≡ member_in table.now state.now seen.now.record.now.tag }
-    requires missing { seen.now.record.now.step.missing ≡ missing_in table.now state.now seen.now.record.now.step.entry }
-    ensures { OnOk result (list.new.items
-        ≡ list.old.items ++ fault_lines table.now (seen_of seen.now) (faults_of_step seen.now.record.now.step)) }
+    requires entry { seen.now.record.now.step.entry
+        ≡ member_in table.now state.now seen.now.record.now.tag }
+    requires missing { seen.now.record.now.step.missing
+        ≡ missing_in table.now state.now seen.now.record.now.step.entry }
+    ensures { OnOk result (list.new.items ≡ list.old.items
+        ++ fault_lines table.now (seen_of seen.now) (faults_of_step seen.now.record.now.step)) }
 {
     // Where a segment is, and what is missing, are nodes of the table.
     let _nodes = table.nodes();
@@ -88,7 +91,8 @@ fn put_end(
     list: &mut Vec<ErrorLine>,
 ) -> Result<(), AllocError>
     requires { Follows directory.now (seen_of seen.now) }
-    ensures { OnOk result (list.new.items ≡ list.old.items ++ end_lines directory.now (seen_of seen.now)) }
+    ensures { OnOk result (list.new.items
+        ≡ list.old.items ++ end_lines directory.now (seen_of seen.now)) }
 {
     match seen.record.mode() {
         Mode::Within { table, state } if ends_before(seen.next) => {
@@ -120,7 +124,8 @@ fn put_missing(
 // That a node is missing at a segment: a segment, or a group by its trigger.
 fn missing_error(table: &Table, seen: &Seen<'_>, node: u16) -> ErrorLine
     requires { node < length table.now }
-    ensures { result ≡ fault_line table.now seen.now.number (as_segment (seen_of seen.now)) (Missing node) }
+    ensures { result
+        ≡ fault_line table.now seen.now.number (as_segment (seen_of seen.now)) (Missing node) }
 {
     let kind = if table.is_group(usize::from(node)) {
         Kind::MissingGroup

@@ -14,10 +14,11 @@ ghost use Rattle.edi_engine.specs.Told.{components_seen};
 
 use crate::Engine;
 use crate::seen::Seen;
+use crate::values::copy_party;
 use contrl_writer::{Contrl, Opening, Party, Stamp, Summary, write_contrl};
 use edi_octets::Octets;
 use edi_tables::List;
-use seg_lexer::{Context, Fields, fields};
+use seg_lexer::{Context, Fields};
 use segment_records::{copy_value, is_named};
 use std::alloc::{AllocError, Global};
 
@@ -25,7 +26,8 @@ impl<'d> Engine<'d> {
     /// How the interchange is opened, its functional groups and messages, and its errors. Only want of memory is an error.
     #[tactic(auto, unfolding(crate::specs::Summary::summary_of))]
     pub fn summary(&self, alloc: Global) -> Result<Summary, AllocError>
-        ensures summary { IfOk result (λ summary. summary ≡ summary_of self.now.directory self.now.text) }
+        ensures summary { IfOk result
+            (λ summary. summary ≡ summary_of self.now.directory self.now.text) }
         ensures lawful { IsDirectory self.now.directory }
     {
         let opening = self.opening(alloc)?;
@@ -53,7 +55,8 @@ impl<'d> Engine<'d> {
         ensures answer { IfOk result (λ answer. answer
             ≡ contrl_to self.now.directory self.now.text stamp.now reference.now) }
         // Octets that are answered have no error by the directory, where no UNG and no UNH of the text has a local error.
-        ensures clean { IfOk result (λ answer. IsCleanAnswer self.now.directory self.now.text answer) }
+        ensures clean { IfOk result
+            (λ answer. IsCleanAnswer self.now.directory self.now.text answer) }
     {
         let summary = self.summary(alloc)?;
         write_contrl(alloc, &summary, stamp, reference)
@@ -92,14 +95,9 @@ fn read_opening<O: Octets>(
     if !first.record.local().is_empty() {
         return Ok(Opening::BadUnb);
     }
-    let components = fields(
-        text,
-        &context.service,
-        first.start() as usize,
-        first.end() as usize,
-    );
-    let sender = copy_party(alloc, components, 2)?;
-    let recipient = copy_party(alloc, components, 3)?;
+    let components = first.components(text, &context.service);
+    let sender = copy_routed(alloc, components, 2)?;
+    let recipient = copy_routed(alloc, components, 3)?;
     let reference = copy_value(alloc, components, 5, 1)?;
     Ok(Opening::Good {
         level: context.level,
@@ -111,7 +109,7 @@ fn read_opening<O: Octets>(
 }
 
 // A party of an interchange, in an element of its UNB.
-fn copy_party<O: Octets>(
+fn copy_routed<O: Octets>(
     alloc: Global,
     components: Fields<'_, O>,
     element: u32,
@@ -119,12 +117,6 @@ fn copy_party<O: Octets>(
     ensures { IfOk result (λ party. party
         ≡ interchange_party_in (components_left components.entry) element) }
 {
-    let id = copy_value(alloc, components, element, 1)?;
-    let qualifier = copy_value(alloc, components, element, 2)?;
     let route = copy_value(alloc, components, element, 3)?;
-    Ok(Party {
-        id,
-        qualifier,
-        route,
-    })
+    copy_party(alloc, components, element, route)
 }

@@ -1,5 +1,5 @@
 //! The tree of a text.
-ghost use Rattle.std.specs.Prelude.{◌≡◌, ◌+◌, ◌<◌, ◌≤◌, All, IfOk, IfSome, length, map, if◌then◌else◌};
+ghost use Rattle.std.specs.Prelude.{◌≡◌, ◌+◌, ◌<◌, All, IfOk, IfSome, length, map, if◌then◌else◌};
 ghost use Rattle.dir_compile.specs.Directory.{tables_of};
 ghost use Rattle.edi_tables.specs.Pairs.{count_in as count_of};
 ghost use Rattle.edi_tables.specs.Walk.{groups_round};
@@ -25,7 +25,8 @@ impl Engine<'_> {
     /// The tree of the text: one member for each segment. Only want of memory is an error. The work grows with the number of
     /// segments and the nodes of the directory's tables.
     pub fn tree(&self, alloc: Global) -> Result<Vec<TreeLine>, AllocError>
-        ensures exact { IfOk result (λ tree. tree.items ≡ tree_of self.now.directory self.now.text) }
+        ensures exact { IfOk result
+            (λ tree. tree.items ≡ tree_of self.now.directory self.now.text) }
         ensures well { IfOk result (λ tree. All IsWellPlaced tree.items) }
         // A segment with no error of its own placement is at the first candidate that is free; where the table lists no
         // collision, a derivation of a message's tags is what the tree shows.
@@ -49,7 +50,8 @@ impl Engine<'_> {
 fn place_of(directory: &Directory, numbers: &[List<u16>], seen: &Seen<'_>) -> TreePlace
     requires follows { Follows directory.now (seen_of seen.now) }
     requires numbers { numbers.now ≡ map numbers_in (tables_of directory.now) }
-    ensures { result ≡ place_by directory.now seen.now.before.now (as_segment (seen_of seen.now)) seen.now.record.now.step }
+    ensures { result ≡ place_by directory.now seen.now.before.now (as_segment (seen_of seen.now))
+        seen.now.record.now.step }
 {
     let tag = seen.record.tag();
     let entry = seen.record.entry();

@@ -3,7 +3,7 @@ from .elements import representation_of
 from .files import table_fault
 from .service import Item, Part, Row
 
-CODES = [b"1131", b"1001", b"1004", b"2005", b"2380", b"3035", b"4440", b"5004", b"6060", b"7143"]
+CODES = [b"0062", b"0081", b"1131", b"1001", b"1004", b"2005", b"2380", b"3035", b"4440", b"5004", b"6060", b"7143"]
 COMPOSITE_CODES = [b"C002", b"C108", b"C507", b"C516"]
 TAGS = [b"BGM", b"DTM", b"FTX", b"LIN", b"QTY", b"RFF", b"X1Y"]
 NAMES = [b"TSTORD", b"ABCDEF", b"B12345"]

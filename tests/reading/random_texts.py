@@ -117,7 +117,7 @@ def group(rng, directory, reference):
     head = [[b"UNG"], [wrong(rng, kind)], [b"BUYER", b"14"], [b"SELLER"], [b"960105", b"0930"], [reference], [b"UN"],
             [b"D", b"96A"]]
     tail = [[b"UNE"], [wrong(rng, b"%d" % len(messages))], [wrong(rng, reference)]]
-    return [head] + [part for found in messages for part in found] + [tail]
+    return [head] + [part for found in messages for part in found] + ([] if rng.slips(0.15) else [tail])
 
 
 def interchange(rng, directory):
@@ -132,7 +132,7 @@ def interchange(rng, directory):
     if rng.slips(0.1):
         units.append(message(rng, directory, b"77"))
     tail = [[b"UNZ"], [wrong(rng, b"%d" % len(units))], [wrong(rng, head[5][0])]]
-    return [head] + [part for unit in units for part in unit] + [tail]
+    return [head] + [part for unit in units for part in unit] + ([] if rng.slips(0.1) else [tail])
 
 
 def near_limits(rng, directory):

@@ -5,7 +5,8 @@ use Rattle.dir_compile.specs.declared.parts.Parts.{Parts}
 use Rattle.edi_engine.specs.Engine.{Reading}
 use Rattle.edi_engine.specs.Placed.{AreMessagesPlaced}
 use Rattle.edicheck_core.specs.declared.status.Status.{Status}
-use Rattle.edicheck_core.specs.Answer.{HasFailed, IsEdited, IsScriptBegun}
+use Rattle.edicheck_core.specs.Answer.{HasFailed, IsEdited}
+use Rattle.edicheck_core.specs.Begun.{IsScriptBegun}
 use Rattle.edicheck_core.specs.Edit.{IsScriptAnswered}
 use Rattle.edicheck_core.specs.Form.{Asked, Edit}
 use Rattle.edicheck_core.specs.Inputs.{Inputs, Held}

@@ -16,7 +16,7 @@ use Rattle.edit_script.proofs.ScriptLemmas.{bad_no_command, part_no_command, sam
 use Rattle.edicheck_core.specs.declared.status.Status.{Status}
 use Rattle.edicheck_core.specs.declared.status.Status.TheVariants.{Done, Memory, ReadFault, WriteFault}
 use Rattle.edicheck_core.specs.Answer.{Grew, IsFinish}
-use Rattle.edicheck_core.specs.Edit.{IsCaused, IsEnded, longest_script, stopped_by}
+use Rattle.edicheck_core.specs.Edit.{IsAnsweredWhole, IsCaused, IsEnded, longest_script, stopped_by}
 use Rattle.edicheck_core.specs.Inputs.{Held}
 use Rattle.edicheck_core.proofs.AnsweredLemmas.{ended_next, ended_some}
 use Rattle.edicheck_core.proofs.RunLemmas.{took_of}
@@ -98,7 +98,7 @@ stop_caused Failed SinkFailed why put held' status failed sunk finish =
     caused_of stop.Memory failed = tt
 
 -- where neither failed, a script that ends with `end` stops for want of memory alone
-pub left_refused : (before mid now : Option (List ℕ)) (reader after : Reader) (why : ScriptStop) (Failed SinkFailed : Type 0) (put held' : Held) (status : Status) → StillLeft before mid reader.left → IsNext mid now reader after (Err why) → (why ≡ stop.Fault → Failed) → (HasRisen put.faults held'.faults → SinkFailed) → IsFinish (stopped_by why) put held' status → (cs : List Command) (more : List ℕ) → before ≡ Some (script_text cs ++ more) → AreCommands cs → IsEnded cs → length (script_text cs) ≤ longest_script → (Failed → ⊥) → (SinkFailed → ⊥) → (status ≡ Done) ⊎ (status ≡ Memory)
+pub left_refused : (before mid now : Option (List ℕ)) (reader after : Reader) (why : ScriptStop) (Failed SinkFailed : Type 0) (put held' : Held) (status : Status) → StillLeft before mid reader.left → IsNext mid now reader after (Err why) → (why ≡ stop.Fault → Failed) → (HasRisen put.faults held'.faults → SinkFailed) → IsFinish (stopped_by why) put held' status → IsAnsweredWhole before Failed SinkFailed status
 left_refused before mid now reader after why Failed SinkFailed put held' status still next failed sunk finish cs more same lawful ended short sound sounds =
     let is = still cs more same lawful ended short in
     ⊎_elim

@@ -5,9 +5,8 @@ use Rattle.edi_ports.specs.Sink.{IsCut}
 use Rattle.edi_ports.specs.Read.{TakesFront}
 use Rattle.edicheck_core.specs.declared.status.Status.{Status}
 use Rattle.edicheck_core.specs.declared.status.Status.TheVariants.{Done, WriteFault, TooLarge}
-use Rattle.dir_compile.specs.declared.parts.Parts.{Parts}
 use Rattle.edi_engine.specs.Placed.{AreMessagesPlaced}
-use Rattle.edicheck_core.specs.Edit.{IsScriptAnswered, IsScriptRun}
+use Rattle.edicheck_core.specs.Edit.{IsScriptRun}
 use Rattle.edicheck_core.specs.Form.{Asked, Edit, Text, needs_of}
 use Rattle.edicheck_core.specs.Inputs.{Inputs, Held}
 use Rattle.edicheck_core.specs.Made.{IsPossible, made_by}
@@ -26,14 +25,16 @@ IsMade Possible made due = Possible × IfSome made (λ m. due ≡ m)
 
 -- what was made; or a read fault, where an object failed; or want of memory, where memory is needed
 abbrev pub IsOneOf : Type 0 → Option Outcome → Type 0 → Type 0 → Outcome → Type 0
-IsOneOf Possible made Failed Needed due = IsMade Possible made due ⊎ ((due ≡ read_failed) × Failed) ⊎ ((due ≡ memory_refused) × Needed)
+IsOneOf Possible made Failed Needed due =
+    IsMade Possible made due ⊎ ((due ≡ read_failed) × Failed) ⊎ ((due ≡ memory_refused) × Needed)
 
 -- what a run may come to
 abbrev pub IsDue : Option Asked → Inputs → Inputs → Outcome → Type 0
 IsDue asked before now due =
-    IsOneOf (IsPossible asked due) (made_by asked before) (HasFailed asked before now) ((needs_of asked).memory ≡ true) due
+    IsOneOf (IsPossible asked due) (made_by asked before)
+    (HasFailed asked before now) ((needs_of asked).memory ≡ true) due
 
--- what was taken of a text: all of it where it was printed, more than the limit where it is too large, else at most the limit
+-- what was taken of a text: all where it was printed, more than the limit where it is too large, else at most the limit
 abbrev pub TakesText : Status → Option (List ℕ) → Option (List ℕ) → Type 0
 TakesText Done before now = IfSome before (λ text. now ≡ Some [])
 TakesText TooLarge before now = TakesFront before now (λ n. 4194304 < n)
@@ -48,7 +49,7 @@ Takes asked status before now = now ≡ before
 abbrev pub Grew : Option (List ℕ) → Option (List ℕ) → List ℕ → Type 0
 Grew before now octets = IfSome before (λ held. now ≡ Some (held ++ octets))
 
--- how it ends: the outcome that was due with its whole output in the sink, or the sink failed and a proper prefix of it is there
+-- how it ends: as was due, with the whole output in the sink, or the sink failed and a proper prefix of it is there
 abbrev pub IsFinish : Outcome → Held → Held → Status → Type 0
 IsFinish due before now status =
     ((status ≡ due.status) × Grew before.octets now.octets due.output)
@@ -57,9 +58,12 @@ IsFinish due before now status =
 -- what a status says of a run that makes its whole output before it puts the first octet
 abbrev pub IsSettled : Option Asked → Inputs → Inputs → Held → Held → Status → Type 0
 IsSettled asked before now held held' status =
-    (due : Outcome) × IsDue asked before now due × Takes asked due.status before.rest now.rest × IsFinish due held held' status
+    (due : Outcome) × IsDue asked before now due × Takes asked due.status before.rest now.rest
+    × IsFinish due held held' status
 
--- what a status says of an edit: nothing was taken from the input, and a refusal was put; or a script was answered on the directory and the text that were opened, and in trees by this directory each segment is placed first, and a derivation is the only one
+-- what a status says of an edit: nothing was taken from the input, and a refusal was put; or a script was answered on
+-- the directory and the text that were opened, and in trees by this directory each segment is placed first, and a
+-- derivation is the only one
 abbrev pub IsEdited : List ℕ → List ℕ → Inputs → Inputs → Held → Held → Status → Type 0
 IsEdited manifest name before now held held' status =
     ((due : Outcome) × IsUnopened manifest name before.files (HasRisen before.shelf_faults now.shelf_faults) due
@@ -67,12 +71,6 @@ IsEdited manifest name before now held held' status =
     ⊎ ((begun : Opened) × IsOpening manifest name before.files (Ok begun)
     × ((text : List ℕ) → AreMessagesPlaced begun.directory text)
     × IsScriptRun begun.directory begun.text before now held held' status)
-
--- what a status says of a script on a text that was opened: memory was refused before it, and nothing was taken; or it was answered. Only bodies need this word.
-abbrev pub IsScriptBegun : Parts → List ℕ → Option (List ℕ) → Option (List ℕ) → ℕ → ℕ → Held → Held → Status → Type 0
-IsScriptBegun dir text before now faults faults' held held' status =
-    (IsFinish memory_refused held held' status × (now ≡ before) × (faults' ≡ faults))
-    ⊎ (((text : List ℕ) → AreMessagesPlaced dir text) × IsScriptAnswered dir text before now (HasRisen faults faults') held held' status)
 
 -- what a status says of a run
 abbrev pub IsAnswer : Option Asked → Inputs → Inputs → Held → Held → Status → Type 0

@@ -9,7 +9,7 @@ use Rattle.edit_script.specs.declared.command.Command.TheVariants.{End}
 use Rattle.edit_script.specs.declared.stop.ScriptStop.{ScriptStop}
 use Rattle.edit_script.specs.declared.stop.ScriptStop.TheVariants as stop
 use Rattle.edicheck_core.specs.declared.status.Status.{Status}
-use Rattle.edicheck_core.specs.declared.status.Status.TheVariants.{Done, BadScript, ReadFault, WriteFault}
+use Rattle.edicheck_core.specs.declared.status.Status.TheVariants.{Done, BadScript, Memory, ReadFault, WriteFault}
 use Rattle.edicheck_core.specs.Inputs.{Inputs, Held}
 use Rattle.edicheck_core.specs.Outcome.{Outcome, memory_refused, read_failed, refused, too_large}
 use Rattle.edicheck_core.specs.Reply.{Answers, AnswersCut}
@@ -28,7 +28,8 @@ IsOpen (c ∷ cs) = IsOpen cs
 abbrev pub IsEnded : List Command → Type 0
 IsEnded cs = (front : List Command) × IsOpen front × (cs ≡ front ++ End ∷ [])
 
--- a script that no command follows is refused: a bad line, or its end inside of a command, with the number of that command; or it is too long; or the input failed; or memory was refused
+-- a script that no command follows is refused: a bad line, or its end inside of a command, with the number of that
+-- command; or it is too long; or the input failed; or memory was refused
 abbrev pub stopped_by : ScriptStop → Outcome
 stopped_by (stop.BadLine number) = refused BadScript (codes "fault script " ++ decimal number ++ codes " line")
 stopped_by (stop.CutShort number) = refused BadScript (codes "fault script " ++ decimal number ++ codes " cut")
@@ -36,7 +37,9 @@ stopped_by stop.TooLong = too_large (codes "-")
 stopped_by stop.Fault = read_failed
 stopped_by stop.Memory = memory_refused
 
--- what was taken after so many commands, where the script has so many octets with it, and what is left on the input: a bad line, as far as it tells itself; a part of a command, at the input's end; one after which no octet may be taken; one at a fault; for want of memory, a part of a command or a whole one
+-- what was taken after so many commands, where the script has so many octets with it, and what is left on the input:
+-- a bad line, as far as it tells itself; a part of a command, at the input's end; one after which no octet may be
+-- taken; one at a fault; for want of memory, a part of a command or a whole one
 abbrev pub IsRest : ScriptStop → ℕ → List ℕ → ℕ → List ℕ → Type 0
 IsRest (stop.BadLine number) commands rest taken left = (number ≡ commands + 1) × IsBadLine rest
 IsRest (stop.CutShort number) commands rest taken left =
@@ -51,17 +54,19 @@ IsStopped dir text why script left out =
     (cs : List Command) × (rest : List ℕ) × AreCommands cs × IsOpen cs × (script ≡ script_text cs ++ rest)
     × IsRest why (length cs) rest (length script) left × Answers dir text cs out
 
--- the sink failed: in the reply to the last command that was taken, or in the line that tells why the script was stopped
+-- the sink failed: in the reply to the last command that was taken, or in the line that tells why the script stopped
 abbrev pub IsCutOff : Parts → List ℕ → List ℕ → List ℕ → List ℕ → Type 0
 IsCutOff dir text script left put =
-    ((cs : List Command) × AreCommands cs × (IsOpen cs ⊎ IsEnded cs) × (script ≡ script_text cs) × AnswersCut dir text cs put)
+    ((cs : List Command) × AreCommands cs × (IsOpen cs ⊎ IsEnded cs) × (script ≡ script_text cs)
+    × AnswersCut dir text cs put)
     ⊎ ((why : ScriptStop) × (out : List ℕ) × (n : ℕ) × IsStopped dir text why script left out
     × (n < length (stopped_by why).output) × (put ≡ out ++ take n (stopped_by why).output))
 
 -- what was taken of a script, what is left on the input, and what was put, by the status
 abbrev pub IsRow : Parts → List ℕ → Status → List ℕ → List ℕ → List ℕ → Type 0
 IsRow dir text Done script left put =
-    (cs : List Command) × AreCommands cs × IsEnded cs × (script ≡ script_text cs) × (length script ≤ longest_script) × Answers dir text cs put
+    (cs : List Command) × AreCommands cs × IsEnded cs × (script ≡ script_text cs)
+    × (length script ≤ longest_script) × Answers dir text cs put
 IsRow dir text WriteFault script left put = IsCutOff dir text script left put
 IsRow dir text status script left put =
     (why : ScriptStop) × (out : List ℕ) × (status ≡ (stopped_by why).status)
@@ -74,7 +79,8 @@ IsCaused InputFailed SinkFailed WriteFault = SinkFailed
 IsCaused InputFailed SinkFailed status = ⊤
 
 -- a script was read from an input, of which this was left and is left, and answered, as its row says
-abbrev pub IsScriptAnswered : Parts → List ℕ → Option (List ℕ) → Option (List ℕ) → Type 0 → Held → Held → Status → Type 0
+abbrev pub IsScriptAnswered :
+    Parts → List ℕ → Option (List ℕ) → Option (List ℕ) → Type 0 → Held → Held → Status → Type 0
 IsScriptAnswered dir text before now Failed held held' status =
     IsCaused Failed (HasRisen held.faults held'.faults) status
     × IfSome before (λ whole. IfSome held.octets (λ octets.
@@ -86,3 +92,11 @@ IsScriptAnswered dir text before now Failed held held' status =
 abbrev pub IsScriptRun : Parts → List ℕ → Inputs → Inputs → Held → Held → Status → Type 0
 IsScriptRun dir text before now held held' status =
     IsScriptAnswered dir text before.rest now.rest (HasRisen before.input_faults now.input_faults) held held' status
+
+-- a script that ends with `end` is answered whole where neither the input nor the sink failed: only memory can be
+-- refused
+abbrev pub IsAnsweredWhole : Option (List ℕ) → Type 0 → Type 0 → Status → Type 0
+IsAnsweredWhole before InputFailed SinkFailed status =
+    (cs : List Command) (more : List ℕ) → before ≡ Some (script_text cs ++ more)
+    → AreCommands cs → IsEnded cs → length (script_text cs) ≤ longest_script
+    → (InputFailed → ⊥) → (SinkFailed → ⊥) → (status ≡ Done) ⊎ (status ≡ Memory)

@@ -1,12 +1,11 @@
 -- The forms of words.
-use Rattle.std.specs.Prelude.{ℕ, ⊤, IsTrue, Bool, true, false, ◌&&◌, nat_le, List, [], ◌∷◌, Option, Some, None, codes, if◌then◌else◌}
+use Rattle.std.specs.Prelude.{ℕ, Bool, true, false, ◌&&◌, nat_le, List, [], ◌∷◌, Option, Some, None, codes, if◌then◌else◌}
 use Rattle.std.specs.Str.{bytes_eq}
 use Rattle.std.specs.Option.{option_and_then, option_map}
 use Rattle.edi_octets.specs.Decimal.{decimal_in}
 use Rattle.edi_octets.specs.Name.{is_name_of}
-use Rattle.contrl_writer.specs.Stamp.{IsStamp, is_reference_of, stamp_in}
+use Rattle.contrl_writer.specs.Stamp.{is_reference_of, stamp_in}
 use Rattle.contrl_writer.specs.declared.stamp.Stamp.{Stamp}
-use Rattle.drill_printer.specs.Drill.{IsDrill}
 use Rattle.text_printer.specs.declared.text.Detail.{Detail}
 use Rattle.text_printer.specs.declared.text.Detail.TheVariants.{Segments, Values}
 use Rattle.edicheck_core.specs.declared.form.Form.{Form}
@@ -19,7 +18,8 @@ pub data Question : Type 0 where
   Errors : Question
   Answer : (stamp : Stamp) → (reference : List ℕ) → Question
 
--- what words ask for: help, the version, a text in some detail, the tables of the directory of a manifest, its store, something of a text by that directory, the edits of one, or a drill of so many messages and edits for a number
+-- what words ask for: help, the version, a text in some detail, the tables of the directory of a manifest, its store,
+-- something of a text by that directory, the edits of one, or a drill of so many messages and edits for a number
 pub data Asked : Type 0 where
   Help : Asked
   Version : Asked
@@ -43,22 +43,6 @@ form_shown (form.Compile manifest) = Compile manifest.now
 form_shown (form.About question manifest text) = About (question_shown question) manifest.now text.now
 form_shown (form.Edit manifest text) = Edit manifest.now text.now
 form_shown (form.Drill messages edits number) = Drill messages edits number
-
--- a stamp and a reference have their form
-abbrev pub IsLawfulQuestion : Question → Type 0
-IsLawfulQuestion Errors = ⊤
-IsLawfulQuestion (Answer stamp reference) = IsStamp stamp × IsTrue (is_reference_of reference)
-
--- so has what is asked about a text, and the numbers of a drill are in their bounds
-abbrev pub IsLawful : Asked → Type 0
-IsLawful (About question manifest text) = IsLawfulQuestion question
-IsLawful (Drill messages edits number) = IsDrill messages edits number
-IsLawful _ = ⊤
-
--- words that ask for something that is made whole before its first octet is put: all but `edit`
-abbrev pub IsPlain : Option Asked → Type 0
-IsPlain (Some (Edit manifest text)) = ⊥
-IsPlain _ = ⊤
 
 -- `--help`, `--version`, `segments` or `values`
 abbrev pub lone_word : List ℕ → Option Asked

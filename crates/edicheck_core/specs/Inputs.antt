@@ -19,7 +19,12 @@ pub record Held : Type 0 where
 
 -- what is seen of a shelf and an input
 abbrev pub inputs_of : {S I : Type 0} → shelf.Ghosts S → S → source.Ghosts I → I → Inputs
-inputs_of shelf s input i = record { files = shelf.files s; shelf_faults = shelf.faults s; rest = input.rest i; input_faults = input.faults i }
+inputs_of shelf s input i = record {
+  files = shelf.files s;
+  shelf_faults = shelf.faults s;
+  rest = input.rest i;
+  input_faults = input.faults i;
+}
 
 -- what is seen of a sink
 abbrev pub held_of : {O : Type 0} → sink.Ghosts O → O → Held

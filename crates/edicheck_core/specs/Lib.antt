@@ -1,7 +1,9 @@
 pub mod Answer
+pub mod Begun
 pub mod Edit
 pub mod Form
 pub mod Inputs
+pub mod Lawful
 pub mod Made
 pub mod Opening
 pub mod Outcome

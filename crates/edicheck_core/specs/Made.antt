@@ -70,7 +70,8 @@ told_of (Answer stamp reference) directory text = answered (contrl_to directory 
 
 -- for a question about the text of that name
 abbrev pub asked_about : Question → List ℕ → Result Parts Refusal → Result (List ℕ) Unread → Outcome
-asked_about question name loaded read = after_loading (λ directory. after_reading name (told_of question directory) read) loaded
+asked_about question name loaded read =
+    after_loading (λ directory. after_reading name (told_of question directory) read) loaded
 
 -- the refusal in place of a directory and a text; none where both are there
 abbrev pub refused_opening : Result Opened Outcome → Option Outcome

@@ -35,17 +35,8 @@ abbrev pub IsToldOpening : List ℕ → List ℕ → Option (List ShelfFile) →
 IsToldOpening manifest name files begun =
     (told : List ShelfFile) × (files ≡ Some told) × (opened_by manifest name told ≡ Ok begun)
 
--- what comes in its place: the refusal of a directory or a text; or a read fault, where the shelf failed; or want of memory
+-- what comes in its place: the refusal of a directory or a text; or a read fault, where the shelf failed; or want of
+-- memory
 abbrev pub IsUnopened : List ℕ → List ℕ → Option (List ShelfFile) → Type 0 → Outcome → Type 0
 IsUnopened manifest name files Failed due =
     IsOpening manifest name files (Err due) ⊎ ((due ≡ read_failed) × Failed) ⊎ (due ≡ memory_refused)
-
--- what is read under the name of a text, where the files are told
-abbrev pub IsText : List ℕ → Option (List ShelfFile) → Result (List ℕ) Unread → Type 0
-IsText name files read = IfSome files (λ told. octets_named 4194304 told name ≡ read)
-
--- what comes in place of a text: why there is none; or a read fault, where the shelf failed; or want of memory
-abbrev pub IsUnreadText : List ℕ → Option (List ShelfFile) → Type 0 → Outcome → Type 0
-IsUnreadText name files Failed due =
-    ((why : Unread) × IsText name files (Err why) × (due ≡ unread name why))
-    ⊎ ((due ≡ read_failed) × Failed) ⊎ (due ≡ memory_refused)

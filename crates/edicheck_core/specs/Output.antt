@@ -1,4 +1,4 @@
--- The octets of an output.
+-- For bodies: the octets of an output.
 use Rattle.std.specs.Prelude.{ℕ, List, ◌++◌}
 use Rattle.edicheck_core.specs.declared.outcome.Output.{Output}
 use Rattle.edicheck_core.specs.declared.outcome.Output.TheVariants.{Fixed, Lines, Headed}

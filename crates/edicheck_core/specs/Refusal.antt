@@ -21,7 +21,8 @@ unread name TooLarge = too_large name
 -- the named file breaks a rule of its grammar at a line
 abbrev pub broken : List ℕ → DirFault → Outcome
 broken name found =
-    refused status.BadDirectory (codes "fault directory " ++ name ++ codes " " ++ decimal found.line ++ codes " " ++ file.word_of found.kind)
+    refused status.BadDirectory
+    (codes "fault directory " ++ name ++ codes " " ++ decimal found.line ++ codes " " ++ file.word_of found.kind)
 
 -- the named file gives no definitions
 abbrev pub file_refused : List ℕ → FileFault → Outcome
@@ -30,7 +31,8 @@ file_refused name (fault.Grammar found) = broken name found
 
 -- the parts of a directory break a rule, which concerns this name
 abbrev pub parts_refused : CompileKind → List ℕ → Outcome
-parts_refused kind name = refused status.BadDirectory (codes "fault compile " ++ parts.word_of kind ++ codes " " ++ name)
+parts_refused kind name =
+    refused status.BadDirectory (codes "fault compile " ++ parts.word_of kind ++ codes " " ++ name)
 
 -- the store of that name breaks a rule at this place
 abbrev pub store_refused : List ℕ → ℕ → Outcome

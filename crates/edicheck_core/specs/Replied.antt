@@ -1,4 +1,4 @@
--- The octets of a reply, and one that was put.
+-- For bodies: the octets of a reply, and one that was put.
 use Rattle.std.specs.Prelude.{ℕ, Bool, List, [], ◌∷◌, ◌++◌, length, Option, codes, decimal}
 use Rattle.dir_compile.specs.declared.parts.Parts.{Parts}
 use Rattle.edit_script.specs.declared.command.Command.{Command}
@@ -16,4 +16,5 @@ octets_of (Counted head octets) = head.now ++ decimal (length octets) ++ 10 ∷ 
 
 -- a command was answered, and its reply was put, or, where the sink failed, a proper prefix of it
 abbrev pub IsAnswered : Parts → List ℕ → Command → List ℕ → Option (List ℕ) → Option (List ℕ) → Bool → Type 0
-IsAnswered dir text c after before now whole = (reply : List ℕ) × IsStep dir text c reply after × IsPutOut before now reply whole
+IsAnswered dir text c after before now whole =
+    (reply : List ℕ) × IsStep dir text c reply after × IsPutOut before now reply whole

@@ -63,7 +63,8 @@ MayLackMemory text (Replace at cut put) = stop_of text at cut put ≡ None
 MayLackMemory text End = ⊥
 MayLackMemory text _ = ⊤
 
--- one command, its reply, and the text after it: the reply is that of the text, or memory was refused and the text is as it was
+-- one command, its reply, and the text after it: the reply is that of the text, or memory was refused and the text is
+-- as it was
 abbrev pub IsStep : Parts → List ℕ → Command → List ℕ → List ℕ → Type 0
 IsStep dir text c reply after =
     ((reply ≡ reply_to dir text c) × (after ≡ text_after text c))

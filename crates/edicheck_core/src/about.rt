@@ -10,7 +10,8 @@ ghost use Rattle.dir_load.specs.Load.{load_of};
 ghost use Rattle.contrl_writer.specs.Stamp.{IsStamp, is_reference_of};
 ghost use Rattle.edi_engine.specs.Summary.{contrl_to};
 ghost use Rattle.edicheck_core.specs.Answer.{IsOneOf};
-ghost use Rattle.edicheck_core.specs.Form.{question_shown, IsLawfulQuestion};
+ghost use Rattle.edicheck_core.specs.Form.{question_shown};
+ghost use Rattle.edicheck_core.specs.Lawful.{IsLawfulQuestion};
 ghost use Rattle.edicheck_core.specs.Made.{answered, asked_about, checked_text, found_if, told_of};
 ghost use Rattle.edicheck_core.specs.Outcome.{memory_refused};
 
@@ -40,8 +41,8 @@ pub fn tell_about<S: Shelf>(
     requires { IsLawfulQuestion (question_shown question) }
     ensures due { IsOneOf ((loaded : Result Parts Refusal) × (read : Result (List ℕ) Unread)
         × (result ≡ asked_about (question_shown question.entry) text.now loaded read))
-        (map_told (λ files. asked_about (question_shown question.entry) text.now (load_of files manifest.now) (octets_named 4194304 files text.now))
-        (S.files shelf.old))
+        (map_told (λ files. asked_about (question_shown question.entry) text.now
+        (load_of files manifest.now) (octets_named 4194304 files text.now)) (S.files shelf.old))
         (HasRisen (S.faults shelf.old) (S.faults shelf.new)) (Unit {0}) result }
     ensures files { S.files shelf.new ≡ S.files shelf.old }
     ensures steady { S.is_steady shelf.old → result.status ≢ Status.ReadFault }
@@ -56,7 +57,8 @@ pub fn tell_about<S: Shelf>(
 fn tell(alloc: Global, question: Question<'_>, directory: &Directory, octets: &[u8]) -> Made
     requires lawful { IsLawfulQuestion (question_shown question) }
     requires short { length octets.now ≤ 4194304 }
-    ensures { (result ≡ told_of (question_shown question.entry) directory.now octets.now) ⊎ (result ≡ memory_refused) }
+    ensures { (result ≡ told_of (question_shown question.entry) directory.now octets.now)
+        ⊎ (result ≡ memory_refused) }
 {
     match question {
         Question::Errors => tell_check(alloc, directory, octets),
@@ -116,7 +118,8 @@ fn print_check<L: Ledger, M: Ledger>(
 
 // Whether something was found in a text.
 fn found_if(errors: &[ErrorLine]) -> Status
-    ensures { (output : List ℕ) → found_if errors.now output ≡ record { status = result; output = output } }
+    ensures { (output : List ℕ)
+        → found_if errors.now output ≡ record { status = result; output = output } }
 {
     if errors.is_empty() {
         Status::Done
@@ -172,7 +175,8 @@ fn make_contrl<L: Ledger, M: Ledger>(
     requires placing_name { placing.name ≡ M.name }
     requires placing_parts { placing.parts ≡ M.parts }
     requires placing_some { 0 < placing.parts }
-    ensures { IfOk result (λ answer. answer ≡ contrl_to directory.now octets.now stamp.now reference.now) }
+    ensures { IfOk result (λ answer. answer
+        ≡ contrl_to directory.now octets.now stamp.now reference.now) }
 {
     let mut lexed = Steps::<L>::start(lexing);
     let mut placed = Steps::<M>::start(placing);

@@ -1,10 +1,9 @@
 //! What an edit comes to.
-ghost use Rattle.std.specs.Prelude.{◌≡◌, ◌≢◌, ◌⊎◌, ◌<◌, ◌≤◌, ◌++◌, ℕ, List, Some, length};
+ghost use Rattle.std.specs.Prelude.{◌≡◌, ◌≢◌, ◌⊎◌, ◌<◌, ◌≤◌, ℕ, Some, length};
 ghost use Rattle.edi_ports.specs.Faults.{HasRisen};
-ghost use Rattle.edit_script.specs.Script.{AreCommands, script_text};
-ghost use Rattle.edit_script.specs.declared.command.Command.{Command};
-ghost use Rattle.edicheck_core.specs.Answer.{HasFailed, IsEdited, IsScriptBegun};
-ghost use Rattle.edicheck_core.specs.Edit.{IsEnded, longest_script};
+ghost use Rattle.edicheck_core.specs.Answer.{HasFailed, IsEdited};
+ghost use Rattle.edicheck_core.specs.Begun.{IsScriptBegun};
+ghost use Rattle.edicheck_core.specs.Edit.{IsAnsweredWhole};
 ghost use Rattle.edicheck_core.specs.Form.{Edit};
 ghost use Rattle.edicheck_core.specs.Inputs.{inputs_of, held_of};
 ghost use Rattle.edicheck_core.specs.Made.{made_by};
@@ -35,26 +34,27 @@ pub fn edit_text<S: Shelf, I: Source, O: Sink>(
     out: &mut O,
 ) -> Status
     ensures edited { IsEdited manifest.now text.now
-        (inputs_of S.Shelf shelf.old I.Source input.old) (inputs_of S.Shelf shelf.new I.Source input.new)
+        (inputs_of S.Shelf shelf.old I.Source input.old)
+        (inputs_of S.Shelf shelf.new I.Source input.new)
         (held_of O.Sink out.old) (held_of O.Sink out.new) result }
     ensures files { S.files shelf.new ≡ S.files shelf.old }
     ensures steady { I.is_steady input.old → S.is_steady shelf.old → result ≢ Status.ReadFault }
 
     // A refusal in place of a script is put whole where the sink has room.
     ensures refused { (due : Outcome) (n : ℕ)
-        → made_by (Some (Edit manifest.now text.now)) (inputs_of S.Shelf shelf.old I.Source input.old) ≡ Some due
+        → made_by (Some (Edit manifest.now text.now))
+        (inputs_of S.Shelf shelf.old I.Source input.old) ≡ Some due
         → S.is_steady shelf.old → O.has_room out.old n → length due.output ≤ n → 13 ≤ n
         → (result ≡ due.status) ⊎ (result ≡ Status.Memory) }
 
     // A script that ends with `end` is answered whole where no object that is needed failed.
-    ensures script { (begun : Opened) (cs : List Command) (more : List ℕ)
+    ensures script { (begun : Opened)
         → IsToldOpening manifest.now text.now (S.files shelf.old) begun
-        → I.rest input.old ≡ Some (script_text cs ++ more)
-        → AreCommands cs → IsEnded cs → length (script_text cs) ≤ longest_script
-        → (HasFailed (Some (Edit manifest.now text.now)) (inputs_of S.Shelf shelf.old I.Source input.old)
-        (inputs_of S.Shelf shelf.new I.Source input.new) → ⊥)
-        → (HasRisen (O.faults out.old) (O.faults out.new) → ⊥)
-        → (result ≡ Status.Done) ⊎ (result ≡ Status.Memory) }
+        → IsAnsweredWhole (I.rest input.old)
+        (HasFailed (Some (Edit manifest.now text.now))
+        (inputs_of S.Shelf shelf.old I.Source input.old)
+        (inputs_of S.Shelf shelf.new I.Source input.new))
+        (HasRisen (O.faults out.old) (O.faults out.new)) result }
 {
     match open_both(alloc, manifest, text, shelf) {
         Ok(opening) => edit_opened(alloc, &opening.directory, &opening.text, input, out),
@@ -72,14 +72,12 @@ fn edit_opened<I: Source, O: Sink>(
 ) -> Status
     requires { length octets.now ≤ 4194304 }
     ensures run { IsScriptBegun directory.now octets.now (I.rest input.old) (I.rest input.new)
-        (I.faults input.old) (I.faults input.new) (held_of O.Sink out.old) (held_of O.Sink out.new) result }
+        (I.faults input.old) (I.faults input.new)
+        (held_of O.Sink out.old) (held_of O.Sink out.new) result }
     ensures steady { I.is_steady input.old → result ≢ Status.ReadFault }
-    ensures complete { (cs : List Command) (more : List ℕ)
-        → I.rest input.old ≡ Some (script_text cs ++ more)
-        → AreCommands cs → IsEnded cs → length (script_text cs) ≤ longest_script
-        → (HasRisen (I.faults input.old) (I.faults input.new) → ⊥)
-        → (HasRisen (O.faults out.old) (O.faults out.new) → ⊥)
-        → (result ≡ Status.Done) ⊎ (result ≡ Status.Memory) }
+    ensures complete { IsAnsweredWhole (I.rest input.old)
+        (HasRisen (I.faults input.old) (I.faults input.new))
+        (HasRisen (O.faults out.old) (O.faults out.new)) result }
 {
     edit_counted::<Brand, Brand, I, O>(
         alloc,
@@ -109,14 +107,12 @@ fn edit_counted<L: Ledger, M: Ledger, I: Source, O: Sink>(
     requires placing_parts { placing.parts ≡ M.parts }
     requires placing_some { 0 < placing.parts }
     ensures run { IsScriptBegun directory.now octets.now (I.rest input.old) (I.rest input.new)
-        (I.faults input.old) (I.faults input.new) (held_of O.Sink out.old) (held_of O.Sink out.new) result }
+        (I.faults input.old) (I.faults input.new)
+        (held_of O.Sink out.old) (held_of O.Sink out.new) result }
     ensures steady { I.is_steady input.old → result ≢ Status.ReadFault }
-    ensures complete { (cs : List Command) (more : List ℕ)
-        → I.rest input.old ≡ Some (script_text cs ++ more)
-        → AreCommands cs → IsEnded cs → length (script_text cs) ≤ longest_script
-        → (HasRisen (I.faults input.old) (I.faults input.new) → ⊥)
-        → (HasRisen (O.faults out.old) (O.faults out.new) → ⊥)
-        → (result ≡ Status.Done) ⊎ (result ≡ Status.Memory) }
+    ensures complete { IsAnsweredWhole (I.rest input.old)
+        (HasRisen (I.faults input.old) (I.faults input.new))
+        (HasRisen (O.faults out.old) (O.faults out.new)) result }
 {
     let mut lexed = Steps::<L>::start(lexing);
     let mut placed = Steps::<M>::start(placing);

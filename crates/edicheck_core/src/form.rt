@@ -1,7 +1,8 @@
 //! The forms of words.
 ghost use Rattle.std.specs.Prelude.{◌≡◌, ◌≤◌, IfSome};
 ghost use Rattle.std.specs.Option.{option_map};
-ghost use Rattle.edicheck_core.specs.Form.{form_of, form_shown, lone_word, number_in, with_manifest, with_numbers, with_stamp, with_text, IsLawful};
+ghost use Rattle.edicheck_core.specs.Form.{form_of, form_shown, lone_word, number_in, with_manifest, with_numbers, with_stamp, with_text};
+ghost use Rattle.edicheck_core.specs.Lawful.{IsLawful};
 
 use contrl_writer::{Stamp, is_reference, read_stamp};
 use edi_octets::{is_name, read_decimal};
@@ -139,7 +140,8 @@ fn read_with_stamp<'a>(
     stamp: &[u8],
     reference: &'a [u8],
 ) -> Option<Form<'a>>
-    ensures form { option_map form_shown result ≡ with_stamp word.now manifest.now text.now stamp.now reference.now }
+    ensures form { option_map form_shown result
+        ≡ with_stamp word.now manifest.now text.now stamp.now reference.now }
     ensures lawful { IfSome result (λ form. IsLawful (form_shown form)) }
 {
     if word != b"contrl".as_slice()
@@ -163,7 +165,8 @@ fn read_with_numbers(
     edits: &[u8],
     number: &[u8],
 ) -> Option<Form<'static>>
-    ensures form { option_map form_shown result ≡ with_numbers word.now messages.now edits.now number.now }
+    ensures form { option_map form_shown result
+        ≡ with_numbers word.now messages.now edits.now number.now }
     ensures lawful { IfSome result (λ form. IsLawful (form_shown form)) }
 {
     if word != b"drill".as_slice() {

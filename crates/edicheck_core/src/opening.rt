@@ -1,7 +1,8 @@
 //! What a run on a named text begins with.
 ghost use Rattle.std.specs.Prelude.{◌≡◌, ◌≢◌, ◌≤◌, Ok, length, IfErr, IfOk, MatchResult};
 ghost use Rattle.edi_ports.specs.Faults.{HasRisen};
-ghost use Rattle.edicheck_core.specs.Opening.{IsOpening, IsText, IsUnopened, IsUnreadText};
+ghost use Rattle.edicheck_core.specs.Begun.{IsText, IsUnreadText};
+ghost use Rattle.edicheck_core.specs.Opening.{IsOpening, IsUnopened};
 
 use crate::Status;
 use crate::outcome::Made;
@@ -27,8 +28,10 @@ pub fn open_both<S: Shelf>(
     shelf: &mut S,
 ) -> Result<Opening, Made>
     ensures opening { MatchResult result
-        (λ opening. IsOpening manifest.now text.now (S.files shelf.old) (Ok (record { directory = opening.directory; text = opening.text.items })))
-        (λ due. IsUnopened manifest.now text.now (S.files shelf.old) (HasRisen (S.faults shelf.old) (S.faults shelf.new)) due) }
+        (λ opening. IsOpening manifest.now text.now (S.files shelf.old)
+        (Ok (record { directory = opening.directory; text = opening.text.items })))
+        (λ due. IsUnopened manifest.now text.now (S.files shelf.old)
+        (HasRisen (S.faults shelf.old) (S.faults shelf.new)) due) }
     ensures short { IfOk result (λ opening. length opening.text.items ≤ 4194304) }
     ensures files { S.files shelf.new ≡ S.files shelf.old }
     ensures steady { S.is_steady shelf.old → IfErr result (λ due. due.status ≢ Status.ReadFault) }
@@ -49,8 +52,10 @@ fn open_text<S: Shelf>(
     shelf: &mut S,
 ) -> Result<Opening, Made>
     ensures directory { IfOk result (λ opening. opening.directory ≡ directory) }
-    ensures text { MatchResult result (λ opening. IsText text.now (S.files shelf.old) (Ok opening.text.items))
-        (λ due. IsUnreadText text.now (S.files shelf.old) (HasRisen (S.faults shelf.old) (S.faults shelf.new)) due) }
+    ensures text { MatchResult result
+        (λ opening. IsText text.now (S.files shelf.old) (Ok opening.text.items))
+        (λ due. IsUnreadText text.now (S.files shelf.old)
+        (HasRisen (S.faults shelf.old) (S.faults shelf.new)) due) }
     ensures short { IfOk result (λ opening. length opening.text.items ≤ 4194304) }
     ensures files { S.files shelf.new ≡ S.files shelf.old }
     ensures counted { S.faults shelf.old ≤ S.faults shelf.new }
@@ -64,8 +69,10 @@ fn open_text<S: Shelf>(
 
 // The text of that name; or what a run comes to without it.
 fn read_text<S: Shelf>(alloc: Global, text: &[u8], shelf: &mut S) -> Result<Vec<u8>, Made>
-    ensures text { MatchResult result (λ octets. IsText text.now (S.files shelf.old) (Ok octets.items))
-        (λ due. IsUnreadText text.now (S.files shelf.old) (HasRisen (S.faults shelf.old) (S.faults shelf.new)) due) }
+    ensures text { MatchResult result
+        (λ octets. IsText text.now (S.files shelf.old) (Ok octets.items))
+        (λ due. IsUnreadText text.now (S.files shelf.old)
+        (HasRisen (S.faults shelf.old) (S.faults shelf.new)) due) }
     ensures short { IfOk result (λ octets. length octets.items ≤ 4194304) }
     ensures files { S.files shelf.new ≡ S.files shelf.old }
     ensures counted { S.faults shelf.old ≤ S.faults shelf.new }

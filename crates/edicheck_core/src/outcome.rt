@@ -94,7 +94,8 @@ impl Made {
 
     /// A status with printed lines, unless memory was refused for these.
     pub fn lines(status: Status, printed: Result<Chunk, AllocError>) -> Made
-        ensures { MatchResult printed (λ lines. result ≡ record { status = status; output = lines }) (λ _. result ≡ memory_refused) }
+        ensures { MatchResult printed (λ lines. result ≡ record { status = status; output = lines })
+            (λ _. result ≡ memory_refused) }
     {
         match printed {
             Ok(lines) => Made {
@@ -117,7 +118,8 @@ impl Made {
 
     /// That all was done, with a printed text, unless memory was refused for that.
     pub fn text(printed: Result<PrintedText, AllocError>) -> Made
-        ensures { MatchResult printed (λ text. result ≡ done (text.head ++ text.lines)) (λ _. result ≡ memory_refused) }
+        ensures { MatchResult printed (λ text. result ≡ done (text.head ++ text.lines))
+            (λ _. result ≡ memory_refused) }
     {
         match printed {
             Ok(PrintedText { head, lines }) => Made {

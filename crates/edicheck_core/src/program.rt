@@ -1,14 +1,13 @@
 //! The one call that does all that the program does.
-ghost use Rattle.std.specs.Prelude.{◌≡◌, ◌≢◌, ◌⊎◌, ◌≤◌, ◌++◌, ℕ, List, Option, false, true, length, Some, IfSome};
+ghost use Rattle.std.specs.Prelude.{◌≡◌, ◌≢◌, ◌⊎◌, ◌≤◌, ℕ, List, Option, false, true, length, Some, IfSome};
 ghost use Rattle.std.specs.Option.{option_map};
 ghost use Rattle.edi_ports.specs.Faults.{HasRisen};
-ghost use Rattle.edit_script.specs.Script.{AreCommands, script_text};
-ghost use Rattle.edit_script.specs.declared.command.Command.{Command};
 ghost use Rattle.edicheck_core.specs.Outcome.{Outcome, memory_refused};
-ghost use Rattle.edicheck_core.specs.Form.{Asked, Edit, form_of, form_shown, needs_of, IsLawful, IsPlain};
+ghost use Rattle.edicheck_core.specs.Form.{Asked, Edit, form_of, form_shown, needs_of};
 ghost use Rattle.edicheck_core.specs.Inputs.{inputs_of, held_of};
 ghost use Rattle.edicheck_core.specs.Answer.{HasFailed, IsAnswer, IsDue, IsFinish, IsSettled, Takes};
-ghost use Rattle.edicheck_core.specs.Edit.{IsEnded, longest_script};
+ghost use Rattle.edicheck_core.specs.Edit.{IsAnsweredWhole};
+ghost use Rattle.edicheck_core.specs.Lawful.{IsLawful, IsPlain};
 ghost use Rattle.edicheck_core.specs.Made.{made_by};
 ghost use Rattle.edicheck_core.specs.Opening.{IsToldOpening, Opened};
 
@@ -49,7 +48,8 @@ pub fn run<S: Shelf, I: Source, O: Sink>(
 ) -> Status
     // What each status says: what was taken, what is in the sink, and the cause of a refusal.
     ensures answer { IsAnswer (form_of words.now)
-        (inputs_of S.Shelf shelf.old I.Source input.old) (inputs_of S.Shelf shelf.new I.Source input.new)
+        (inputs_of S.Shelf shelf.old I.Source input.old)
+        (inputs_of S.Shelf shelf.new I.Source input.new)
         (held_of O.Sink out.old) (held_of O.Sink out.new) result }
 
     // What the words don't need is left alone, and the files of the shelf stay.
@@ -59,7 +59,8 @@ pub fn run<S: Shelf, I: Source, O: Sink>(
 
     // Objects that don't fail aren't said to have failed.
     ensures steady { ((needs_of (form_of words.now)).input ≡ true → I.is_steady input.old)
-        → ((needs_of (form_of words.now)).shelf ≡ true → S.is_steady shelf.old) → result ≢ Status.ReadFault }
+        → ((needs_of (form_of words.now)).shelf ≡ true → S.is_steady shelf.old)
+        → result ≢ Status.ReadFault }
 
     // With objects that don't fail and a sink with room, only memory can be refused.
     ensures complete { (made : Outcome) (n : ℕ)
@@ -78,14 +79,13 @@ pub fn run<S: Shelf, I: Source, O: Sink>(
         → (result ≡ made.status) ⊎ (result ≡ Status.Memory) }
 
     // A script that ends with `end` is answered whole where no object that is needed failed: only memory can be refused.
-    ensures script { (manifest name : List ℕ) (begun : Opened) (cs : List Command) (more : List ℕ)
-        → form_of words.now ≡ Some (Edit manifest name) → IsToldOpening manifest name (S.files shelf.old) begun
-        → I.rest input.old ≡ Some (script_text cs ++ more)
-        → AreCommands cs → IsEnded cs → length (script_text cs) ≤ longest_script
-        → (HasFailed (form_of words.now) (inputs_of S.Shelf shelf.old I.Source input.old)
-        (inputs_of S.Shelf shelf.new I.Source input.new) → ⊥)
-        → (HasRisen (O.faults out.old) (O.faults out.new) → ⊥)
-        → (result ≡ Status.Done) ⊎ (result ≡ Status.Memory) }
+    ensures script { (manifest name : List ℕ) (begun : Opened)
+        → form_of words.now ≡ Some (Edit manifest name)
+        → IsToldOpening manifest name (S.files shelf.old) begun
+        → IsAnsweredWhole (I.rest input.old)
+        (HasFailed (form_of words.now) (inputs_of S.Shelf shelf.old I.Source input.old)
+        (inputs_of S.Shelf shelf.new I.Source input.new))
+        (HasRisen (O.faults out.old) (O.faults out.new)) result }
 {
     match read_form(words) {
         Some(Form::Edit { manifest, text }) => edit_text(alloc, manifest, text, shelf, input, out),
@@ -111,22 +111,30 @@ fn settle<S: Shelf, I: Source, O: Sink>(
     requires plain { IsPlain (option_map form_shown form) }
     requires lawful { IfSome form (λ form. IsLawful (form_shown form)) }
     ensures answer { IsSettled (option_map form_shown form.entry)
-        (inputs_of S.Shelf shelf.old I.Source input.old) (inputs_of S.Shelf shelf.new I.Source input.new)
+        (inputs_of S.Shelf shelf.old I.Source input.old)
+        (inputs_of S.Shelf shelf.new I.Source input.new)
         (held_of O.Sink out.old) (held_of O.Sink out.new) result }
-    ensures shelf { (needs_of (option_map form_shown form.entry)).shelf ≡ false → shelf.new ≡ shelf.old }
-    ensures input { (needs_of (option_map form_shown form.entry)).input ≡ false → input.new ≡ input.old }
+    ensures shelf { (needs_of (option_map form_shown form.entry)).shelf ≡ false
+        → shelf.new ≡ shelf.old }
+    ensures input { (needs_of (option_map form_shown form.entry)).input ≡ false
+        → input.new ≡ input.old }
     ensures files { S.files shelf.new ≡ S.files shelf.old }
-    ensures steady { ((needs_of (option_map form_shown form.entry)).input ≡ true → I.is_steady input.old)
-        → ((needs_of (option_map form_shown form.entry)).shelf ≡ true → S.is_steady shelf.old) → result ≢ Status.ReadFault }
+    ensures steady { ((needs_of (option_map form_shown form.entry)).input ≡ true
+        → I.is_steady input.old)
+        → ((needs_of (option_map form_shown form.entry)).shelf ≡ true → S.is_steady shelf.old)
+        → result ≢ Status.ReadFault }
     ensures complete { (made : Outcome) (n : ℕ)
-        → made_by (option_map form_shown form.entry) (inputs_of S.Shelf shelf.old I.Source input.old) ≡ Some made
+        → made_by (option_map form_shown form.entry)
+        (inputs_of S.Shelf shelf.old I.Source input.old) ≡ Some made
         → ((needs_of (option_map form_shown form.entry)).input ≡ true → I.is_steady input.old)
         → ((needs_of (option_map form_shown form.entry)).shelf ≡ true → S.is_steady shelf.old)
         → O.has_room out.old n → length made.output ≤ n → 13 ≤ n
         → (result ≡ made.status) ⊎ (result ≡ Status.Memory) }
     ensures untroubled { (made : Outcome)
-        → made_by (option_map form_shown form.entry) (inputs_of S.Shelf shelf.old I.Source input.old) ≡ Some made
-        → (HasFailed (option_map form_shown form.entry) (inputs_of S.Shelf shelf.old I.Source input.old)
+        → made_by (option_map form_shown form.entry)
+        (inputs_of S.Shelf shelf.old I.Source input.old) ≡ Some made
+        → (HasFailed (option_map form_shown form.entry)
+        (inputs_of S.Shelf shelf.old I.Source input.old)
         (inputs_of S.Shelf shelf.new I.Source input.new) → ⊥)
         → (HasRisen (O.faults out.old) (O.faults out.new) → ⊥)
         → (result ≡ made.status) ⊎ (result ≡ Status.Memory) }
@@ -145,13 +153,19 @@ fn decide<S: Shelf, I: Source>(
     requires plain { IsPlain (option_map form_shown form) }
     requires lawful { IfSome form (λ form. IsLawful (form_shown form)) }
     ensures due { IsDue (option_map form_shown form.entry)
-        (inputs_of S.Shelf shelf.old I.Source input.old) (inputs_of S.Shelf shelf.new I.Source input.new) result }
-    ensures takes { Takes (option_map form_shown form.entry) result.status (I.rest input.old) (I.rest input.new) }
-    ensures shelf { (needs_of (option_map form_shown form.entry)).shelf ≡ false → shelf.new ≡ shelf.old }
-    ensures input { (needs_of (option_map form_shown form.entry)).input ≡ false → input.new ≡ input.old }
+        (inputs_of S.Shelf shelf.old I.Source input.old)
+        (inputs_of S.Shelf shelf.new I.Source input.new) result }
+    ensures takes { Takes (option_map form_shown form.entry) result.status
+        (I.rest input.old) (I.rest input.new) }
+    ensures shelf { (needs_of (option_map form_shown form.entry)).shelf ≡ false
+        → shelf.new ≡ shelf.old }
+    ensures input { (needs_of (option_map form_shown form.entry)).input ≡ false
+        → input.new ≡ input.old }
     ensures files { S.files shelf.new ≡ S.files shelf.old }
-    ensures steady { ((needs_of (option_map form_shown form.entry)).input ≡ true → I.is_steady input.old)
-        → ((needs_of (option_map form_shown form.entry)).shelf ≡ true → S.is_steady shelf.old) → result.status ≢ Status.ReadFault }
+    ensures steady { ((needs_of (option_map form_shown form.entry)).input ≡ true
+        → I.is_steady input.old)
+        → ((needs_of (option_map form_shown form.entry)).shelf ≡ true → S.is_steady shelf.old)
+        → result.status ≢ Status.ReadFault }
 {
     match form {
         None => Made::no_form(),

@@ -69,7 +69,8 @@ fn print_named(alloc: Global, words: &[u8], name: &[u8]) -> Result<Chunk, AllocE
 
 // The line of a name that breaks a rule of the parts.
 fn print_parts(alloc: Global, kind: CompileKind, name: &[u8]) -> Result<Chunk, AllocError>
-    ensures { IfOk result (λ line. line ≡ codes "fault compile " ++ parts_word kind ++ codes " " ++ name.now ++ 10 ∷ []) }
+    ensures { IfOk result (λ line. line
+        ≡ codes "fault compile " ++ parts_word kind ++ codes " " ++ name.now ++ 10 ∷ []) }
 {
     let mut line = Chunk::of(alloc, b"fault compile ")?;
     line.add(kind.word())?;
@@ -81,7 +82,8 @@ fn print_parts(alloc: Global, kind: CompileKind, name: &[u8]) -> Result<Chunk, A
 
 // The line of a named store that breaks a rule at a place.
 fn print_misspelled(alloc: Global, name: &[u8], at: usize) -> Result<Chunk, AllocError>
-    ensures { IfOk result (λ line. line ≡ codes "fault store " ++ name.now ++ codes " " ++ decimal at ++ 10 ∷ []) }
+    ensures { IfOk result (λ line. line
+        ≡ codes "fault store " ++ name.now ++ codes " " ++ decimal at ++ 10 ∷ []) }
 {
     let mut line = Chunk::of(alloc, b"fault store ")?;
     line.add(name)?;
@@ -94,7 +96,8 @@ fn print_misspelled(alloc: Global, name: &[u8], at: usize) -> Result<Chunk, Allo
 // The line of a named file that breaks a rule of its grammar.
 fn print_broken(alloc: Global, name: &[u8], fault: DirFault) -> Result<Chunk, AllocError>
     ensures { IfOk result (λ line. line
-        ≡ codes "fault directory " ++ name.now ++ codes " " ++ decimal fault.line ++ codes " " ++ rule_word fault.kind ++ 10 ∷ []) }
+        ≡ codes "fault directory " ++ name.now ++ codes " " ++ decimal fault.line ++ codes " "
+        ++ rule_word fault.kind ++ 10 ∷ []) }
 {
     let mut line = Chunk::of(alloc, b"fault directory ")?;
     line.add(name)?;

@@ -64,7 +64,8 @@ fn reply_to<L: Ledger, M: Ledger>(
     placed: &mut Steps<M>,
 ) -> Reply
     requires { IsCommand command.now }
-    ensures step { IsStep engine.old.directory engine.old.text command.now (octets_of result) engine.new.text }
+    ensures step { IsStep engine.old.directory engine.old.text command.now (octets_of result)
+        engine.new.text }
     ensures directory { engine.new.directory ≡ engine.old.directory }
 {
     match command {
@@ -91,7 +92,8 @@ fn edit<L: Ledger, M: Ledger>(
     lexed: &mut Steps<L>,
     placed: &mut Steps<M>,
 ) -> Reply
-    ensures step { IsStep engine.old.directory engine.old.text (Replace at cut put.now) (octets_of result) engine.new.text }
+    ensures step { IsStep engine.old.directory engine.old.text (Replace at cut put.now)
+        (octets_of result) engine.new.text }
     ensures directory { engine.new.directory ≡ engine.old.directory }
 {
     match engine.replace(alloc, at, cut, put, lexed, placed) {
@@ -104,7 +106,8 @@ fn edit<L: Ledger, M: Ledger>(
 
 // A reply, unless memory was refused for it.
 fn or_no_memory(reply: Result<Reply, AllocError>) -> Reply
-    ensures { MatchResult reply (λ made. octets_of result ≡ octets_of made) (λ _. octets_of result ≡ no_memory) }
+    ensures { MatchResult reply (λ made. octets_of result ≡ octets_of made)
+        (λ _. octets_of result ≡ no_memory) }
 {
     match reply {
         Ok(made) => made,
@@ -113,14 +116,16 @@ fn or_no_memory(reply: Result<Reply, AllocError>) -> Reply
 }
 
 fn list_errors(alloc: Global, engine: &Engine<'_>) -> Result<Reply, AllocError>
-    ensures { IfOk result (λ reply. octets_of reply ≡ errors_text (errors_of engine.now.directory engine.now.text)) }
+    ensures { IfOk result (λ reply. octets_of reply
+        ≡ errors_text (errors_of engine.now.directory engine.now.text)) }
 {
     let errors = engine.errors(alloc)?;
     Ok(Reply::Lines(print_errors(alloc, &errors)?))
 }
 
 fn list_tree(alloc: Global, engine: &Engine<'_>) -> Result<Reply, AllocError>
-    ensures { IfOk result (λ reply. octets_of reply ≡ tree_text (tree_of engine.now.directory engine.now.text)) }
+    ensures { IfOk result (λ reply. octets_of reply
+        ≡ tree_text (tree_of engine.now.directory engine.now.text)) }
 {
     let tree = engine.tree(alloc)?;
     Ok(Reply::Lines(print_tree(alloc, &tree)?))

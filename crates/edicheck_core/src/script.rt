@@ -1,11 +1,9 @@
 //! The answers to a script.
-ghost use Rattle.std.specs.Prelude.{◌≡◌, ◌≢◌, ◌⊎◌, ◌<◌, ◌≤◌, ◌++◌, ℕ, List, Some, length};
+ghost use Rattle.std.specs.Prelude.{◌≡◌, ◌≢◌};
 ghost use Rattle.std.specs.Bool.{OnFalse};
 ghost use Rattle.edi_ports.specs.Faults.{HasRisen};
-ghost use Rattle.edit_script.specs.Script.{AreCommands, script_text};
-ghost use Rattle.edit_script.specs.declared.command.Command.{Command};
 ghost use Rattle.edicheck_core.specs.Answer.{IsFinish};
-ghost use Rattle.edicheck_core.specs.Edit.{IsEnded, IsScriptAnswered, longest_script, stopped_by};
+ghost use Rattle.edicheck_core.specs.Edit.{IsAnsweredWhole, IsScriptAnswered, stopped_by};
 ghost use Rattle.edicheck_core.specs.Inputs.{held_of};
 ghost use Rattle.edicheck_core.specs.Put.{IsPutOut};
 
@@ -32,13 +30,13 @@ pub fn answer_script<L: Ledger, M: Ledger, I: Source, O: Sink>(
     input: &mut I,
     out: &mut O,
 ) -> Status
-    ensures run { IsScriptAnswered engine.old.directory engine.old.text (I.rest input.old) (I.rest input.new)
-        (HasRisen (I.faults input.old) (I.faults input.new)) (held_of O.Sink out.old) (held_of O.Sink out.new) result }
+    ensures run { IsScriptAnswered engine.old.directory engine.old.text
+        (I.rest input.old) (I.rest input.new) (HasRisen (I.faults input.old) (I.faults input.new))
+        (held_of O.Sink out.old) (held_of O.Sink out.new) result }
     ensures steady { I.is_steady input.old → result ≢ Status.ReadFault }
-    ensures complete { (cs : List Command) (more : List ℕ)
-        → I.rest input.old ≡ Some (script_text cs ++ more) → AreCommands cs → IsEnded cs → length (script_text cs) ≤ longest_script
-        → (HasRisen (I.faults input.old) (I.faults input.new) → ⊥) → (HasRisen (O.faults out.old) (O.faults out.new) → ⊥)
-        → (result ≡ Status.Done) ⊎ (result ≡ Status.Memory) }
+    ensures complete { IsAnsweredWhole (I.rest input.old)
+        (HasRisen (I.faults input.old) (I.faults input.new))
+        (HasRisen (O.faults out.old) (O.faults out.new)) result }
 {
     let mut reader = ScriptReader::new(LONGEST_SCRIPT);
     'commands: loop {

@@ -16,7 +16,8 @@ pub const LONGEST_TEXT: usize = 4_194_304;
 
 /// What the text on the input comes to, in this detail.
 pub fn list_text<I: Source>(alloc: Global, detail: Detail, input: &mut I) -> Made
-    ensures due { IsOneOf ((text : List ℕ) × (result ≡ listed detail text)) (map_told (listed detail) (I.rest input.old))
+    ensures due { IsOneOf ((text : List ℕ) × (result ≡ listed detail text))
+        (map_told (listed detail) (I.rest input.old))
         (HasRisen (I.faults input.old) (I.faults input.new)) (Unit {0}) result }
     ensures takes { TakesText result.status (I.rest input.old) (I.rest input.new) }
     ensures steady { I.is_steady input.old → result.status ≢ Status.ReadFault }

@@ -12,5 +12,5 @@ returns-in-Ok-clause-edited g c =
     c.in-Ok.ensures.opening (rw c.deref.ensures.value at c.edit_opened.ensures.run)
 
 pub returns-in-Ok-clause-script : goal.returns-in-Ok-clause-script
-returns-in-Ok-clause-script g c = λ begun cs more told rest commands ended short unfailed sound.
+returns-in-Ok-clause-script g c = λ begun told cs more rest commands ended short unfailed sound.
     c.edit_opened.ensures.complete cs more rest commands ended short (λ failed. unfailed (inl (refl, failed))) sound

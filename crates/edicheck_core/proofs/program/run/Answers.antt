@@ -4,8 +4,8 @@ use Rattle.edicheck_core.proofs.EditLemmas.{told_words}
 use Rattle.edicheck_core.proofs.program.run.Goals as goal
 
 pub returns-in-Some-Edit-clause-script : goal.returns-in-Some-Edit-clause-script
-returns-in-Some-Edit-clause-script g c = λ manifest name begun cs more asked told rest commands ended short unfailed sound.
+returns-in-Some-Edit-clause-script g c = λ manifest name begun asked told cs more rest commands ended short unfailed sound.
     told_words c.in-Some-Edit.manifest.now c.in-Some-Edit.text.now manifest name (form_of c.args.words.now)
     (inputs_of g.S.Shelf c.args.shelf.now g.I.Source c.args.input.now) (inputs_of g.S.Shelf c.edit_text.new.shelf g.I.Source c.edit_text.new.input) begun _
     (rw c.in-Some-Edit.field-0-is at c.in-Some-Edit.ensures.form) asked told unfailed
-    (λ told unfailed. c.edit_text.ensures.script begun cs more told rest commands ended short unfailed sound)
+    (λ told unfailed. c.edit_text.ensures.script begun told cs more rest commands ended short unfailed sound)

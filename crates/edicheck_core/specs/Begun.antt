@@ -1,0 +1,33 @@
+-- For bodies: what a run on a text begins with, one thing after the other, and what comes in the place of each.
+use Rattle.std.specs.Prelude.{◌≡◌, ◌⊎◌, ℕ, List, Option, Some, IfSome, Result, Ok, Err}
+use Rattle.edi_ports.specs.Faults.{HasRisen}
+use Rattle.edi_ports.specs.Named.{octets_named}
+use Rattle.edi_ports.specs.declared.named.Unread.{Unread}
+use Rattle.edi_ports.specs.declared.shelf.ShelfFile.{ShelfFile}
+use Rattle.dir_compile.specs.declared.parts.Parts.{Parts}
+use Rattle.edi_engine.specs.Placed.{AreMessagesPlaced}
+use Rattle.edicheck_core.specs.declared.status.Status.{Status}
+use Rattle.edicheck_core.specs.Answer.{IsFinish}
+use Rattle.edicheck_core.specs.Edit.{IsScriptAnswered}
+use Rattle.edicheck_core.specs.Inputs.{Held}
+use Rattle.edicheck_core.specs.Outcome.{Outcome, memory_refused, read_failed}
+use Rattle.edicheck_core.specs.Refusal.{unread}
+
+-- what is read under the name of a text, where the files are told
+abbrev pub IsText : List ℕ → Option (List ShelfFile) → Result (List ℕ) Unread → Type 0
+IsText name files read = IfSome files (λ told. octets_named 4194304 told name ≡ read)
+
+-- what comes in place of a text: why there is none; or a read fault, where the shelf failed; or want of memory
+abbrev pub IsUnreadText : List ℕ → Option (List ShelfFile) → Type 0 → Outcome → Type 0
+IsUnreadText name files Failed due =
+    ((why : Unread) × IsText name files (Err why) × (due ≡ unread name why))
+    ⊎ ((due ≡ read_failed) × Failed) ⊎ (due ≡ memory_refused)
+
+-- what a status says of a script on a text that was opened: memory was refused before it, and nothing was taken; or it
+-- was answered
+abbrev pub IsScriptBegun :
+    Parts → List ℕ → Option (List ℕ) → Option (List ℕ) → ℕ → ℕ → Held → Held → Status → Type 0
+IsScriptBegun dir text before now faults faults' held held' status =
+    (IsFinish memory_refused held held' status × (now ≡ before) × (faults' ≡ faults))
+    ⊎ (((text : List ℕ) → AreMessagesPlaced dir text)
+    × IsScriptAnswered dir text before now (HasRisen faults faults') held held' status)

@@ -1,5 +1,5 @@
 //! The answers to a script.
-ghost use Rattle.std.specs.Prelude.{◌≡◌, ◌≢◌};
+ghost use Rattle.std.specs.Prelude.{◌≡◌, ◌≢◌, ◌↔◌, IsTrue};
 ghost use Rattle.std.specs.Bool.{OnFalse};
 ghost use Rattle.edi_ports.specs.Faults.{HasRisen};
 ghost use Rattle.edicheck_core.specs.Answer.{IsFinish};
@@ -47,9 +47,19 @@ pub fn answer_script<L: Ledger, M: Ledger, I: Source, O: Sink>(
         if !answer_command(alloc, engine, &command, lexed, placed, out) {
             return Status::WriteFault;
         }
-        if let Command::End = command {
+        if is_end(command) {
             return Status::Done;
         }
+    }
+}
+
+// Whether no command is answered after this one, which was answered and isn't needed any more.
+fn is_end(command: Command) -> bool
+    ensures { IsTrue result ↔ (command ≡ Command.End) }
+{
+    match command {
+        Command::End => true,
+        _ => false,
     }
 }
 

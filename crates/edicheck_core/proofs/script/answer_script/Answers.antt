@@ -1,4 +1,6 @@
-use Rattle.std.proofs.Common.{◌∙◌, ap, true, false, Err, arith}
+use Rattle.std.proofs.Common.{◌≡◌, ◌∙◌, ap, sym, true, false, Err, arith}
+use Rattle.std.proofs.lemmas.Bool.{false≢true}
+use Rattle.edit_script.specs.declared.command.Command.TheVariants.{End}
 use Rattle.edicheck_core.specs.Inputs.{held_of}
 use Rattle.edicheck_core.proofs.AnswerLemmas.{risen_later}
 use Rattle.edicheck_core.proofs.EndedLemmas.{left_more, left_refused, stop_caused}
@@ -36,61 +38,31 @@ returns-then-not-answer_command-clause-run g c = (
       (answered_at _ _ _ _ _ _ _ c.answer_command.result false c.commands.invariant.directory c.if-not-answer_command.true c.answer_command.ensures.answered),
 )
 
-pub returns-in-End-clause-run : goal.returns-in-End-clause-run
-returns-in-End-clause-run g c = (
+pub returns-then-is_end-clause-run : goal.returns-then-is_end-clause-run
+returns-then-is_end-clause-run g c = (
   tt,
   run_done c.args.engine.now.directory c.args.engine.now.text c.commands.engine.text c.answer_command.new.engine.text c.commands.reader c.next_command.new.self
       (g.I.Source.rest c.args.input.now) (g.I.Source.rest c.commands.input) (g.I.Source.rest c.next_command.new.input)
       (g.O.Sink.held c.args.out.now) (g.O.Sink.held c.commands.out) (g.O.Sink.held c.answer_command.new.out) c.in-Ok.command
       c.commands.invariant.progress c.in-Ok.ensures.next
       (answered_at _ _ _ _ _ _ _ c.answer_command.result true c.commands.invariant.directory c.if-not-answer_command.false c.answer_command.ensures.answered)
-      c.in-End.is,
+      (c.is_end.ensures.0 c.if-is_end.true),
 )
 
-pub commands-preserved-in_default : goal.commands-preserved-in_default
-commands-preserved-in_default g c = record {
-  directory = c.answer_command.ensures.directory ∙ c.commands.invariant.directory;
-  progress = progress_more c.args.engine.now.directory c.args.engine.now.text c.commands.engine.text c.answer_command.new.engine.text c.commands.reader c.next_command.new.self
-      (g.I.Source.rest c.args.input.now) (g.I.Source.rest c.commands.input) (g.I.Source.rest c.next_command.new.input)
-      (g.O.Sink.held c.args.out.now) (g.O.Sink.held c.commands.out) (g.O.Sink.held c.answer_command.new.out) c.in-Ok.command
-      c.commands.invariant.progress c.in-Ok.ensures.next
-      (answered_at _ _ _ _ _ _ _ c.answer_command.result true c.commands.invariant.directory c.if-not-answer_command.false c.answer_command.ensures.answered)
-      c.in_default.not-End;
-  input = omega (arith, c.commands.invariant.input, c.next_command.ensures.counted);
-  sink = omega (arith, c.commands.invariant.sink, c.answer_command.ensures.counted);
-  steady = λ steady. (c.next_command.ensures.steady (c.commands.invariant.steady steady)).1;
-  still = left_more (g.I.Source.rest c.args.input.now) (g.I.Source.rest c.commands.input) (g.I.Source.rest c.next_command.new.input) c.commands.reader c.next_command.new.self c.in-Ok.command
-      c.commands.invariant.still c.in-Ok.ensures.next c.in_default.not-End;
-}
-
-pub commands-preserved-in_default-2 : goal.commands-preserved-in_default-2
-commands-preserved-in_default-2 g c = record {
-  directory = c.answer_command.ensures.directory ∙ c.commands.invariant.directory;
-  progress = progress_more c.args.engine.now.directory c.args.engine.now.text c.commands.engine.text c.answer_command.new.engine.text c.commands.reader c.next_command.new.self
-      (g.I.Source.rest c.args.input.now) (g.I.Source.rest c.commands.input) (g.I.Source.rest c.next_command.new.input)
-      (g.O.Sink.held c.args.out.now) (g.O.Sink.held c.commands.out) (g.O.Sink.held c.answer_command.new.out) c.in-Ok.command
-      c.commands.invariant.progress c.in-Ok.ensures.next
-      (answered_at _ _ _ _ _ _ _ c.answer_command.result true c.commands.invariant.directory c.if-not-answer_command.false c.answer_command.ensures.answered)
-      c.in_default.not-End;
-  input = omega (arith, c.commands.invariant.input, c.next_command.ensures.counted);
-  sink = omega (arith, c.commands.invariant.sink, c.answer_command.ensures.counted);
-  steady = λ steady. (c.next_command.ensures.steady (c.commands.invariant.steady steady)).1;
-  still = left_more (g.I.Source.rest c.args.input.now) (g.I.Source.rest c.commands.input) (g.I.Source.rest c.next_command.new.input) c.commands.reader c.next_command.new.self c.in-Ok.command
-      c.commands.invariant.still c.in-Ok.ensures.next c.in_default.not-End;
-}
-
 pub commands-preserved : goal.commands-preserved
-commands-preserved g c = record {
-  directory = c.answer_command.ensures.directory ∙ c.commands.invariant.directory;
-  progress = progress_more c.args.engine.now.directory c.args.engine.now.text c.commands.engine.text c.answer_command.new.engine.text c.commands.reader c.next_command.new.self
-      (g.I.Source.rest c.args.input.now) (g.I.Source.rest c.commands.input) (g.I.Source.rest c.next_command.new.input)
-      (g.O.Sink.held c.args.out.now) (g.O.Sink.held c.commands.out) (g.O.Sink.held c.answer_command.new.out) c.in-Ok.command
-      c.commands.invariant.progress c.in-Ok.ensures.next
-      (answered_at _ _ _ _ _ _ _ c.answer_command.result true c.commands.invariant.directory c.if-not-answer_command.false c.answer_command.ensures.answered)
-      c.in_default.not-End;
-  input = omega (arith, c.commands.invariant.input, c.next_command.ensures.counted);
-  sink = omega (arith, c.commands.invariant.sink, c.answer_command.ensures.counted);
-  steady = λ steady. (c.next_command.ensures.steady (c.commands.invariant.steady steady)).1;
-  still = left_more (g.I.Source.rest c.args.input.now) (g.I.Source.rest c.commands.input) (g.I.Source.rest c.next_command.new.input) c.commands.reader c.next_command.new.self c.in-Ok.command
-      c.commands.invariant.still c.in-Ok.ensures.next c.in_default.not-End;
-}
+commands-preserved g c =
+    let not_end : c.in-Ok.command ≡ End → ⊥ = λ is. absurd (false≢true (sym c.if-is_end.false ∙ c.is_end.ensures.1 is)) in
+    record {
+      directory = c.answer_command.ensures.directory ∙ c.commands.invariant.directory;
+      progress = progress_more c.args.engine.now.directory c.args.engine.now.text c.commands.engine.text c.answer_command.new.engine.text c.commands.reader c.next_command.new.self
+          (g.I.Source.rest c.args.input.now) (g.I.Source.rest c.commands.input) (g.I.Source.rest c.next_command.new.input)
+          (g.O.Sink.held c.args.out.now) (g.O.Sink.held c.commands.out) (g.O.Sink.held c.answer_command.new.out) c.in-Ok.command
+          c.commands.invariant.progress c.in-Ok.ensures.next
+          (answered_at _ _ _ _ _ _ _ c.answer_command.result true c.commands.invariant.directory c.if-not-answer_command.false c.answer_command.ensures.answered)
+          not_end;
+      input = omega (arith, c.commands.invariant.input, c.next_command.ensures.counted);
+      sink = omega (arith, c.commands.invariant.sink, c.answer_command.ensures.counted);
+      steady = λ steady. (c.next_command.ensures.steady (c.commands.invariant.steady steady)).1;
+      still = left_more (g.I.Source.rest c.args.input.now) (g.I.Source.rest c.commands.input) (g.I.Source.rest c.next_command.new.input) c.commands.reader c.next_command.new.self c.in-Ok.command
+          c.commands.invariant.still c.in-Ok.ensures.next not_end;
+    }

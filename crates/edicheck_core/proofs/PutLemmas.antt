@@ -1,5 +1,5 @@
 -- Octets that are put one after the other.
-use Rattle.std.proofs.Common.{◌≡◌, ◌++◌, ◌<◌, ℕ, Bool, true, false, List, [], ◌∷◌, length, take, Option, Some, None, IfSome, decimal, refl, sym, ap, ◌∙◌, subst, arith, length-append}
+use Rattle.std.proofs.Common.{◌≡◌, ◌-◌, ◌++◌, ◌<◌, ◌≤◌, ℕ, Bool, true, false, List, [], ◌∷◌, length, take, Option, Some, None, IfSome, decimal, refl, sym, ap, ◌∙◌, subst, arith, length-append}
 use Rattle.std.proofs.lemmas.List.{append_assoc, take-append-le}
 use Rattle.std.specs.Bool.{OnTrue, OnFalse}
 use Rattle.edi_ports.specs.Sink.{IsCut}
@@ -18,6 +18,17 @@ put_after None between now head rest false put next = tt
 put_after (Some held) between now head rest true put next =
     subst (λ (o : Option (List ℕ)). IsPutOut o now rest true) put next ∙ ap Some (append_assoc held head rest)
 put_after (Some held) between now head rest false put next = cut-after (Some held) between now head rest put next
+
+-- a sink with room for two parts takes the first one, and then the next one
+pub room_both : (before between now : ℕ → Type 0) (First Next : Type 0) (head rest : List ℕ)
+    → ((n : ℕ) → before n → length head ≤ n → First × between (n - length head))
+    → ((n : ℕ) → between n → length rest ≤ n → Next × now (n - length rest))
+    → (n : ℕ) → before n → length (head ++ rest) ≤ n → Next × now (n - length (head ++ rest))
+room_both before between now First Next head rest first next n has fits =
+    let left = (first n has (omega (arith, fits, length-append head rest))).1 in
+    let last = next (n - length head) left (omega (arith, fits, length-append head rest)) in
+    let same : n - length head - length rest ≡ n - length (head ++ rest) = omega (arith, length-append head rest) in
+    (last.0, subst now same last.1)
 
 -- a function tells whether all of a part was put
 pub put_at : (before now : Option (List ℕ)) (octets : List ℕ) (whole : Bool) (told : Bool) → whole ≡ told → IsPutOut before now octets whole → IsPutOut before now octets told

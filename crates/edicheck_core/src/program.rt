@@ -95,7 +95,10 @@ pub fn run<S: Shelf, I: Source, O: Sink>(
 
 /// Tells that memory was refused, as `run` does, for words that no memory was there for.
 pub fn refuse_memory<O: Sink>(out: &mut O) -> Status
-    ensures { IsFinish memory_refused (held_of O.Sink out.old) (held_of O.Sink out.new) result }
+    ensures finish { IsFinish memory_refused
+        (held_of O.Sink out.old) (held_of O.Sink out.new) result }
+    ensures room { (n : ℕ) → O.has_room out.old n → length memory_refused.output ≤ n
+        → result ≡ Status.Memory }
 {
     finish(out, &Made::memory_refused())
 }

@@ -21,6 +21,7 @@ use Rattle.edicheck_core.specs.declared.status.Status.TheVariants.{Done, Found, 
 use Rattle.edicheck_core.specs.declared.status.Status.TheVariants as status
 use Rattle.edicheck_core.specs.Outcome.{Outcome, done, memory_refused, read_failed, too_large}
 use Rattle.edicheck_core.specs.Answer.{IsOneOf}
+use Rattle.edicheck_core.specs.Begun.{IsLoaded, IsUnloaded}
 use Rattle.contrl_writer.specs.declared.answer.Contrl.{Contrl}
 use Rattle.contrl_writer.specs.declared.answer.Contrl.TheVariants.{Octets, NoUnb, BadUnb}
 use Rattle.edicheck_core.specs.Form.{Question, Errors, Answer}
@@ -62,12 +63,26 @@ listed_long detail (Some text) now Failed Needed due is taken =
 
 -- what comes next with what was loaded, or its refusal, unless memory was refused
 pub after_loaded : (next : Parts → Outcome) (name : List ℕ) (files : Option (List ShelfFile)) (loaded : Result Parts Refusal) (Failed : Type 0) (due : Outcome)
-    → ((told : List ShelfFile) → files ≡ Some told → load_of told name ≡ loaded) → (due ≡ after_loading next loaded) ⊎ (due ≡ memory_refused)
+    → IsLoaded name files loaded → (due ≡ after_loading next loaded) ⊎ (due ≡ memory_refused)
     → IsOneOf ((loaded : Result Parts Refusal) × (due ≡ after_loading next loaded)) (option_map (λ told. after_loading next (load_of told name)) files) Failed (Unit {0}) due
 after_loaded next name None loaded Failed due loads (inl made) = inl ((loaded, made), tt)
 after_loaded next name (Some told) loaded Failed due loads (inl made) =
     inl ((loaded, made), made ∙ sym (ap (after_loading next) (loads told refl)))
 after_loaded next name files loaded Failed due loads (inr refused) = inr (inr (refused, tt))
+
+-- files that give no directory, unless memory was refused
+pub unloaded : (manifest : List ℕ) (files : Option (List ShelfFile)) (why : Refusal) (Failed : Type 0) (due : Outcome)
+    → IsLoaded manifest files (Err why) → (due ≡ refusal why) ⊎ (due ≡ memory_refused) → IsUnloaded manifest files Failed due
+unloaded manifest files why Failed due loads (inl made) = inl (why, loads, made)
+unloaded manifest files why Failed due loads (inr refused) = inr (inr refused)
+
+-- what comes in place of a directory, whatever would come next with it
+pub after_unloaded : (next : Parts → Outcome) (name : List ℕ) (files : Option (List ShelfFile)) (Failed : Type 0) (due : Outcome) → IsUnloaded name files Failed due
+    → IsOneOf ((loaded : Result Parts Refusal) × (due ≡ after_loading next loaded)) (option_map (λ told. after_loading next (load_of told name)) files) Failed (Unit {0}) due
+after_unloaded next name files Failed due (inl refused) =
+    after_loaded next name files (Err refused.0) Failed due refused.1 (inl refused.2)
+after_unloaded next name files Failed due (inr (inl failed)) = inr (inl failed)
+after_unloaded next name files Failed due (inr (inr refused)) = inr (inr (refused, tt))
 
 -- what was printed is what was due, unless memory was refused
 pub printed_or_refused : {E : Type 0} (printed : Result (List ℕ) E) (octets : List ℕ) (due : Outcome) → IfOk printed (λ lines. lines ≡ octets)

@@ -11,7 +11,7 @@ use Rattle.dir_load.specs.declared.stop.Refusal.{Refusal}
 use Rattle.dir_load.specs.Load.{load_of}
 use Rattle.edicheck_core.specs.declared.opening.Opening.{Opening}
 use Rattle.edicheck_core.specs.Answer.{IsOneOf}
-use Rattle.edicheck_core.specs.Begun.{IsText, IsUnreadText}
+use Rattle.edicheck_core.specs.Begun.{IsLoaded, IsText, IsUnloaded, IsUnreadText}
 use Rattle.edicheck_core.specs.Form.{Question}
 use Rattle.edicheck_core.specs.Made.{asked_about, told_of}
 use Rattle.edicheck_core.specs.Opening.{IsOpening, IsUnopened, Opened, opened, opened_by}
@@ -20,7 +20,7 @@ use Rattle.edicheck_core.specs.Refusal.{refusal, unread}
 
 -- a directory and a text were read
 pub opened_both : (manifest name : List ℕ) (files between : Option (List ShelfFile)) (directory : Parts) (text : List ℕ)
-    → ((told : List ShelfFile) → files ≡ Some told → load_of told manifest ≡ Ok directory) → between ≡ files → IsText name between (Ok text)
+    → IsLoaded manifest files (Ok directory) → between ≡ files → IsText name between (Ok text)
     → IsOpening manifest name files (Ok (record { directory = directory; text = text }))
 opened_both manifest name None between directory text loads same read = ((Ok directory, Ok text, refl), tt)
 opened_both manifest name (Some told) between directory text loads same read =
@@ -30,7 +30,7 @@ opened_both manifest name (Some told) between directory text loads same read =
 
 -- a directory was read, and no text
 pub opened_no_text : (manifest name : List ℕ) (files between : Option (List ShelfFile)) (directory : Parts) (Failed Later : Type 0) (due : Outcome)
-    → ((told : List ShelfFile) → files ≡ Some told → load_of told manifest ≡ Ok directory) → between ≡ files → (Later → Failed) → IsUnreadText name between Later due
+    → IsLoaded manifest files (Ok directory) → between ≡ files → (Later → Failed) → IsUnreadText name between Later due
     → IsUnopened manifest name files Failed due
 opened_no_text manifest name None between directory Failed Later due loads same later (inl why) =
     inl ((Ok directory, Err why.0, ap Err why.2), tt)
@@ -46,7 +46,7 @@ opened_no_text manifest name files between directory Failed Later due loads same
 
 -- a directory was read, and what came next is known
 pub opening_met : (manifest name : List ℕ) (files between : Option (List ShelfFile)) (directory : Parts) (Failed Later : Type 0) (result : Result Opening Outcome)
-    → ((told : List ShelfFile) → files ≡ Some told → load_of told manifest ≡ Ok directory) → between ≡ files → (Later → Failed)
+    → IsLoaded manifest files (Ok directory) → between ≡ files → (Later → Failed)
     → IfOk result (λ opening. opening.directory ≡ directory)
     → MatchResult result (λ opening. IsText name between (Ok opening.text.items)) (λ due. IsUnreadText name between Later due)
     → MatchResult result (λ opening. IsOpening manifest name files (Ok (record { directory = opening.directory; text = opening.text.items })))
@@ -58,16 +58,16 @@ opening_met manifest name files between directory Failed Later (Err due) loads s
     opened_no_text manifest name files between directory Failed Later due loads same later unread
 
 -- no directory was read
-pub opened_no_directory : (manifest name : List ℕ) (files : Option (List ShelfFile)) (why : Refusal) (Failed : Type 0) (due : Outcome)
-    → ((told : List ShelfFile) → files ≡ Some told → load_of told manifest ≡ Err why) → (due ≡ refusal why) ⊎ (due ≡ memory_refused)
-    → IsUnopened manifest name files Failed due
-opened_no_directory manifest name None why Failed due loads (inl made) = inl ((Err why, Err Absent, ap Err made), tt)
-opened_no_directory manifest name (Some told) why Failed due loads (inl made) =
+pub opened_no_directory : (manifest name : List ℕ) (files : Option (List ShelfFile)) (Failed : Type 0) (due : Outcome)
+    → IsUnloaded manifest files Failed due → IsUnopened manifest name files Failed due
+opened_no_directory manifest name None Failed due (inl refused) =
+    inl ((Err refused.0, Err Absent, ap Err refused.2), tt)
+opened_no_directory manifest name (Some told) Failed due (inl refused) =
     inl (
-      (Err why, Err Absent, ap Err made),
-      ap Err made ∙ sym (ap (λ l. opened name l (octets_named 4194304 told name)) (loads told refl)),
+      (Err refused.0, Err Absent, ap Err refused.2),
+      ap Err refused.2 ∙ sym (ap (λ l. opened name l (octets_named 4194304 told name)) (refused.1 told refl)),
     )
-opened_no_directory manifest name files why Failed due loads (inr refused) = inr (inr refused)
+opened_no_directory manifest name files Failed due (inr why) = inr why
 
 -- what a question comes to with what was begun with
 abbrev pub told_after : Question → Result Opened Outcome → Outcome

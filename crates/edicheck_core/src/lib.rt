@@ -2,7 +2,7 @@
 #![tactic(auto)]
 
 mod about;
-mod compile;
+mod directory;
 mod drill;
 mod edit;
 mod finish;
@@ -16,7 +16,6 @@ mod refusal;
 mod reply;
 mod script;
 mod status;
-mod tables;
 mod text;
 
 pub use form::{Form, Question, read_form};

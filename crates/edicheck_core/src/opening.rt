@@ -5,11 +5,11 @@ ghost use Rattle.edicheck_core.specs.Begun.{IsText, IsUnreadText};
 ghost use Rattle.edicheck_core.specs.Opening.{IsOpening, IsUnopened};
 
 use crate::Status;
+use crate::directory::load_directory;
 use crate::outcome::Made;
-use crate::refusal::{refuse, refuse_unread};
+use crate::refusal::refuse_unread;
 use crate::text::LONGEST_TEXT;
 use dir_compile::Directory;
-use dir_load::{LoadStop, load};
 use edi_ports::{NamedStop, Shelf, read_named};
 use std::alloc::Global;
 
@@ -36,11 +36,9 @@ pub fn open_both<S: Shelf>(
     ensures files { S.files shelf.new ≡ S.files shelf.old }
     ensures steady { S.is_steady shelf.old → IfErr result (λ due. due.status ≢ Status.ReadFault) }
 {
-    match load(alloc, shelf, manifest) {
+    match load_directory(alloc, manifest, shelf) {
         Ok(directory) => open_text(alloc, directory, text, shelf),
-        Err(LoadStop::Refused(why)) => Err(refuse(alloc, &why)),
-        Err(LoadStop::Fault) => Err(Made::read_failed()),
-        Err(LoadStop::Memory) => Err(Made::memory_refused()),
+        Err(unloaded) => Err(unloaded),
     }
 }
 

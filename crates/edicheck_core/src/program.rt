@@ -12,13 +12,12 @@ ghost use Rattle.edicheck_core.specs.Made.{made_by};
 ghost use Rattle.edicheck_core.specs.Opening.{IsToldOpening, Opened};
 
 use crate::about::tell_about;
-use crate::compile::tell_store;
+use crate::directory::{tell_store, tell_tables};
 use crate::drill::tell_drill;
 use crate::edit::edit_text;
 use crate::finish::finish;
 use crate::help::{HELP, VERSION};
 use crate::outcome::Made;
-use crate::tables::tell_tables;
 use crate::text::list_text;
 use crate::{Form, Status, read_form};
 use edi_ports::{Shelf, Sink, Source};

@@ -1,8 +1,8 @@
-use Rattle.std.proofs.Common.{Ok, Err}
+use Rattle.std.proofs.Common.{Ok}
 use Rattle.dir_store.specs.Spelling.{store_text}
 use Rattle.edicheck_core.specs.Outcome.{done}
-use Rattle.edicheck_core.proofs.AnswerLemmas.{after_loaded, printed-steady, printed_or_refused}
-use Rattle.edicheck_core.proofs.compile.tell_store.Goals as goal
+use Rattle.edicheck_core.proofs.AnswerLemmas.{after_loaded, after_unloaded, printed-steady, printed_or_refused}
+use Rattle.edicheck_core.proofs.directory.tell_store.Goals as goal
 
 pub returns-in-Ok-clause-due : goal.returns-in-Ok-clause-due
 returns-in-Ok-clause-due g c =
@@ -12,7 +12,6 @@ returns-in-Ok-clause-due g c =
 pub returns-in-Ok-clause-steady : goal.returns-in-Ok-clause-steady
 returns-in-Ok-clause-steady g c = λ steady. printed-steady c.write_store.result c.lines.result c.lines.ensures
 
-pub returns-in-Err-Refused-clause-due : goal.returns-in-Err-Refused-clause-due
-returns-in-Err-Refused-clause-due g c =
-    after_loaded (λ directory. done (store_text directory)) c.args.manifest.now (g.S.Shelf.files c.args.shelf.now) (Err c.in-Err-Refused.why) _ c.refuse.result
-    (rw c.in-Err-Refused.field-0-is at c.in-Err-Refused.ensures.loads) c.refuse.ensures
+pub returns-in-Err-clause-due : goal.returns-in-Err-clause-due
+returns-in-Err-clause-due g c =
+    after_unloaded (λ directory. done (store_text directory)) c.args.manifest.now (g.S.Shelf.files c.args.shelf.now) _ c.in-Err.made c.in-Err.ensures.loads

@@ -2,6 +2,7 @@
 use Rattle.std.proofs.Common.{◌≡◌, ℕ, Bool, true, false, not, ◌==◌, ◌&&◌, ◌||◌, ◌≤◌, nat_le, nat_lt, if◌then◌else◌, Option, Some, None, is_some, Ok, List, [], ◌∷◌, ◌++◌, length, map, refl, sym, ap, ◌∙◌, arith, le-leb, ⊎_elim}
 use borrow.Author.Tests.{ltb-false}
 use Rattle.std.specs.List.{list_all, flat_map}
+use Rattle.std.specs.Option.{option_or}
 use Rattle.std.proofs.lemmas.Bool.{cases_Bool, and_parts, eqb-false}
 use Rattle.std.proofs.lemmas.List.Elements.{All-map}
 use Rattle.std.proofs.lemmas.List.Sums.{list_all-from_AllPass}
@@ -28,6 +29,7 @@ use Rattle.dir_segments.specs.Parts.{fields_behind, position_of, last_of, has_po
 use Rattle.dir_segments.specs.Composites.{part_lines, parts_faults, parts_in, composite_faults, composite_of, composites_in}
 use Rattle.dir_segments.specs.Segments.{Item, place_of, items_of, items_in, item_in, item_of, alone_item, composite_item, line_faults, detail_faults, item_end_faults, repeated_parts, item_faults, items_faults, segment_faults, segment_of, segments_in}
 use Rattle.dir_segments.proofs.FieldLemmas.{is_composite_form-element}
+use Rattle.dir_segments.proofs.StopLemmas.{none_listed}
 
 -- ---- parts
 
@@ -43,22 +45,19 @@ part_in-formed fields =
     (λ (none : is_element_form fields ≡ false). rw none refl)
     (cases_Bool (is_element_form fields))
 
--- nothing is wrong where no fault is listed
-none_listed : (line : Line) (fault : Option DirKind) → fault_list line fault ≡ [] → fault ≡ None
-none_listed line None none = refl
-none_listed line (Some kind) none = cc
+-- the rules on a composite's fields, and on a data element's
+composite_rules : Bool → Option Bool → Option DirKind
+composite_rules greater status = if not greater then Some BadPosition else (if not (is_some status) then Some BadStatus else None)
 
--- the rules on a data element's fields
 element_rules : Bool → Option Bool → Option Repr → Option DirKind
-element_rules greater status repr =
-    if not greater then Some BadPosition else (if not (is_some status) then Some BadStatus else (if not (is_some repr) then Some BadRepr else None))
+element_rules greater status repr = option_or (composite_rules greater status) (if not (is_some repr) then Some BadRepr else None)
 
 element_fault-rules : (before : Option ℕ) (line : Line) → element_fault before line ≡ element_rules (is_greater before (position_of line)) (element_status (fields_behind line)) (element_repr (fields_behind line))
-unfolding element_rules
+unfolding element_rules composite_rules
 element_fault-rules before line = refl
 
 made-element : (greater : Bool) (status : Option Bool) (repr : Option Repr) (code : Code) → element_rules greater status repr ≡ None → is_some (part_with code status repr) ≡ true
-unfolding element_rules
+unfolding element_rules composite_rules
 made-element true (Some must) (Some repr) code none = refl
 made-element true (Some must) None code none = cc
 made-element true None repr code none = cc
@@ -145,10 +144,6 @@ item_in-formed fields =
 alone_item-made : (part : Option PartDef) → is_some part ≡ true → is_some (alone_item part) ≡ true
 alone_item-made None is = cc
 alone_item-made (Some part) is = refl
-
--- the rules on a composite's fields
-composite_rules : Bool → Option Bool → Option DirKind
-composite_rules greater status = if not greater then Some BadPosition else (if not (is_some status) then Some BadStatus else None)
 
 composite_fault-rules : (before : Option ℕ) (line : Line) → composite_fault before line ≡ composite_rules (is_greater before (position_of line)) (composite_status (fields_behind line))
 unfolding composite_rules

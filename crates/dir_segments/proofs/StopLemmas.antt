@@ -1,12 +1,15 @@
 -- What an answer says of the faults that it was judged by.
-use Rattle.std.proofs.Common.{◌≡◌, ℕ, List, [], ◌∷◌, ◌++◌, Ok, Err, Some, refl, ap, ◌∙◌, sym, append-nil}
+use Rattle.std.proofs.Common.{◌≡◌, ℕ, List, [], ◌∷◌, ◌++◌, Ok, Err, Some, None, refl, ap, ◌∙◌, sym, append-nil}
 use Rattle.std.specs.Prelude.{Option}
+use Rattle.std.specs.Option.{option_or}
 use Rattle.edi_octets.specs.declared.fault.DirFault.{DirFault}
 use Rattle.edi_octets.specs.declared.fault.DirStop.{DirStop}
 use Rattle.edi_octets.specs.declared.fault.DirStop.TheVariants.{Fault, Memory}
 use Rattle.edi_tables.specs.First.{Answers, unless_faulty}
 use Rattle.edi_octets.specs.DirStop.{fault_in}
-use Rattle.dir_segments.specs.Parts.{GivesPlaced, Passes}
+use Rattle.edi_octets.specs.declared.fault.DirKind.{DirKind}
+use Rattle.edi_octets.specs.Lines.{Line}
+use Rattle.dir_segments.specs.Parts.{GivesPlaced, Passes, fault_list}
 
 module _ {X Y : Type 0} (view : X → Y) where
   -- a value is answered where there is no fault
@@ -33,6 +36,20 @@ module _ {X Y : Type 0} (view : X → Y) where
     pub stops_same : (stop : DirStop) (faults all : List DirFault) (v : Y) (w : Y') → all ≡ faults → Answers view fault_in (Err stop) (unless_faulty faults v) → Answers outer fault_in (Err stop) (unless_faulty all w)
     stops_same stop faults all v w is given =
         stops stop [] faults [] all v w refl (is ∙ sym (append-nil faults)) given
+
+    -- what stops at one rule is the fault of several, where that rule comes first
+    pub stops_first : (stop : DirStop) (line : Line) (rule others : Option DirKind) (v : Y) (w : Y') → Answers view fault_in (Err stop) (unless_faulty (fault_list line rule) v) → Answers outer fault_in (Err stop) (unless_faulty (fault_list line (option_or rule others)) w)
+    stops_first Memory line rule others v w given = tt
+    stops_first (Fault fault) line None others v w given = cc
+    stops_first (Fault fault) line (Some kind) others v w given =
+        let first : DirFault = record { line = line.number; kind = kind } in
+        let same : first ≡ fault = cc in
+        rw same refl
+
+-- the kind of a list of at most one fault
+pub none_listed : (line : Line) (fault : Option DirKind) → fault_list line fault ≡ [] → fault ≡ None
+none_listed line None none = refl
+none_listed line (Some kind) none = cc
 
 -- what was read of a line
 module _ {A : Type 0} where

@@ -1,5 +1,6 @@
 -- The lines of parts and items, in composite and segment files.
 use Rattle.std.specs.Prelude.{◌≡◌, ◌-◌, ℕ, Bool, true, not, ◌==◌, ◌&&◌, ◌||◌, nat_le, nat_lt, List, [], ◌∷◌, length, drop, reverse, slice_get, Option, Some, None, is_some, Result, if◌then◌else◌}
+use Rattle.std.specs.Option.{option_or}
 use Rattle.std.specs.Str.Parse.{digits_value}
 use Rattle.edi_tables.specs.declared.element.Code.{Code}
 use Rattle.edi_tables.specs.declared.element.Repr.{Repr}
@@ -70,18 +71,25 @@ part_with code None repr = None
 
 abbrev pub part_in : List (List ℕ) → Option PartDef
 part_in fields =
-    if is_element_form fields then part_with (record { octets = first_field fields }) (element_status fields) (element_repr fields) else None
+    if is_element_form fields
+    then part_with (record { octets = first_field fields }) (element_status fields) (element_repr fields)
+    else None
 
--- what a data element's line breaks, behind the position before it
+-- what a line with this status breaks by its position, after the position before it, and by its status
+abbrev pub status_fault : Option ℕ → Line → Option Bool → Option DirKind
+status_fault before line status =
+    if not (is_greater before (position_of line)) then Some BadPosition
+    else (if not (is_some status) then Some BadStatus else None)
+
+-- what a data element's line breaks, after the position before it
 abbrev pub element_fault : Option ℕ → Line → Option DirKind
 element_fault before line =
-    if not (is_greater before (position_of line)) then Some BadPosition
-    else (if not (is_some (element_status (fields_behind line))) then Some BadStatus else (if not (is_some (element_repr (fields_behind line))) then Some BadRepr else None))
+    option_or (status_fault before line (element_status (fields_behind line)))
+    (if not (is_some (element_repr (fields_behind line))) then Some BadRepr else None)
 
--- what a composite's line breaks, behind the position before it
+-- what a composite's line breaks, after the position before it
 abbrev pub composite_fault : Option ℕ → Line → Option DirKind
-composite_fault before line =
-    if not (is_greater before (position_of line)) then Some BadPosition else (if not (is_some (composite_status (fields_behind line))) then Some BadStatus else None)
+composite_fault before line = status_fault before line (composite_status (fields_behind line))
 
 -- an entry has 1 to 99 parts or items; this is judged where it ends
 abbrev pub count_faults : Line → ℕ → List DirFault
@@ -95,7 +103,9 @@ fault_list line (Some kind) = record { line = line.number; kind = kind } ∷ []
 -- a part line behind the position before: a position, an element code, a name, a status and a representation
 abbrev pub part_faults : Option ℕ → Line → List DirFault
 part_faults before line =
-    fault_list line (if not (has_position line && is_element_form (fields_behind line)) then Some BadLine else element_fault before line)
+    fault_list line
+    (if not (has_position line && is_element_form (fields_behind line)) then Some BadLine
+    else element_fault before line)
 
 -- what was read of a data element's fields: the code, and the status and the representation where they are good
 pub record IsElement (element : ElementFields) (fields : List (List ℕ)) : Type 0 where
@@ -108,10 +118,12 @@ pub record IsComposite (composite : CompositeFields) (fields : List (List ℕ)) 
   pub code : composite.code.octets ≡ first_field fields
   pub must : composite.must ≡ composite_status fields
 
--- what was read of a line: its position and what it defines where no rule is broken, else the first fault, unless memory ran out
+-- what was read of a line: its position and what it defines where no rule is broken, else the first fault, unless
+-- memory ran out
 abbrev pub GivesPlaced : {A : Type 0} → Result (ℕ × A) DirStop → List DirFault → ℕ → Option A → Type 0
 GivesPlaced {A} result faults position found =
-    Answers {Y = ℕ × Option A} (λ p. (p.0, Some p.1)) fault_in result (unless_faulty {A = ℕ × Option A} faults (position, found))
+    Answers {Y = ℕ × Option A} (λ p. (p.0, Some p.1)) fault_in result
+    (unless_faulty {A = ℕ × Option A} faults (position, found))
 
 -- what was answered: nothing where no rule is broken, else the first fault, unless memory ran out
 abbrev pub Passes : {A : Type 0} → Result A DirStop → List DirFault → Type 0

@@ -46,7 +46,8 @@ line_faults before line =
     let fields = fields_behind line in
     fault_list line
     (if not (has_position line) then Some BadLine
-    else (if is_element_form fields then element_fault before line else (if is_composite_form fields then composite_fault before line else Some BadLine)))
+    else (if is_element_form fields then element_fault before line
+    else (if is_composite_form fields then composite_fault before line else Some BadLine)))
 
 -- a part line: a detail line whose first field is an element code; other detail lines are text
 abbrev pub is_part_line : Line → Bool
@@ -82,7 +83,8 @@ is_same_bool false b = not b
 -- two parts with the same code, status and representation
 abbrev pub is_same_part : PartDef → PartDef → Bool
 is_same_part p q =
-    bytes_eq p.code.octets q.code.octets && is_same_bool p.must q.must && is_same_class p.repr.class q.repr.class && is_same_bool p.repr.exact q.repr.exact && p.repr.max == q.repr.max
+    bytes_eq p.code.octets q.code.octets && is_same_bool p.must q.must && is_same_class p.repr.class q.repr.class
+    && is_same_bool p.repr.exact q.repr.exact && p.repr.max == q.repr.max
 
 -- the first known composite of that code, if there is one
 abbrev pub known_composite : List CompositeDef → List ℕ → Option CompositeDef
@@ -101,12 +103,15 @@ differs parts (Some composite) = is_filled parts && not (pointwise is_same_part 
 abbrev pub item_end_faults : List CompositeDef → Line → List PartDef → List DirFault
 item_end_faults known line parts =
     let fields = fields_behind line in
-    if is_composite_form fields && differs parts (known_composite known (first_field fields)) then at_line PartsDiffer line ∷ [] else []
+    if is_composite_form fields && differs parts (known_composite known (first_field fields))
+    then at_line PartsDiffer line ∷ [] else []
 
 -- an item behind the position before: its line, its detail lines in order, its end
 abbrev pub item_faults : List CompositeDef → Option ℕ → Item → List DirFault
 item_faults known before item =
-    line_faults before item.line ++ (flat_map (detail_faults (is_composite_form (fields_behind item.line))) item.details ++ item_end_faults known item.line (repeated_parts item.details))
+    line_faults before item.line
+    ++ (flat_map (detail_faults (is_composite_form (fields_behind item.line))) item.details
+    ++ item_end_faults known item.line (repeated_parts item.details))
 
 -- the position of an item
 abbrev pub place_of : Item → ℕ

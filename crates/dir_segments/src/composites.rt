@@ -23,7 +23,8 @@ use std::alloc::Global;
 /// `bad-repr` at a part line, `bad-line` at the head of an entry with no part or more than 99.
 pub fn read_composites(alloc: Global, file: &[u8]) -> Result<Vec<CompositeDef>, DirStop>
     requires { length file.now ≤ 4194304 }
-    ensures answers { Answers (λ found. found.items) fault_in result (composites.composites_in file.now) }
+    ensures answers { Answers (λ found. found.items) fault_in result
+        (composites.composites_in file.now) }
     ensures forms { IfOk result (λ found. list_all is_composite_formed found.items ≡ true) }
 {
     let mut found = Vec::new(alloc);
@@ -43,7 +44,8 @@ fn read_entry<'a>(
 ) -> Result<CompositeDef, DirStop>
     ensures judged { (earlier : List (List Line)) → seen.old ≡ map head_field earlier
         → Answers (λ composite. composite) fault_in result
-        (unless_faulty (composites.composite_faults earlier (entry_shown entry.now)) (composites.composite_of (entry_shown entry.now))) }
+        (unless_faulty (composites.composite_faults earlier (entry_shown entry.now))
+        (composites.composite_of (entry_shown entry.now))) }
     ensures joins { OnOk result (seen.new ≡ seen.old ++ head_field (entry_shown entry.now) ∷ []) }
 {
     let code = read_code_head(&entry.head, seen)?;
@@ -58,7 +60,9 @@ fn read_entry<'a>(
 fn read_parts(alloc: Global, entry: &Entry<'_>) -> Result<Vec<PartDef>, DirStop>
     ensures { let body = body_left entry.now.body in
         Answers (λ parts. parts.items) fault_in result
-        (unless_faulty (composites.parts_faults body ++ count_faults (line_shown entry.now.head) (length (composites.part_lines body))) (composites.parts_in body)) }
+        (unless_faulty (composites.parts_faults body
+        ++ count_faults (line_shown entry.now.head) (length (composites.part_lines body)))
+        (composites.parts_in body)) }
 {
     let mut parts = Vec::new(alloc);
     let mut before = None;

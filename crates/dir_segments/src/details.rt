@@ -23,7 +23,8 @@ pub(crate) fn read_details(
 ) -> Result<Vec<PartDef>, DirStop>
     ensures { let details = segments.details_of (body_left behind.entry) in
         Answers (λ parts. parts.items) fault_in result
-        (unless_faulty (flat_map (segments.detail_faults below_composite) details) (segments.repeated_parts details)) }
+        (unless_faulty (flat_map (segments.detail_faults below_composite) details)
+        (segments.repeated_parts details)) }
 {
     let mut parts = Vec::new(alloc);
     for line in behind {
@@ -41,7 +42,8 @@ pub(crate) fn read_details(
 
 /// Whether an item is a composite.
 pub(crate) fn is_composite_item(item: &ItemDef) -> bool
-    ensures { (fields : List (List ℕ)) → segments.item_in fields ≡ Some item.now → result ≡ is_composite_form fields }
+    ensures { (fields : List (List ℕ)) → segments.item_in fields ≡ Some item.now
+        → result ≡ is_composite_form fields }
 {
     matches!(item, ItemDef::Composite { .. })
 }
@@ -54,7 +56,8 @@ pub(crate) fn judge_end(
     parts: &[PartDef],
 ) -> Result<(), DirStop>
     requires { segments.item_in (fields_behind (line_shown line.now)) ≡ Some item.now }
-    ensures { Passes result (segments.item_end_faults known.now.composites.now (line_shown line.now) parts.now) }
+    ensures { Passes result
+        (segments.item_end_faults known.now.composites.now (line_shown line.now) parts.now) }
 {
     let ItemDef::Composite { code, .. } = item else {
         return Ok(());
@@ -88,7 +91,8 @@ fn is_part_line(line: &LineText<'_>) -> bool
 fn read_repeated(below_composite: bool, line: &LineText<'_>) -> Result<PartDef, DirStop>
     requires { IsTrue (segments.is_part_line (line_shown line.now)) }
     ensures { Answers (λ part. Some part) fault_in result
-        (unless_faulty (segments.detail_faults below_composite (line_shown line.now)) (part_in (fields_of line.now.octets.now))) }
+        (unless_faulty (segments.detail_faults below_composite (line_shown line.now))
+        (part_in (fields_of line.now.octets.now))) }
 {
     match read_whole_element(line) {
         Some(part) if below_composite => Ok(part),

@@ -34,7 +34,8 @@ pub(crate) fn is_item_line(line: &LineText<'_>) -> bool
 
 /// The position of a line: its first field, where that is three digits.
 pub(crate) fn read_position(line: &LineText<'_>) -> Option<u64>
-    ensures { result ≡ (if parts.has_position (line_shown line.now) then Some (parts.position_of (line_shown line.now)) else None) }
+    ensures { let shown = line_shown line.now in
+        result ≡ (if parts.has_position shown then Some (parts.position_of shown) else None) }
 {
     let field = line.first_field();
     if field.len() != 3 {
@@ -55,7 +56,8 @@ pub(crate) fn fields_behind<'a>(line: &LineText<'a>) -> Cells<'a>
 /// The data element that fields stand for: a code, a name, a status and a representation.
 pub(crate) fn read_element(fields: Cells<'_>) -> Option<ElementFields>
     ensures { MatchOption result (parts.is_element_form (cells_left fields.entry) ≡ false)
-        (λ element. (parts.is_element_form (cells_left fields.entry) ≡ true) × parts.IsElement element (cells_left fields.entry)) }
+        (λ element. (parts.is_element_form (cells_left fields.entry) ≡ true)
+        × parts.IsElement element (cells_left fields.entry)) }
 {
     let first = first_of(fields);
     if !is_element_code(first) || !has_fourth(fields) {
@@ -73,7 +75,8 @@ pub(crate) fn read_element(fields: Cells<'_>) -> Option<ElementFields>
 /// The composite that fields stand for: a code, a name and a status.
 pub(crate) fn read_composite(fields: Cells<'_>) -> Option<CompositeFields>
     ensures { MatchOption result (parts.is_composite_form (cells_left fields.entry) ≡ false)
-        (λ composite. (parts.is_composite_form (cells_left fields.entry) ≡ true) × parts.IsComposite composite (cells_left fields.entry)) }
+        (λ composite. (parts.is_composite_form (cells_left fields.entry) ≡ true)
+        × parts.IsComposite composite (cells_left fields.entry)) }
 {
     let first = first_of(fields);
     if !is_composite_code(first) || !has_third(fields) {

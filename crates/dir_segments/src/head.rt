@@ -14,9 +14,11 @@ use edi_tables::{Code, Tag};
 /// Reads the head of a composite's entry after others, whose codes are seen: its code and a name.
 pub(crate) fn read_code_head<'a>(head: &LineText<'a>, seen: &mut Seen<'a>) -> Result<Code, DirStop>
     ensures judged { (earlier : List (List Line)) → seen.old ≡ map head_field earlier
-        → Answers (λ code. code) fault_in result (unless_faulty (head_faults is_composite_code earlier (line_shown head.now))
+        → Answers (λ code. code) fault_in result
+        (unless_faulty (head_faults is_composite_code earlier (line_shown head.now))
         (record { octets = head_field (line_shown head.now ∷ []) })) }
-    ensures joins { OnOk result (seen.new ≡ seen.old ++ head_field (line_shown head.now ∷ []) ∷ []) }
+    ensures joins { OnOk result
+        (seen.new ≡ seen.old ++ head_field (line_shown head.now ∷ []) ∷ []) }
 {
     seen.read_head(head, read_composite_code(head.first_field()))
 }
@@ -24,9 +26,11 @@ pub(crate) fn read_code_head<'a>(head: &LineText<'a>, seen: &mut Seen<'a>) -> Re
 /// Reads the head of a segment's entry after others, whose tags are seen: its tag and a name.
 pub(crate) fn read_tag_head<'a>(head: &LineText<'a>, seen: &mut Seen<'a>) -> Result<Tag, DirStop>
     ensures judged { (earlier : List (List Line)) → seen.old ≡ map head_field earlier
-        → Answers (λ tag. tag) fault_in result (unless_faulty (head_faults is_tag_of earlier (line_shown head.now))
+        → Answers (λ tag. tag) fault_in result
+        (unless_faulty (head_faults is_tag_of earlier (line_shown head.now))
         (record { octets = head_field (line_shown head.now ∷ []) })) }
-    ensures joins { OnOk result (seen.new ≡ seen.old ++ head_field (line_shown head.now ∷ []) ∷ []) }
+    ensures joins { OnOk result
+        (seen.new ≡ seen.old ++ head_field (line_shown head.now ∷ []) ∷ []) }
 {
     seen.read_head(head, Tag::read(head.first_field()))
 }

@@ -52,7 +52,8 @@ fn note_place(
     place: usize,
 ) -> Result<(), AllocError>
     ensures { OnOk result ((other : List ℕ) → get bytes_eq places.new other
-        ≡ option_or (get bytes_eq places.old other) (if bytes_eq code.now.octets other then Some place else None)) }
+        ≡ option_or (get bytes_eq places.old other)
+        (if bytes_eq code.now.octets other then Some place else None)) }
 {
     if !places.contains_key(&code.octets) {
         places.insert(code.octets, place)?;

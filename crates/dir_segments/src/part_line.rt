@@ -16,7 +16,8 @@ use edi_tables::{ItemDef, PartDef};
 /// Reads a part line after the position before: its position and its part.
 pub(crate) fn read_part(before: Option<u64>, line: &LineText<'_>) -> Result<(u64, PartDef), DirStop>
     ensures { let shown = line_shown line.now in
-        parts.GivesPlaced result (parts.part_faults before shown) (parts.position_of shown) (parts.part_in (parts.fields_behind shown)) }
+        parts.GivesPlaced result (parts.part_faults before shown)
+        (parts.position_of shown) (parts.part_in (parts.fields_behind shown)) }
 {
     let Some(position) = read_position(line) else {
         return Err(line.breaks(DirKind::BadLine));
@@ -31,7 +32,8 @@ pub(crate) fn read_part(before: Option<u64>, line: &LineText<'_>) -> Result<(u64
 /// Reads an item line after the position before: its position and its item.
 pub(crate) fn read_item(before: Option<u64>, line: &LineText<'_>) -> Result<(u64, ItemDef), DirStop>
     ensures { let shown = line_shown line.now in
-        parts.GivesPlaced result (segments.line_faults before shown) (parts.position_of shown) (segments.item_in (parts.fields_behind shown)) }
+        parts.GivesPlaced result (segments.line_faults before shown)
+        (parts.position_of shown) (segments.item_in (parts.fields_behind shown)) }
 {
     let Some(position) = read_position(line) else {
         return Err(line.breaks(DirKind::BadLine));
@@ -60,14 +62,10 @@ fn judge_element(
     requires element { parts.IsElement element.now (parts.fields_behind (line_shown line.now)) }
     ensures { let shown = line_shown line.now in
         Answers (λ part. Some part) fault_in result
-        (unless_faulty (parts.fault_list shown (parts.element_fault before shown)) (parts.part_in (parts.fields_behind shown))) }
+        (unless_faulty (parts.fault_list shown (parts.element_fault before shown))
+        (parts.part_in (parts.fields_behind shown))) }
 {
-    if !is_greater(before, position) {
-        return Err(line.breaks(DirKind::BadPosition));
-    }
-    let Some(must) = element.must else {
-        return Err(line.breaks(DirKind::BadStatus));
-    };
+    let must = judge_status(before, position, line, element.must)?;
     let Some(repr) = element.repr else {
         return Err(line.breaks(DirKind::BadRepr));
     };
@@ -90,18 +88,35 @@ fn judge_composite(
     requires composite { parts.IsComposite composite.now (parts.fields_behind (line_shown line.now)) }
     ensures { let shown = line_shown line.now in
         Answers (λ item. Some item) fault_in result
-        (unless_faulty (parts.fault_list shown (parts.composite_fault before shown)) (segments.item_in (parts.fields_behind shown))) }
+        (unless_faulty (parts.fault_list shown (parts.composite_fault before shown))
+        (segments.item_in (parts.fields_behind shown))) }
 {
-    if !is_greater(before, position) {
-        return Err(line.breaks(DirKind::BadPosition));
-    }
-    let Some(must) = composite.must else {
-        return Err(line.breaks(DirKind::BadStatus));
-    };
+    let must = judge_status(before, position, line, composite.must)?;
     Ok(ItemDef::Composite {
         code: composite.code,
         must,
     })
+}
+
+/// Judges the position and the status of a line, where it is good: the status.
+fn judge_status(
+    before: Option<u64>,
+    position: u64,
+    line: &LineText<'_>,
+    status: Option<bool>,
+) -> Result<bool, DirStop>
+    requires { position ≡ parts.position_of (line_shown line.now) }
+    ensures { let shown = line_shown line.now in
+        Answers (λ must. Some must) fault_in result
+        (unless_faulty (parts.fault_list shown (parts.status_fault before shown status)) status) }
+{
+    if !is_greater(before, position) {
+        return Err(line.breaks(DirKind::BadPosition));
+    }
+    match status {
+        Some(must) => Ok(must),
+        None => Err(line.breaks(DirKind::BadStatus)),
+    }
 }
 
 /// Judges how many parts or items an entry with this head has: 1 to 99.

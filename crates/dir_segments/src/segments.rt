@@ -30,7 +30,8 @@ pub fn read_segments(
     known: &[CompositeDef],
 ) -> Result<Vec<SegmentDef>, DirStop>
     requires { length file.now ≤ 4194304 }
-    ensures answers { Answers (λ found. found.items) fault_in result (segments.segments_in known.now file.now) }
+    ensures answers { Answers (λ found. found.items) fault_in result
+        (segments.segments_in known.now file.now) }
     ensures forms { IfOk result (λ found. list_all is_segment_formed found.items ≡ true) }
 {
     let composites = KnownComposites::new(alloc, known)?;
@@ -52,7 +53,9 @@ fn read_entry<'a>(
 ) -> Result<SegmentDef, DirStop>
     ensures judged { (earlier : List (List Line)) → seen.old ≡ map head_field earlier
         → Answers (λ segment. segment) fault_in result
-        (unless_faulty (segments.segment_faults known.now.composites.now earlier (entry_shown entry.now)) (segments.segment_of (entry_shown entry.now))) }
+        (unless_faulty
+        (segments.segment_faults known.now.composites.now earlier (entry_shown entry.now))
+        (segments.segment_of (entry_shown entry.now))) }
     ensures joins { OnOk result (seen.new ≡ seen.old ++ head_field (entry_shown entry.now) ∷ []) }
 {
     let tag = read_tag_head(&entry.head, seen)?;
@@ -71,7 +74,9 @@ fn read_items(
 ) -> Result<Vec<ItemDef>, DirStop>
     ensures { let body = body_left entry.now.body in
         Answers (λ items. items.items) fault_in result
-        (unless_faulty (segments.items_faults known.now.composites.now body ++ parts.count_faults (line_shown entry.now.head) (length (segments.items_of body))) (segments.items_in body)) }
+        (unless_faulty (segments.items_faults known.now.composites.now body
+        ++ parts.count_faults (line_shown entry.now.head) (length (segments.items_of body)))
+        (segments.items_in body)) }
 {
     let mut items = Vec::new(alloc);
     let mut before = None;

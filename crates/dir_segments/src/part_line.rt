@@ -85,7 +85,8 @@ fn judge_composite(
 ) -> Result<ItemDef, DirStop>
     requires position { position ≡ parts.position_of (line_shown line.now) }
     requires form { IsTrue (parts.is_composite_form (parts.fields_behind (line_shown line.now))) }
-    requires composite { parts.IsComposite composite.now (parts.fields_behind (line_shown line.now)) }
+    requires composite { parts.IsComposite composite.now
+        (parts.fields_behind (line_shown line.now)) }
     ensures { let shown = line_shown line.now in
         Answers (λ item. Some item) fault_in result
         (unless_faulty (parts.fault_list shown (parts.composite_fault before shown))

@@ -35,7 +35,8 @@ interchange_party p = p.id ∷ p.qualifier ∷ p.route ∷ []
 abbrev pub group_party : Party → Element
 group_party p = p.id ∷ p.qualifier ∷ []
 
--- UNB: the level and version of the text that is answered, its recipient as sender, its sender as recipient, the stamp, and a reference
+-- UNB: the level and version of the text that is answered, its recipient as sender, its sender as recipient, the stamp,
+-- and a reference
 abbrev pub unb : Level → ℕ → Party → Party → Stamp → List ℕ → Segment
 unb level version sender recipient stamp reference = record {
   tag = codes "UNB";
@@ -57,7 +58,8 @@ uci sender recipient reference action error =
 
 -- UCF: a functional group that is answered
 abbrev pub ucf : GroupHead → List ℕ → Option ErrorLine → Segment
-ucf g action error = answer (codes "UCF") (alone g.reference ∷ group_party g.sender ∷ group_party g.recipient ∷ []) action error
+ucf g action error =
+    answer (codes "UCF") (alone g.reference ∷ group_party g.sender ∷ group_party g.recipient ∷ []) action error
 
 -- UNT: the number of segments of the message
 abbrev pub unt : ℕ → Segment
@@ -84,7 +86,8 @@ is_member i (Some j) = j == i
 abbrev pub members_of : ℕ → List MessageHead → List MessageHead
 members_of i messages = filter (λ m. is_member i m.group) messages
 
--- the answer to a group: rejected for its first error at group level; else acknowledged, with the reports of its messages, where there are any
+-- the answer to a group: rejected for its first error at group level; else acknowledged, with the reports of its
+-- messages, where there are any
 abbrev pub group_answer : GroupHead → Option ErrorLine → List Segment → List Segment
 group_answer g (Some e) reports = ucf g rejected (Some e) ∷ []
 group_answer g None [] = []
@@ -92,14 +95,17 @@ group_answer g None (r ∷ rs) = ucf g acknowledged None ∷ r ∷ rs
 
 -- the answers to groups, numbered from i
 abbrev pub group_answers : List Levelled → List MessageHead → ℕ × GroupHead → List Segment
-group_answers errors messages p = group_answer p.1 (first_error (group_errors p.1 errors)) (reports_of errors (members_of p.0 messages))
+group_answers errors messages p =
+    group_answer p.1 (first_error (group_errors p.1 errors)) (reports_of errors (members_of p.0 messages))
 
--- all that can be told below an interchange that is acknowledged: in a text without groups the reports of its messages, else the answers to its groups
+-- all that can be told below an interchange that is acknowledged: in a text without groups the reports of its messages,
+-- else the answers to its groups
 abbrev pub lower_segments : List Levelled → List MessageHead → List GroupHead → List Segment
 lower_segments errors messages [] = reports_of errors messages
 lower_segments errors messages (g ∷ gs) = flat_map (group_answers errors messages) (enumerate_from 0 (g ∷ gs))
 
--- the answer to an interchange: rejected for its first error at interchange level; else acknowledged, with the first 99,000 lower segments
+-- the answer to an interchange: rejected for its first error at interchange level; else acknowledged, with the first
+-- 99,000 lower segments
 abbrev pub interchange_answer : (List ℕ → Option ErrorLine → Segment) → Option ErrorLine → List Segment → List Segment
 interchange_answer told (Some e) lower = told rejected (Some e) ∷ []
 interchange_answer told None lower = told acknowledged None ∷ take 99000 lower

@@ -1,4 +1,5 @@
--- What an acknowledgement tells of one error: its code (0085), the service segment it is at (0013), and its place in the segment (S011).
+-- What an acknowledgement tells of one error: its code (0085), the service segment it is at (0013), and its place
+-- in the segment (S011).
 use Rattle.std.specs.Prelude.{ℕ, ◌+◌, Bool, ◌&&◌, nat_le, List, [], ◌∷◌, Option, Some, None, codes, decimal, if◌then◌else◌}
 use Rattle.std.specs.List.{list_any}
 use Rattle.std.specs.Str.{bytes_eq}

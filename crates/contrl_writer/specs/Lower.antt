@@ -14,7 +14,8 @@ use Rattle.contrl_writer.specs.Written.{Segment, contrl_text}
 
 -- what is put and left after these segments
 abbrev pub with_segments : Lower → List Segment → Lower
-with_segments w segments = record { text = w.text ++ contrl_text (take w.left segments); left = w.left - length segments }
+with_segments w segments =
+    record { text = w.text ++ contrl_text (take w.left segments); left = w.left - length segments }
 
 -- the errors that are told of a message
 abbrev pub told : List Levelled → List Levelled

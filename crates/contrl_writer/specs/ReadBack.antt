@@ -24,10 +24,12 @@ element_read p = map (component_read p.0) (enumerate_from 1 (values_read (trimme
 abbrev pub components_read : Segment → List Component
 components_read s = flat_map element_read (enumerate_from 0 (alone s.tag ∷ trimmed is_empty_element s.elements))
 
--- octets are read as these segments: by the default service characters, with these components segment by segment, and without a tail
+-- octets are read as these segments: by the default service characters, with these components segment by segment, and
+-- without a tail
 pub record IsReadAs (segments : List Segment) (octets : List ℕ) : Type 0 where
   pub service : service_of octets ≡ default_service
-  pub components : map (components_of (separators_of default_service)) (contents_of default_service octets) ≡ map components_read segments
+  pub components : map (components_of (separators_of default_service)) (contents_of default_service octets)
+      ≡ map components_read segments
   pub tail : tail_of default_service octets ≡ None
 
 -- what is answered is read back: where it is octets, as these segments

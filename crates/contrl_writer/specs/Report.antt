@@ -45,7 +45,8 @@ element_errors errors = filter (λ x. is_of_element x.error.kind) errors
 
 -- UCM: a message, and its first error as a whole, if it has one
 abbrev pub ucm : MessageHead → List Levelled → Segment
-ucm m errors = answer (codes "UCM") (alone m.reference ∷ identifier_of m ∷ []) rejected (first_error (whole_errors errors))
+ucm m errors =
+    answer (codes "UCM") (alone m.reference ∷ identifier_of m ∷ []) rejected (first_error (whole_errors errors))
 
 -- UCS: the position of a segment in its message, where UNH has position 1, and a code
 abbrev pub ucs : ℕ → List ℕ → Segment
@@ -55,7 +56,8 @@ ucs position code = record { tag = codes "UCS"; elements = alone (decimal positi
 abbrev pub ucd : Levelled → Segment
 ucd x = record { tag = codes "UCD"; elements = alone (code_told x.error) ∷ position_of x.error ∷ [] }
 
--- the UCS of a segment: one for each error of the segment as a whole; one without a code where it has errors of elements alone
+-- the UCS of a segment: one for each error of the segment as a whole; one without a code where it has errors of
+-- elements alone
 abbrev pub heads_of : ℕ → List Levelled → List Levelled → List Segment
 heads_of position [] [] = []
 heads_of position [] (y ∷ ys) = ucs position [] ∷ []
@@ -73,7 +75,8 @@ blocks_of (head ∷ next ∷ heads) details = (head ∷ []) ∷ blocks_of (next 
 
 -- the blocks of a segment with these errors
 abbrev pub segment_blocks : ℕ → List Levelled → List (List Segment)
-segment_blocks position errors = blocks_of (heads_of position (segment_errors errors) (element_errors errors)) (details_in (element_errors errors))
+segment_blocks position errors =
+    blocks_of (heads_of position (segment_errors errors) (element_errors errors)) (details_in (element_errors errors))
 
 -- the errors of the segment with this position in a message
 abbrev pub errors_at : MessageHead → ℕ → List Levelled → List Levelled

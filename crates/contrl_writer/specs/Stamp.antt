@@ -15,7 +15,9 @@ stamp_text stamp = stamp.date ++ 58 ∷ stamp.time
 -- the stamp that a word is: six digits, a colon and four digits
 abbrev pub stamp_in : List ℕ → Option Stamp
 stamp_in word =
-    if has_digits 6 (take 6 word) && slice_index word 6 == 58 && has_digits 4 (drop 7 word) then Some (record { date = take 6 word; time = drop 7 word }) else None
+    if has_digits 6 (take 6 word) && slice_index word 6 == 58 && has_digits 4 (drop 7 word)
+    then Some (record { date = take 6 word; time = drop 7 word })
+    else None
 
 -- a reference is 1 to 14 octets of `A` to `Z` and `0` to `9`
 abbrev pub is_reference_of : List ℕ → Bool

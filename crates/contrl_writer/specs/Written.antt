@@ -1,4 +1,5 @@
--- How segments are written (ISO 9735, syntax version 3): with the default service characters `:` `+` `?` `'`, without service string advice and without line ends.
+-- How segments are written (ISO 9735, syntax version 3): with the default service characters `:` `+` `?` `'`,
+-- without service string advice and without line ends.
 use Rattle.std.specs.Prelude.{ℕ, Bool, ◌||◌, ◌==◌, List, [], ◌∷◌, ◌++◌, length, if◌then◌else◌}
 use Rattle.std.specs.List.{flat_map, list_all}
 

@@ -122,7 +122,8 @@ fn places_among(errors: &[Levelled], first: u32, last: u32) -> (usize, usize)
     requires { IsNonDecreasingBy segment_of errors.now }
     ensures ordered { result.0 ≤ result.1 }
     ensures within { result.1 ≤ length errors.now }
-    ensures among { IsRange (λ x. is_among first last x.error.segment) errors.now result.0 (result.1 - result.0) }
+    ensures among { IsRange (λ x. is_among first last x.error.segment) errors.now
+        result.0 (result.1 - result.0) }
 {
     let from = errors.partition_point(|x| x.error.segment < first);
     let to = errors.partition_point(|x| x.error.segment <= last);

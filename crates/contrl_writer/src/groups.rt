@@ -29,7 +29,8 @@ pub(crate) fn put_lower(
     groups: &[GroupHead],
     messages: &[MessageHead],
 ) -> Result<(), AllocError>
-    ensures { OnOk result (out.new ≡ with_segments out.old (lower_segments errors.now messages.now groups.now)) }
+    ensures { OnOk result
+        (out.new ≡ with_segments out.old (lower_segments errors.now messages.now groups.now)) }
 {
     if groups.is_empty() {
         return put_reports(out, errors, messages);
@@ -116,7 +117,8 @@ fn put_report_where(
     message: &MessageHead,
 ) -> Result<(), AllocError>
     ensures { OnOk result
-        (out.new ≡ with_segments out.old (report_where message.now (message_errors message.now errors.now))) }
+        (out.new ≡ with_segments out.old
+        (report_where message.now (message_errors message.now errors.now))) }
 {
     if !has_error(errors, message) {
         return Ok(());

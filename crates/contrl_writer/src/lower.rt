@@ -46,7 +46,8 @@ impl Lower {
 
     /// Puts a segment, unless there are enough.
     pub(crate) fn put(&mut self, tag: Tag, elements: &[Element<'_, '_>]) -> Result<(), AllocError>
-        ensures { OnOk result (self.new ≡ with_segments self.old (segment_lent tag elements.now ∷ [])) }
+        ensures { OnOk result
+            (self.new ≡ with_segments self.old (segment_lent tag elements.now ∷ [])) }
     {
         if self.left == 0 {
             return Ok(());
@@ -63,7 +64,9 @@ impl Lower {
         subject: &[Element<'_, '_>],
         error: Option<&ErrorLine>,
     ) -> Result<(), AllocError>
-        ensures { OnOk result (self.new ≡ with_segments self.old (answer_lent tag subject.now (option_copied error.entry) ∷ [])) }
+        ensures { OnOk result
+            (self.new ≡ with_segments self.old
+            (answer_lent tag subject.now (option_copied error.entry) ∷ [])) }
     {
         if self.left == 0 {
             return Ok(());

@@ -60,7 +60,8 @@ pub(crate) fn put_report(
 
 // UCM: the message, and its first error as a whole, if it has one.
 fn put_ucm(out: &mut Lower, message: &MessageHead, errors: &[Levelled]) -> Result<(), AllocError>
-    ensures { OnOk result (out.new ≡ with_segments out.old (ucm message.now (told errors.now) ∷ [])) }
+    ensures { OnOk result
+        (out.new ≡ with_segments out.old (ucm message.now (told errors.now) ∷ [])) }
 {
     let reference = [Octets(message.reference.octets())];
     let identifier = message_identifier(message);
@@ -105,8 +106,10 @@ fn put_blocks(
     blocks: usize,
 ) -> Result<usize, AllocError>
     ensures ok { OnOk result
-        (out.new ≡ with_segments out.old (joined (take blocks (segment_blocks position (told errors.now))))) }
-    ensures left { IfOk result (λ n. n ≡ blocks - length (segment_blocks position (told errors.now))) }
+        (out.new ≡ with_segments out.old
+        (joined (take blocks (segment_blocks position (told errors.now))))) }
+    ensures left { IfOk result
+        (λ n. n ≡ blocks - length (segment_blocks position (told errors.now))) }
 {
     if blocks == 0 {
         return Ok(0);
@@ -146,7 +149,8 @@ fn put_headed(
 ) -> Result<(), AllocError>
     requires { 0 < length (filter is_head_of errors.now) }
     ensures { OnOk result
-        (out.new ≡ with_segments out.old (joined (take blocks (segment_blocks position (told errors.now))))) }
+        (out.new ≡ with_segments out.old
+        (joined (take blocks (segment_blocks position (told errors.now))))) }
 {
     put_heads(out, position, errors, blocks)?;
     if count_heads(errors) <= blocks {
@@ -159,7 +163,8 @@ fn put_headed(
 fn put_plain(out: &mut Lower, position: u32, errors: &[Levelled]) -> Result<(), AllocError>
     requires none { length (filter is_head_of errors.now) ≡ 0 }
     requires some { 0 < length (filter is_detail_of errors.now) }
-    ensures { OnOk result (out.new ≡ with_segments out.old (joined (segment_blocks position (told errors.now)))) }
+    ensures { OnOk result
+        (out.new ≡ with_segments out.old (joined (segment_blocks position (told errors.now)))) }
 {
     let position = [Number(position)];
     let code = [Octets(b"")];
@@ -174,7 +179,8 @@ fn put_heads(
     errors: &[Levelled],
     most: usize,
 ) -> Result<(), AllocError>
-    ensures { OnOk result (out.new ≡ with_segments out.old (take most (heads_at position errors.now))) }
+    ensures { OnOk result
+        (out.new ≡ with_segments out.old (take most (heads_at position errors.now))) }
 {
     let mut left = most;
     for x in errors {
@@ -200,7 +206,8 @@ fn put_head(out: &mut Lower, position: u32, x: &Levelled, left: usize) -> Result
 
 // Puts the UCD of a segment.
 fn put_details(out: &mut Lower, errors: &[Levelled]) -> Result<(), AllocError>
-    ensures { OnOk result (out.new ≡ with_segments out.old (take MOST_DETAILS (details_at errors.now))) }
+    ensures { OnOk result
+        (out.new ≡ with_segments out.old (take MOST_DETAILS (details_at errors.now))) }
 {
     let mut left = MOST_DETAILS;
     for x in errors {
@@ -211,7 +218,8 @@ fn put_details(out: &mut Lower, errors: &[Levelled]) -> Result<(), AllocError>
 
 // Puts the UCD of an error, if it has one and more are put, and answers how many more are.
 fn put_detail(out: &mut Lower, x: &Levelled, left: usize) -> Result<usize, AllocError>
-    ensures ok { OnOk result (out.new ≡ with_segments out.old (take left (details_at (x.now ∷ [])))) }
+    ensures ok { OnOk result
+        (out.new ≡ with_segments out.old (take left (details_at (x.now ∷ [])))) }
     ensures left { IfOk result (λ n. n ≡ left - length (details_at (x.now ∷ []))) }
 {
     if left == 0 || !is_detail(x) || !is_near(&x.error) {

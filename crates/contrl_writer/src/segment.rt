@@ -52,7 +52,9 @@ pub(crate) fn put_answer(
     subject: &[Element<'_, '_>],
     error: Option<&ErrorLine>,
 ) -> Result<(), AllocError>
-    ensures { OnOk result (out.new ≡ out.old ++ segment_text (answer_lent tag subject.now (option_copied error.entry))) }
+    ensures { OnOk result
+        (out.new ≡ out.old
+        ++ segment_text (answer_lent tag subject.now (option_copied error.entry))) }
 {
     let Some(error) = error else {
         return put_segment(out, tag, subject);
@@ -79,7 +81,8 @@ fn put_elements(out: &mut Chunk, elements: &[Element<'_, '_>]) -> Result<(), All
 
 // The elements up to the last that isn't empty.
 fn kept_elements<'a, 'b, 'v>(elements: &'a [Element<'b, 'v>]) -> &'a [Element<'b, 'v>]
-    ensures { map element_lent result.now ≡ trimmed is_empty_element (map element_lent elements.now) }
+    ensures { map element_lent result.now
+        ≡ trimmed is_empty_element (map element_lent elements.now) }
 {
     let mut kept = 0;
     for (i, element) in elements.iter().enumerate() {

@@ -55,7 +55,9 @@ pub(crate) fn put_unb<'a>(
     stamp: &'a Stamp,
     reference: &'a [u8],
 ) -> Result<(), AllocError>
-    ensures { OnOk result (out.new ≡ out.old ++ segment_text (unb level version sender.now recipient.now stamp.now reference.now)) }
+    ensures { OnOk result
+        (out.new ≡ out.old ++ segment_text
+        (unb level version sender.now recipient.now stamp.now reference.now)) }
 {
     let syntax = [Octets(level_word(level)), Number(u32::from(version))];
     let from = interchange_party(recipient);
@@ -105,7 +107,9 @@ pub(crate) fn put_uci<'a>(
     reference: &'a [u8],
     error: Option<&'a ErrorLine>,
 ) -> Result<(), AllocError>
-    ensures { OnOk result (out.new ≡ out.old ++ segment_text (uci sender.now recipient.now reference.now (action_for (option_copied error.entry)) (option_copied error.entry))) }
+    ensures { OnOk result
+        (out.new ≡ out.old ++ segment_text (uci sender.now recipient.now reference.now
+        (action_for (option_copied error.entry)) (option_copied error.entry))) }
 {
     let reference = [Octets(reference)];
     let from = interchange_party(sender);

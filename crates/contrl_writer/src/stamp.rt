@@ -19,7 +19,8 @@ pub struct Stamp {
 /// The stamp that `YYMMDD:HHMM` is, of ten digits and a colon; no other word is one.
 pub fn read_stamp(word: &[u8]) -> Option<Stamp>
     ensures reads { result ≡ stamp_in word.now }
-    ensures exact { (stamp : stamps.Stamp) → (result ≡ Some stamp) ↔ (IsStamp stamp × (word.now ≡ stamp_text stamp)) }
+    ensures exact { (stamp : stamps.Stamp)
+        → (result ≡ Some stamp) ↔ (IsStamp stamp × (word.now ≡ stamp_text stamp)) }
 {
     if word.len() != 11 || word[6] != b':' {
         return None;

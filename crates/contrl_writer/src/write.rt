@@ -32,7 +32,8 @@ pub fn write_contrl(
     requires stamp { IsStamp stamp.now }
     requires reference { IsTrue (is_reference_of reference.now) }
     ensures answer { IfOk result (λ a. a ≡ answer_to summary.now stamp.now reference.now) }
-    ensures read_back { IfOk result (λ a. IsReadBack (contrl_of summary.now stamp.now reference.now) a) }
+    ensures read_back { IfOk result
+        (λ a. IsReadBack (contrl_of summary.now stamp.now reference.now) a) }
 {
     match &summary.opening {
         Opening::NoUnb => Ok(Contrl::NoUnb),

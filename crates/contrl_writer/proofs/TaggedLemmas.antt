@@ -38,34 +38,6 @@ written-map : {X : Type 0} (f : X → Segment) → ((x : X) → IsWritten ((f x)
 written-map f each [] = tt
 written-map f each (x ∷ xs) = (each x, written-map f each xs)
 
--- the tags of an acknowledgement
-unb_tag : IsWritten (codes "UNB")
-unb_tag = tag-written (codes "UNB") refl
-
-unh_tag : IsWritten (codes "UNH")
-unh_tag = tag-written (codes "UNH") refl
-
-uci_tag : IsWritten (codes "UCI")
-uci_tag = tag-written (codes "UCI") refl
-
-ucf_tag : IsWritten (codes "UCF")
-ucf_tag = tag-written (codes "UCF") refl
-
-ucm_tag : IsWritten (codes "UCM")
-ucm_tag = tag-written (codes "UCM") refl
-
-ucs_tag : IsWritten (codes "UCS")
-ucs_tag = tag-written (codes "UCS") refl
-
-ucd_tag : IsWritten (codes "UCD")
-ucd_tag = tag-written (codes "UCD") refl
-
-unt_tag : IsWritten (codes "UNT")
-unt_tag = tag-written (codes "UNT") refl
-
-unz_tag : IsWritten (codes "UNZ")
-unz_tag = tag-written (codes "UNZ") refl
-
 -- blocks of such segments
 abbrev AllBlocks : List (List Segment) → Type 0
 AllBlocks [] = Unit {0}
@@ -95,17 +67,17 @@ blocks-of (h ∷ g ∷ heads) details hs ds = ((hs.0, tt), blocks-of (g ∷ head
 
 heads-written : (position : ℕ) (xs ys : List Levelled) → AllWritten (heads_of position xs ys)
 heads-written position [] [] = tt
-heads-written position [] (y ∷ ys) = (ucs_tag, tt)
-heads-written position (x ∷ xs) ys = (ucs_tag, written-map (λ z. ucs position (code_told z.error)) (λ z. ucs_tag) xs)
+heads-written position [] (y ∷ ys) = (tag-written (codes "UCS") refl, tt)
+heads-written position (x ∷ xs) ys = (tag-written (codes "UCS") refl, written-map (λ z. ucs position (code_told z.error)) (λ z. tag-written (codes "UCS") refl) xs)
 
 report-written : (m : MessageHead) (es : List Levelled) → AllWritten (report m es)
 unfolding report
 report-written m es = (
-  ucm_tag,
+  tag-written (codes "UCM") refl,
   blocks-joined (take 999 (message_blocks m es)) (blocks-take 999 (message_blocks m es) (blocks-all (λ position. segment_blocks position (errors_at m position es)) (λ position.
       blocks-of (heads_of position (segment_errors (errors_at m position es)) (element_errors (errors_at m position es))) (details_in (element_errors (errors_at m position es)))
       (heads-written position (segment_errors (errors_at m position es)) (element_errors (errors_at m position es)))
-      (written-take 99 _ (written-map ucd (λ x. ucd_tag) _)))
+      (written-take 99 _ (written-map ucd (λ x. tag-written (codes "UCD") refl) _)))
       (positions_of m))),
 )
 
@@ -117,17 +89,17 @@ reports-written : (es : List Levelled) (ms : List MessageHead) → AllWritten (r
 reports-written es ms = written-all (λ m. report_where m (message_errors m es)) (λ m. where-written m (message_errors m es)) ms
 
 answer-written : (g : GroupHead) (error : Option ErrorLine) (rs : List Segment) → AllWritten rs → AllWritten (group_answer g error rs)
-answer-written g (Some e) rs all = (ucf_tag, tt)
+answer-written g (Some e) rs all = (tag-written (codes "UCF") refl, tt)
 answer-written g None [] all = tt
-answer-written g None (r ∷ rs) all = (ucf_tag, all)
+answer-written g None (r ∷ rs) all = (tag-written (codes "UCF") refl, all)
 
 lower-written : (es : List Levelled) (ms : List MessageHead) (gs : List GroupHead) → AllWritten (lower_segments es ms gs)
 lower-written es ms [] = reports-written es ms
 lower-written es ms (g ∷ gs) = written-all (group_answers es ms) (λ p. answer-written p.1 _ _ (reports-written es _)) (enumerate_from 0 (g ∷ gs))
 
 body-written : (a b : Party) (reference : List ℕ) (first : Option ErrorLine) (lower : List Segment) → AllWritten lower → AllWritten (interchange_answer (uci a b reference) first lower)
-body-written a b reference (Some e) lower all = (uci_tag, tt)
-body-written a b reference None lower all = (uci_tag, written-take 99000 lower all)
+body-written a b reference (Some e) lower all = (tag-written (codes "UCI") refl, tt)
+body-written a b reference None lower all = (tag-written (codes "UCI") refl, written-take 99000 lower all)
 
 -- the segments of an acknowledgement, by how the interchange is opened
 module _ (s : Summary) (stamp : Stamp) (own : List ℕ) where
@@ -139,9 +111,9 @@ module _ (s : Summary) (stamp : Stamp) (own : List ℕ) where
       let first : Option ErrorLine = first_error (interchange_errors es) in
       let lower : List Segment = lower_segments es s.messages s.groups in
       let body : List Segment = interchange_answer (uci sender recipient reference) first lower in (
-        unb_tag,
+        tag-written (codes "UNB") refl,
         written-append (message_of body) (unz own ∷ [])
-            (unh_tag, written-append body (unt (length body + 2) ∷ []) (body-written sender recipient reference first lower (lower-written es s.messages s.groups)) (unt_tag, tt)) (unz_tag, tt),
+            (tag-written (codes "UNH") refl, written-append body (unt (length body + 2) ∷ []) (body-written sender recipient reference first lower (lower-written es s.messages s.groups)) (tag-written (codes "UNT") refl, tt)) (tag-written (codes "UNZ") refl, tt),
       )
 
   pub all-written : AllWritten (contrl_of s stamp own)

@@ -11,7 +11,7 @@ use Rattle.contrl_writer.specs.Details.{details_of, position_of, tag_told}
 use Rattle.contrl_writer.specs.Lent.{answer_lent, element_lent, segment_lent, value_lent}
 use Rattle.contrl_writer.specs.Written.{Element, alone, element_text, elements_text, is_empty_element, is_empty_value, segment_text, trimmed, value_text, values_text}
 use Rattle.contrl_writer.proofs.DecimalLemmas.{decimal-some}
-use Rattle.contrl_writer.proofs.TrimLemmas.{trimmed-append, trimmed-map}
+use Rattle.contrl_writer.proofs.TrimLemmas.{trimmed-append}
 
 flat_map-map : {X Y Z : Type 0} (f : Y → List Z) (g : X → Y) (xs : List X) → flat_map f (map g xs) ≡ flat_map (λ x. f (g x)) xs
 flat_map-map f g [] = refl

@@ -119,7 +119,8 @@ class Files:
     def marked(self, indentation):
         """Spaces in front of a line, some of which may be written as marks."""
         if indentation >= 2 and self.rng.random() < 0.1:
-            mark = self.rng.choice([b"+", b"*", b"#", b"|", b"X", b"XX", b"+*"])[:indentation - 1]
+            mark = self.rng.choice([b"+", b"*", b"#", b"|", b"X", b"XX", b"+*"])
+            mark = self.slip(mark, b"X" * 4, b"+" * 4)[:indentation - 1]
             return mark + b" " * (indentation - len(mark))
         return b" " * indentation
 

@@ -97,7 +97,7 @@ def table_input(rng, examples):
 def broken_files_input(rng, examples):
     """A directory one of whose files is changed in few places, by lines or by octets."""
     if rng.random() < 0.6:
-        files = random_directories.files_of(rng, random_directories.Parts(rng), 0.03)
+        files = random_directories.files_of(rng, random_directories.Parts(rng), rng.choice([0.01, 0.03, 0.08]))
     else:
         files, _directory = some_directory(rng, examples)
     name = rng.choice(sorted(files))

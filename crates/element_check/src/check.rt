@@ -38,10 +38,12 @@ pub fn check_segment<O: Octets>(
     requires ordered { start ≤ end }
     requires within { end ≤ length (O.octets text.now) }
     ensures errors { IfOk result (λ list. list.items
-        ≡ local_errors_of directory.now context.now (components_at context.now.service (O.octets text.now) start end)) }
+        ≡ local_errors_of directory.now context.now
+        (components_at context.now.service (O.octets text.now) start end)) }
     ensures ascending { IfOk result (λ list. AreAscending list.items) }
     ensures only_past_four { IsErr result
-        → 4 < length (local_errors_of directory.now context.now (components_at context.now.service (O.octets text.now) start end)) }
+        → 4 < length (local_errors_of directory.now context.now
+        (components_at context.now.service (O.octets text.now) start end)) }
 {
     let components = fields(text, &context.service, start, end);
     let (_, errors) = check_components(alloc, directory, context, components)?;
@@ -58,12 +60,14 @@ pub fn check_components<O: Octets>(
 ) -> Result<(Option<Tag>, SmallVec<LocalError, 4>), AllocError>
     requires in_order { IsInOrder 0 (components_left components) }
     requires few { length (components_left components) < 2 ^ 31 }
-    ensures tag { IfOk result (λ found. option_map (λ t. t.octets) found.0 ≡ tag_of (components_left components.entry)) }
+    ensures tag { IfOk result
+        (λ found. option_map (λ t. t.octets) found.0 ≡ tag_of (components_left components.entry)) }
     ensures errors { IfOk result (λ found. found.1.items
         ≡ local_errors_of directory.now context.now (components_left components.entry)) }
     ensures ascending { IfOk result (λ found. AreAscending found.1.items) }
     ensures only_past_four { IsErr result
-        → 4 < length (local_errors_of directory.now context.now (components_left components.entry)) }
+        → 4
+        < length (local_errors_of directory.now context.now (components_left components.entry)) }
 {
     let mut elements = components;
     let tag = elements.take_tag();
@@ -82,9 +86,11 @@ fn gather<O: Octets>(
 ) -> Result<(), AllocError>
     requires few { length (components_left elements) < 2 ^ 31 }
     ensures ok { OnOk result (errors.new ≡ errors.old
-        ++ errors_past directory.now context.now (components_left elements.entry) (option_map (λ t. t.octets) tag)) }
+        ++ errors_past directory.now context.now
+        (components_left elements.entry) (option_map (λ t. t.octets) tag)) }
     ensures full { OnErr result (4 < length errors.old
-        + length (errors_past directory.now context.now (components_left elements.entry) (option_map (λ t. t.octets) tag))) }
+        + length (errors_past directory.now context.now
+        (components_left elements.entry) (option_map (λ t. t.octets) tag))) }
 {
     let Some(tag) = tag else {
         return errors.put_if(true, 0, 0, Kind::BadTag);
@@ -106,7 +112,8 @@ fn check_elements<O: Octets>(
     ensures ok { OnOk result (errors.new
         ≡ errors.old ++ items_errors rules.now 0 rules.now.items (components_left elements.entry)) }
     ensures full { OnErr result (4
-        < length errors.old + length (items_errors rules.now 0 rules.now.items (components_left elements.entry))) }
+        < length errors.old
+        + length (items_errors rules.now 0 rules.now.items (components_left elements.entry))) }
 {
     let mut element = 0;
     let mut rest = Ahead::of(elements);

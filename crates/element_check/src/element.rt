@@ -28,7 +28,8 @@ pub(crate) fn check_item<O: Octets>(
     ensures ok { OnOk result (errors.new
         ≡ errors.old ++ item_errors rules.now element item.now (values_left element values.old)) }
     ensures full { OnErr result (4
-        < length errors.old + length (item_errors rules.now element item.now (values_left element values.old))) }
+        < length errors.old
+        + length (item_errors rules.now element item.now (values_left element values.old))) }
     ensures after { OnOk result (after_front element (components_ahead values.new)
         ≡ after_front element (components_ahead values.old)) }
 {
@@ -52,7 +53,8 @@ fn check_alone<O: Octets>(
     ensures ok { OnOk result (errors.new
         ≡ errors.old ++ alone_errors rules.now element part.now (values_left element values.old)) }
     ensures full { OnErr result (4
-        < length errors.old + length (alone_errors rules.now element part.now (values_left element values.old))) }
+        < length errors.old
+        + length (alone_errors rules.now element part.now (values_left element values.old))) }
     ensures after { OnOk result (after_front element (components_ahead values.new)
         ≡ after_front element (components_ahead values.old)) }
 {
@@ -73,9 +75,12 @@ fn check_composite<O: Octets>(
     requires few { length (values_left element values.old) < 2 ^ 31 }
     requires short { length parts.now < 2 ^ 31 }
     ensures ok { OnOk result (errors.new
-        ≡ errors.old ++ composite_errors rules.now element must parts.now (values_left element values.old)) }
+        ≡ errors.old
+        ++ composite_errors rules.now element must parts.now (values_left element values.old)) }
     ensures full { OnErr result (4
-        < length errors.old + length (composite_errors rules.now element must parts.now (values_left element values.old))) }
+        < length errors.old
+        + length (composite_errors
+        rules.now element must parts.now (values_left element values.old))) }
     ensures after { OnOk result (after_front element (components_ahead values.new)
         ≡ after_front element (components_ahead values.old)) }
 {
@@ -143,9 +148,12 @@ fn check_parts<O: Octets>(
     requires few { length (values_left element values.old) < 2 ^ 31 }
     requires short { length parts.now < 2 ^ 31 }
     ensures ok { OnOk result (errors.new
-        ≡ errors.old ++ parts_errors rules.now element 1 named parts.now (values_left element values.old)) }
+        ≡ errors.old
+        ++ parts_errors rules.now element 1 named parts.now (values_left element values.old)) }
     ensures full { OnErr result (4
-        < length errors.old + length (parts_errors rules.now element 1 named parts.now (values_left element values.old))) }
+        < length errors.old
+        + length (parts_errors
+        rules.now element 1 named parts.now (values_left element values.old))) }
     ensures after { OnOk result (after_front element (components_ahead values.new)
         ≡ after_front element (components_ahead values.old)) }
 {
@@ -170,9 +178,13 @@ fn check_part<O: Octets>(
     errors: &mut Errors,
 ) -> Result<(), AllocError>
     ensures ok { OnOk result (errors.new
-        ≡ errors.old ++ part_errors rules.now element component part.now named (unwrap_or (option_map octets_of value.entry) [])) }
+        ≡ errors.old
+        ++ part_errors rules.now element component part.now named
+        (unwrap_or (option_map octets_of value.entry) [])) }
     ensures full { OnErr result (4
-        < length errors.old + length (part_errors rules.now element component part.now named (unwrap_or (option_map octets_of value.entry) []))) }
+        < length errors.old
+        + length (part_errors rules.now element component part.now named
+        (unwrap_or (option_map octets_of value.entry) []))) }
 {
     match value {
         Some(value) => check_value(rules, part, named, &value, element, component, errors),
@@ -191,9 +203,11 @@ fn check_value<O: Octets>(
     errors: &mut Errors,
 ) -> Result<(), AllocError>
     ensures ok { OnOk result (errors.new
-        ≡ errors.old ++ part_errors rules.now element component part.now named (octets_of value.now)) }
+        ≡ errors.old
+        ++ part_errors rules.now element component part.now named (octets_of value.now)) }
     ensures full { OnErr result (4
-        < length errors.old + length (part_errors rules.now element component part.now named (octets_of value.now))) }
+        < length errors.old
+        + length (part_errors rules.now element component part.now named (octets_of value.now))) }
 {
     if value.is_empty() {
         return errors.put_if(part.must, element, component, Kind::Missing);
@@ -214,7 +228,8 @@ fn check_surplus<O: Octets>(
     ensures ok { OnOk result (errors.new
         ≡ errors.old ++ surplus_components element first (values_left element values.old)) }
     ensures full { OnErr result (4
-        < length errors.old + length (surplus_components element first (values_left element values.old))) }
+        < length errors.old
+        + length (surplus_components element first (values_left element values.old))) }
     ensures after { OnOk result (after_front element (components_ahead values.new)
         ≡ after_front element (components_ahead values.old)) }
 {

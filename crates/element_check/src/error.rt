@@ -63,8 +63,10 @@ impl Errors {
         component: u32,
         kind: Kind,
     ) -> Result<(), AllocError>
-        ensures ok { OnOk result (self.new ≡ self.old ++ when broken (error_at element component kind)) }
-        ensures full { OnErr result (4 < length self.old + length (when broken (error_at element component kind))) }
+        ensures ok { OnOk result (self.new
+            ≡ self.old ++ when broken (error_at element component kind)) }
+        ensures full { OnErr result
+            (4 < length self.old + length (when broken (error_at element component kind))) }
     {
         if broken {
             self.list.push(LocalError {

@@ -26,7 +26,11 @@ impl<'a> Model for Rules<'a> {
 
     ghost Value = { SegmentRules };
 
-    ghost view = { λ r. record { context = r.context.now; items = r.items.now; directory = option_copied r.directory } };
+    ghost view = { λ r. record {
+      context = r.context.now;
+      items = r.items.now;
+      directory = option_copied r.directory;
+    } };
 
     ghost invariant = { λ r. ForSome (option_copied r.directory) IsDirectory };
 }

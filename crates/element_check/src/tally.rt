@@ -74,7 +74,8 @@ impl Form {
 impl Tally {
     /// Whether a value of a class must be a number, has its octets, and isn't one.
     pub(crate) fn is_no_number(&self, class: Class) -> bool
-        ensures { result ≡ (is_numeric class && not self.now.foreign && not (is_number self.now.form)) }
+        ensures { result
+            ≡ (is_numeric class && not self.now.foreign && not (is_number self.now.form)) }
     {
         match class {
             Class::N => !self.foreign && !self.form.is_number(),

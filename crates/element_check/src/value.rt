@@ -25,7 +25,8 @@ pub(crate) fn test_value<O: Octets>(
     list: Option<&CodeList>,
     value: &Value<'_, O>,
 ) -> [(Kind, bool); TESTS]
-    ensures { result ≡ test_results context.now repr (option_copied list.entry) (octets_of value.now) }
+    ensures { result
+        ≡ test_results context.now repr (option_copied list.entry) (octets_of value.now) }
 {
     let found = scan(context, repr.class, value);
     [
@@ -71,8 +72,10 @@ pub(crate) fn put_failed(
     component: u32,
     results: &[(Kind, bool)],
 ) -> Result<(), AllocError>
-    ensures ok { OnOk result (errors.new ≡ errors.old ++ told_errors element component results.now) }
-    ensures full { OnErr result (4 < length errors.old + length (told_errors element component results.now)) }
+    ensures ok { OnOk result (errors.new
+        ≡ errors.old ++ told_errors element component results.now) }
+    ensures full { OnErr result
+        (4 < length errors.old + length (told_errors element component results.now)) }
 {
     for &(kind, failed) in results {
         errors.put_if(failed, element, component, kind)?;

@@ -1,4 +1,5 @@
--- The laws of steps: taken one after the other they come to the positions of messages, and octets that follow a boundary are read by themselves.
+-- The laws of steps: taken one after the other they come to the positions of messages, and octets that follow a
+-- boundary are read by themselves.
 use Rattle.std.specs.Prelude.{ℕ, ◌+◌, ◌≡◌, ◌&&◌, ◌||◌, nat_lt, Bool, true, false, not, List, [], ◌∷◌, ◌++◌, length, map, drop, slice_get, Option, Some, None, codes, if◌then◌else◌}
 use Rattle.std.specs.List.{list_any}
 use Rattle.edi_tables.specs.declared.tag.Tag.{Tag}
@@ -55,7 +56,8 @@ missing_at_end dir mode = []
 abbrev pub end_faults : Parts → List (Option Tag) → ℕ → Mode → List Fault
 end_faults dir tags i after = if ends_after tags i then map Missing (missing_at_end dir after) else []
 
--- what is wrong in the structure of messages at each segment is what its step tells, and what is missing where its message ends
+-- what is wrong in the structure of messages at each segment is what its step tells, and what is missing where its
+-- message ends
 abbrev pub StepsTellFaults : Parts → List Segment → Type 0
 StepsTellFaults dir segments =
     (i : ℕ) (segment : Segment) → slice_get segments i ≡ Some segment

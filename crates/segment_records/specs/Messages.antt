@@ -1,4 +1,5 @@
--- Where the segments of a text are in its messages: with the segment tables of a directory, by the extents of messages alone. Places are counted from 0.
+-- Where the segments of a text are in its messages: with the segment tables of a directory, by the extents of
+-- messages alone. Places are counted from 0.
 use Rattle.std.specs.Prelude.{ℕ, ◌+◌, ◌-◌, ◌==◌, List, [], filter, slice_get, slice_index_or, slice_range, Option, Some, None, is_some, if◌then◌else◌}
 use Rattle.std.specs.Option.{option_and_then}
 use Rattle.edi_tables.specs.declared.tag.Tag.{Tag}
@@ -14,7 +15,8 @@ use Rattle.segment_records.specs.Segments.{Segment, tags_in, value_in}
 use Rattle.segment_records.specs.declared.mode.Mode.{Mode}
 use Rattle.segment_records.specs.declared.mode.Mode.TheVariants as mode
 
--- the number of the segment table that a UNH names: message type, version, release and agency (0065, 0052, 0054 and 0051), the first four components of element 2
+-- the number of the segment table that a UNH names: message type, version, release and agency (0065, 0052, 0054 and
+-- 0051), the first four components of element 2
 abbrev pub table_for : Parts → List Component → Option ℕ
 table_for dir components =
     table_named dir
@@ -24,7 +26,8 @@ table_for dir components =
 abbrev pub nodes_at : Parts → ℕ → List Node
 nodes_at dir table = slice_index_or (tables_of dir) table []
 
--- where a segment is: in no message, in a message without a table, or in a message with the table of this number and this extent
+-- where a segment is: in no message, in a message without a table, or in a message with the table of this number and
+-- this extent
 pub data Position : Type 0 where
   Outside : Position
   Untabled : Position

@@ -1,4 +1,5 @@
--- What is kept of the segments of a text. Nothing of it changes by an edit outside of a segment's stretch, except by the mode before the segment.
+-- What is kept of the segments of a text. Nothing of it changes by an edit outside of a segment's stretch, except by
+-- the mode before the segment.
 use Rattle.std.specs.Prelude.{ℕ, ◌+◌, ◌-◌, ◌<◌, ⊤, List, [], ◌∷◌, length, Option}
 use Rattle.edi_tables.specs.declared.tag.Tag.{Tag}
 use Rattle.dir_compile.specs.declared.parts.Parts.{Parts}
@@ -14,7 +15,8 @@ use Rattle.segment_records.specs.Steps.{Step, step_of}
 use Rattle.segment_records.specs.declared.mode.Mode.{Mode}
 use Rattle.segment_records.specs.declared.mode.Mode.TheVariants.{Outside, Untabled, Within}
 
--- how many octets a segment's stretch has, line ends in front and terminator included, how many of them are line ends in front, the tag, the local errors, and the step
+-- how many octets a segment's stretch has, line ends in front and terminator included, how many of them are line
+-- ends in front, the tag, the local errors, and the step
 pub record Kept : Type 0 where
   pub octets : ℕ
   pub breaks : ℕ
@@ -42,7 +44,8 @@ kept_from dir context before (segment ∷ more) =
 unfoldable pub records_from : Parts → Context → Mode → List ℕ → List Kept
 records_from dir context before octets = kept_from dir context before (segments_by (at_start context.service) octets)
 
--- a mode belongs to a directory, and no count of it is greater: its table is one of the directory's, and its pairs belong to the table
+-- a mode belongs to a directory, and no count of it is greater: its table is one of the directory's, and its pairs
+-- belong to the table
 abbrev pub IsModeOf : Parts → ℕ → Mode → Type 0
 IsModeOf dir most Outside = ⊤
 IsModeOf dir most Untabled = ⊤

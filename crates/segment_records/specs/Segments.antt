@@ -9,7 +9,8 @@ use Rattle.seg_lexer.specs.Service.{service_of}
 use Rattle.seg_lexer.specs.Tag.{tag_of}
 use Rattle.seg_lexer.specs.declared.service.Service.{Service}
 
--- a segment as it is read: the boundary before it, its first octet, the place of its terminator, its components, and its tag if it has one
+-- a segment as it is read: the boundary before it, its first octet, the place of its terminator, its components, and
+-- its tag if it has one
 pub record Segment : Type 0 where
   pub from : ℕ
   pub start : ℕ

@@ -1,4 +1,5 @@
--- One segment after another: where a segment is by the mode before it, and the mode after it. It is what bodies do; the laws say that it comes to the positions of messages.
+-- One segment after another: where a segment is by the mode before it, and the mode after it. It is what bodies do;
+-- the laws say that it comes to the positions of messages.
 use Rattle.std.specs.Prelude.{ℕ, Bool, false, List, [], ◌∷◌, Option, Some, None, codes, if◌then◌else◌}
 use Rattle.std.specs.List.{list_any}
 use Rattle.edi_tables.specs.declared.table.Node.{Node}
@@ -11,7 +12,8 @@ use Rattle.segment_records.specs.Messages.{table_for, nodes_at}
 use Rattle.segment_records.specs.declared.mode.Mode.{Mode}
 use Rattle.segment_records.specs.declared.mode.Mode.TheVariants.{Outside, Untabled, Within}
 
--- where a segment is: at an entry or at none, what is missing before it, whether it is one too many, and the mode after it
+-- where a segment is: at an entry or at none, what is missing before it, whether it is one too many, and the mode
+-- after it
 pub record Step : Type 0 where
   pub entry : Option ℕ
   pub missing : List ℕ

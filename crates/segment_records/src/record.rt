@@ -106,7 +106,8 @@ impl Record {
         requires within { place.end < length (O.octets text.now) }
         requires mode { IsModeOf directory.now 4194303 before.now }
         ensures kept { IfOk result (λ kept. kept ≡ kept_of directory.now context.now before.now
-            (segment_read context.now.service (O.octets text.now) place.from place.start place.end)) }
+            (segment_read
+            context.now.service (O.octets text.now) place.from place.start place.end)) }
         ensures mode { (most : ℕ)
             → IsModeOf directory.now most before.now
             → IfOk result (λ kept. IsModeOf directory.now (most + 1) kept.step.after) }

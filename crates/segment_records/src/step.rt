@@ -39,8 +39,12 @@ pub(crate) fn take_step<O: Octets, L: Ledger>(
     placed: &mut Steps<L>,
 ) -> Result<Step, AllocError>
     requires mode { IsModeOf directory.now 4194303 before.now }
-    ensures step { IfOk result (λ step. taken step ≡ step_of directory.now before.now (read_as tag (components_left components.entry))) }
-    ensures mode { (most : ℕ) → IsModeOf directory.now most before.now → IfOk result (λ step. IsModeOf directory.now (most + 1) step.after) }
+    ensures step { IfOk result
+        (λ step. taken step
+        ≡ step_of directory.now before.now (read_as tag (components_left components.entry))) }
+    ensures mode { (most : ℕ)
+        → IsModeOf directory.now most before.now
+        → IfOk result (λ step. IsModeOf directory.now (most + 1) step.after) }
     ensures counted { placed.new ≤ placed.old + 1 }
 {
     if is_named(b"UNH", tag) {
@@ -89,7 +93,9 @@ fn go_on<L: Ledger>(
     placed: &mut Steps<L>,
 ) -> Result<Step, AllocError>
     requires mode { IsModeOf directory.now 4194303 (Mode.Within table state.now) }
-    ensures step { IfOk result (λ step. taken step ≡ inner_step directory.now (Mode.Within table state.now) (read_as tag [])) }
+    ensures step { IfOk result
+        (λ step. taken step
+        ≡ inner_step directory.now (Mode.Within table state.now) (read_as tag [])) }
     ensures mode { (most : ℕ)
         → IsModeOf directory.now most (Mode.Within table state.now)
         → IfOk result (λ step. IsModeOf directory.now (most + 1) step.after) }

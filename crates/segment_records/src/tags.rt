@@ -17,7 +17,9 @@ pub fn is_named(name: &[u8; 3], tag: Option<Tag>) -> bool
 
 /// Whether a segment with this tag is in no message, as UNB, UNG, UNE and UNZ.
 pub fn is_no_part(tag: Option<Tag>) -> bool
-    ensures { result ≡ list_any (λ name. has_name name tag) (codes "UNB" ∷ codes "UNG" ∷ codes "UNE" ∷ codes "UNZ" ∷ []) }
+    ensures { result
+        ≡ list_any (λ name. has_name name tag)
+        (codes "UNB" ∷ codes "UNG" ∷ codes "UNE" ∷ codes "UNZ" ∷ []) }
 {
     is_named(b"UNB", tag) || is_named(b"UNG", tag) || is_named(b"UNE", tag) || is_named(b"UNZ", tag)
 }

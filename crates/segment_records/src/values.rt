@@ -18,8 +18,10 @@ pub fn find_table<O: Octets>(
     directory: &Directory,
     components: Fields<'_, O>,
 ) -> Result<Option<u32>, AllocError>
-    ensures table { IfOk result (λ table. table ≡ table_for directory.now (components_left components.entry)) }
-    ensures within { IfOk result (λ table. IfSome table (λ i. i < length (tables_of directory.now))) }
+    ensures table { IfOk result
+        (λ table. table ≡ table_for directory.now (components_left components.entry)) }
+    ensures within { IfOk result
+        (λ table. IfSome table (λ i. i < length (tables_of directory.now))) }
 {
     // The number of its tables fits.
     let _parts = directory.parts();
@@ -46,7 +48,8 @@ pub fn copy_value<O: Octets>(
     element: u32,
     component: u32,
 ) -> Result<Chunk, AllocError>
-    ensures { IfOk result (λ octets. octets ≡ value_in (components_left components.entry) element component) }
+    ensures { IfOk result
+        (λ octets. octets ≡ value_in (components_left components.entry) element component) }
 {
     match components.value_at(element, component) {
         Some(value) => value.copy(alloc),

@@ -37,7 +37,8 @@ member_at placed k = slice_index_or placed k None
 pub record IsReading (nodes : List Node) (tags : List (Option Tag)) (placed : List (Option ℕ)) : Type 0 where
   pub long : length placed ≡ length tags
   pub first : slice_get placed 0 ≡ Some (Some 0)
-  pub next : (k : ℕ) → k + 1 < length placed → IsMember nodes (take (k + 1) placed) (tag_in tags (k + 1)) (member_at placed (k + 1))
+  pub next : (k : ℕ) → k + 1 < length placed
+      → IsMember nodes (take (k + 1) placed) (tag_in tags (k + 1)) (member_at placed (k + 1))
 
 -- the better of two candidates: the later one only where its rank is less
 abbrev pub better : (ℕ → ℕ) → Option ℕ → ℕ → Option ℕ

@@ -1,4 +1,5 @@
--- One step of a reading, by the pairs alone: where the next segment is, what is wrong with that, and the pairs after it.
+-- One step of a reading, by the pairs alone: where the next segment is, what is wrong with that, and the pairs after
+-- it.
 use Rattle.std.specs.Prelude.{◌≡◌, ◌<◌, ◌≤◌, ℕ, Bool, false, List, [], ◌∷◌, ◌++◌, length, drop, map, filter, reverse, All, Option, Some, None}
 use Rattle.edi_tables.specs.declared.tag.Tag.{Tag}
 use Rattle.edi_tables.specs.declared.table.Node.{Node}
@@ -56,7 +57,8 @@ abbrev pub GoOnAlike : List Node → List (Option ℕ) → List (Option ℕ) →
 GoOnAlike nodes one two = (tags : List (Option Tag))
     → drop (length one) (reading_from nodes one tags) ≡ drop (length two) (reading_from nodes two tags)
 
--- a reading goes on with one segment more: where it is, what is missing before it, whether it is over, and the pairs after it
+-- a reading goes on with one segment more: where it is, what is missing before it, whether it is over, and the pairs
+-- after it
 pub record GoesOn (nodes : List Node) (tags : List (Option Tag)) (placed : List (Option ℕ)) (tag : Option Tag)
     (member : Option ℕ) (passed : List ℕ) (too_many : Bool) (after : List (ℕ × ℕ)) : Type 0 where
   pub reading : IsReading nodes (tags ++ tag ∷ []) (placed ++ member ∷ [])

@@ -30,7 +30,9 @@ impl Best {
 
     /// The better of the best so far and a candidate with this rank: the candidate only where its rank is less.
     pub fn or(self, candidate: u16, rank: u8) -> Best
-        ensures { result ≡ (if nat_lt rank self.rank then record { entry = Some candidate; rank = rank } else self) }
+        ensures { result
+            ≡ (if nat_lt rank self.rank
+            then record { entry = Some candidate; rank = rank } else self) }
     {
         if rank < self.rank {
             Best {
@@ -134,7 +136,8 @@ impl<'a> Position<'a> {
     pub fn pairs_next(&self, alloc: Global, candidate: u16) -> Result<Pairs, AllocError>
         requires within { candidate < length self.now.table.now }
         requires few { AreCountsUpTo 4194303 self.now.pairs.now }
-        ensures { IfOk result (λ pairs. pairs.items ≡ pairs_next self.now.table.now self.now.pairs.now candidate) }
+        ensures { IfOk result
+            (λ pairs. pairs.items ≡ pairs_next self.now.table.now self.now.pairs.now candidate) }
     {
         let mut pairs = SmallVec::new(alloc);
         pairs.push((candidate, self.entry_next(candidate)))?;
@@ -148,7 +151,8 @@ impl<'a> Position<'a> {
     /// The mandatory nodes that going to a candidate passes, ascending.
     pub fn missing(&self, candidate: u16) -> Missing<'a>
         requires { candidate < length self.now.table.now }
-        ensures { result ≡ missing_between self.now.table.now (entry_in self.now.pairs.now) candidate }
+        ensures { result
+            ≡ missing_between self.now.table.now (entry_in self.now.pairs.now) candidate }
     {
         self.table.missing(self.entry, candidate)
     }
@@ -181,7 +185,8 @@ impl<'a> Position<'a> {
     // Whether the count of a node has reached its greatest count.
     fn is_full(&self, node: u16) -> bool
         requires { node < length self.now.table.now }
-        ensures { result ≡ nat_le (max_at self.now.table.now node) (count_in self.now.pairs.now node) }
+        ensures { result
+            ≡ nat_le (max_at self.now.table.now node) (count_in self.now.pairs.now node) }
     {
         self.table.node(usize::from(node)).max <= count_in(self.pairs, node)
     }

@@ -22,7 +22,8 @@ pub fn read_tags(
     tags: &[Option<Tag>],
 ) -> Result<Vec<Option<u16>>, AllocError>
     ensures value { IfOk result (λ placed. placed.items ≡ reading_of table.now tags.now) }
-    ensures reading { 0 < length tags.now → IfOk result (λ placed. IsReading table.now tags.now placed.items) }
+    ensures reading { 0 < length tags.now → IfOk result
+        (λ placed. IsReading table.now tags.now placed.items) }
     ensures only { (other : List (Option ℕ))
         → IsReading table.now tags.now other
         → IfOk result (λ placed. other ≡ placed.items) }
@@ -30,14 +31,16 @@ pub fn read_tags(
     ensures first { IfOk result
         (λ placed. (k : ℕ) → k + 1 < length placed.items
         → faults_at table.now placed.items (k + 1) ≡ []
-        → member_at placed.items (k + 1) ≡ first_free table.now (take (k + 1) placed.items) (tag_in tags.now (k + 1))) }
+        → member_at placed.items (k + 1)
+        ≡ first_free table.now (take (k + 1) placed.items) (tag_in tags.now (k + 1))) }
     // Where the table lists no collision, a derivation is the reading of its tags, which has no structure error.
     ensures derived { IfOk result
         (λ placed. collisions_of table.now ≡ []
         → (names : List Tag)
         (entries : List ℕ) → map Some names ≡ tags.now
         → IsDerivation table.now names entries
-        → (placed.items ≡ map Some entries) × ((closed : Bool) → structure_errors_of table.now tags.now closed ≡ [])) }
+        → (placed.items ≡ map Some entries)
+        × ((closed : Bool) → structure_errors_of table.now tags.now closed ≡ [])) }
 {
     if tags.is_empty() {
         return Ok(Vec::new(alloc));

@@ -77,9 +77,11 @@ impl State {
         ensures entry { IfOk result (λ next. next.entry ≡ member_in table.now self.now tag) }
         ensures nowhere { IfOk result
             (λ next. (next.entry ≡ None) ↔ (tagged_in table.now self.now tag ≡ [])) }
-        ensures missing { IfOk result (λ next. next.missing.items ≡ missing_in table.now self.now next.entry) }
+        ensures missing { IfOk result
+            (λ next. next.missing.items ≡ missing_in table.now self.now next.entry) }
         ensures over { IfOk result (λ next. next.over ≡ is_over_in table.now self.now next.entry) }
-        ensures state { IfOk result (λ next. next.state ≡ pairs_after table.now self.now next.entry) }
+        ensures state { IfOk result
+            (λ next. next.state ≡ pairs_after table.now self.now next.entry) }
         ensures shaped { IfOk result (λ next. IsShaped table.now next.state) }
         ensures counts { (most : ℕ)
             → AreCountsUpTo most self.now
@@ -113,7 +115,8 @@ impl State {
     /// The mandatory nodes from here to the table's end, ascending: what is missing where a message ends here.
     pub fn finish(&self, alloc: Global, table: &Table) -> Result<SmallVec<u16, 4>, AllocError>
         requires { IsShaped table.now self.now }
-        ensures missing { IfOk result (λ missing. missing.items ≡ missing_past table.now (entry_in self.now)) }
+        ensures missing { IfOk result
+            (λ missing. missing.items ≡ missing_past table.now (entry_in self.now)) }
         ensures reading { IfOk result
             (λ missing. (tags : List (Option Tag))
             (placed : List (Option ℕ)) → IsReading table.now tags placed

@@ -7,7 +7,7 @@ abbrev pub ◌>>=◌ : {A B : Type 0} → Result A ℕ → (A → Result B ℕ) 
 (Ok x) >>= next = next x
 (Err fault) >>= next = Err fault
 
--- what is read at the front of octets, and the octets after it; or a fault, told by how many octets there are from it on
+-- what is read at the front of octets, and the octets after it; or a fault, told by how many octets are left there
 abbrev pub Reading : Type 0 → Type 0
 Reading A = Result (A × List ℕ) ℕ
 
@@ -35,4 +35,5 @@ last_of members = slice_get members (length members - 1)
 -- so many more members, each read after the one before it
 abbrev pub several : {A : Type 0} → ℕ → (Option A → List ℕ → Reading A) → List A → List ℕ → Reading (List A)
 several zero member before octets = Ok (before, octets)
-several (suc n) member before octets = member (last_of before) octets >>= λ next. several n member (before ++ next.0 ∷ []) next.1
+several (suc n) member before octets =
+    member (last_of before) octets >>= λ next. several n member (before ++ next.0 ∷ []) next.1

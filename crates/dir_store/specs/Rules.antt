@@ -52,7 +52,8 @@ first_in line = if bytes_eq line first_line then Some tt else None
 -- the second has the labels of the directory
 abbrev pub labels_with : List ℕ × List ℕ × List ℕ → Option Labels
 labels_with w =
-    if is_label 3 w.0 && is_label 3 w.1 && is_label 2 w.2 then Some (record { version = w.0; release = w.1; agency = w.2 }) else None
+    if is_label 3 w.0 && is_label 3 w.1 && is_label 2 w.2
+    then Some (record { version = w.0; release = w.1; agency = w.2 }) else None
 
 abbrev pub labels_in : List ℕ → Option Labels
 labels_in line = option_and_then labels_with (three_in line)
@@ -64,7 +65,8 @@ section_in letter line = kept (λ h. bytes_eq h.0 letter) (head_in line)
 -- a data element: a code in order, and a representation
 abbrev pub element_with : Option ElementDef → List ℕ × List ℕ → Option ElementDef
 element_with before w =
-    if is_element_code w.0 && comes_after element_name before w.0 then option_map (λ repr. record { code = record { octets = w.0 }; repr = repr }) (repr_in w.1) else None
+    if is_element_code w.0 && comes_after element_name before w.0
+    then option_map (λ repr. record { code = record { octets = w.0 }; repr = repr }) (repr_in w.1) else None
 
 abbrev pub element_in : Option ElementDef → List ℕ → Option ElementDef
 element_in before line = option_and_then (element_with before) (two_in line)
@@ -72,7 +74,8 @@ element_in before line = option_and_then (element_with before) (two_in line)
 -- a code list: an element of the store, in order
 abbrev pub list_in : List ElementDef → Option CodeList → List ℕ → Option (List ℕ × ℕ)
 list_in elements before line =
-    kept (λ h. is_element_code h.0 && is_some (named_in element_name elements h.0) && comes_after list_name before h.0) (head_in line)
+    kept (λ h. is_element_code h.0 && is_some (named_in element_name elements h.0) && comes_after list_name before h.0)
+    (head_in line)
 
 -- a code of a list, in order
 abbrev pub value_in : Option (List ℕ) → List ℕ → Option (List ℕ)
@@ -86,11 +89,13 @@ composite_in before line =
 -- a data element of the store, with its representation there
 abbrev pub part_of : List ElementDef → List ℕ → Bool → Option PartDef
 part_of elements code must =
-    option_map (λ element. record { code = record { octets = code }; must = must; repr = element.repr }) (named_in element_name elements code)
+    option_map (λ element. record { code = record { octets = code }; must = must; repr = element.repr })
+    (named_in element_name elements code)
 
 -- a part: a data element of the store, and a status
 abbrev pub part_with : List ElementDef → List ℕ × List ℕ → Option PartDef
-part_with elements w = option_and_then (λ must. if is_element_code w.0 then part_of elements w.0 must else None) (status_in w.1)
+part_with elements w =
+    option_and_then (λ must. if is_element_code w.0 then part_of elements w.0 must else None) (status_in w.1)
 
 abbrev pub part_in : List ElementDef → List ℕ → Option PartDef
 part_in elements line = option_and_then (part_with elements) (two_in line)
@@ -98,12 +103,14 @@ part_in elements line = option_and_then (part_with elements) (two_in line)
 -- a segment: a tag in order, not that of a service segment, and 1 to 99 items
 abbrev pub segment_in : Option SegmentDef → List ℕ → Option (List ℕ × ℕ)
 segment_in before line =
-    kept (λ h. is_tag_of h.0 && is_count_formed h.1 && not (is_service_tag h.0) && comes_after segment_name before h.0) (head_in line)
+    kept (λ h. is_tag_of h.0 && is_count_formed h.1 && not (is_service_tag h.0) && comes_after segment_name before h.0)
+    (head_in line)
 
 -- a composite of the store
 abbrev pub composite_of : List CompositeDef → List ℕ → Bool → Option ItemDef
 composite_of composites code must =
-    if is_composite_code code && is_some (named_in composite_name composites code) then Some (Composite (record { octets = code }) must) else None
+    if is_composite_code code && is_some (named_in composite_name composites code)
+    then Some (Composite (record { octets = code }) must) else None
 
 -- an item: a data element or a composite of the store, and a status
 abbrev pub item_of : List ElementDef → List CompositeDef → List ℕ → Bool → Option ItemDef
@@ -119,16 +126,19 @@ item_in elements composites line = option_and_then (item_with elements composite
 -- a message: a name in order, not CONTRL, and 2 to 2,000 rows
 abbrev pub message_in : Option MessageDef → List ℕ → Option (List ℕ × ℕ)
 message_in before line =
-    kept (λ h. is_message_name h.0 && is_between 2 2000 h.1 && not (bytes_eq h.0 (codes "CONTRL")) && comes_after message_name before h.0) (head_in line)
+    kept (λ h. is_message_name h.0 && is_between 2 2000 h.1 && not (bytes_eq h.0 (codes "CONTRL"))
+    && comes_after message_name before h.0) (head_in line)
 
 -- a segment of the store, or a service segment
 abbrev pub tag_of : List SegmentDef → List ℕ → Option Tag
 tag_of segments tag =
-    if is_tag_of tag && not (not (is_some (named_in segment_name segments tag)) && not (is_service_tag tag)) then Some (record { octets = tag }) else None
+    if is_tag_of tag && not (not (is_some (named_in segment_name segments tag)) && not (is_service_tag tag))
+    then Some (record { octets = tag }) else None
 
 -- what a row is called: `-` for a group, or such a tag
 abbrev pub called : List SegmentDef → List ℕ → Option (Option Tag)
-called segments word = if bytes_eq word (codes "-") then Some None else option_map (λ tag. Some tag) (tag_of segments word)
+called segments word =
+    if bytes_eq word (codes "-") then Some None else option_map (λ tag. Some tag) (tag_of segments word)
 
 abbrev pub row_of : ℕ → Option Tag → Bool → ℕ → TableRow
 row_of depth tag must max = record { tag = tag; must = must; max = max; depth = depth }
@@ -136,7 +146,9 @@ row_of depth tag must max = record { tag = tag; must = must; max = max; depth = 
 -- a row: its depth from 0 to 16, what it is called, a status, and its greatest count from 1 to 999,999
 abbrev pub row_with : List SegmentDef → List ℕ × List ℕ × List ℕ × List ℕ → Option TableRow
 row_with segments w =
-    option_and_then (λ depth. option_and_then (λ tag. option_and_then (λ must. option_map (row_of depth tag must) (kept (is_between 1 999999) (number_in w.3))) (status_in w.2)) (called segments w.1)) (kept (is_between 0 16) (number_in w.0))
+    option_and_then (λ depth. option_and_then (λ tag. option_and_then (λ must.
+    option_map (row_of depth tag must) (kept (is_between 1 999999) (number_in w.3)))
+    (status_in w.2)) (called segments w.1)) (kept (is_between 0 16) (number_in w.0))
 
 abbrev pub row_in : List SegmentDef → List ℕ → Option TableRow
 row_in segments line = option_and_then (row_with segments) (four_in line)

@@ -95,11 +95,13 @@ first_line = codes "EDIDIR1"
 abbrev pub labels_text : Parts → List ℕ
 labels_text parts = line_of (parts.version ∷ parts.release ∷ parts.agency ∷ [])
 
--- the spelling of a directory: its first line, its labels, and its definitions, kind by kind; the table of CONTRL isn't written
+-- the spelling of a directory: its first line, its labels, and its definitions, kind by kind, but no table of CONTRL
 unfoldable pub store_text : Parts → List ℕ
 store_text parts =
-    line_of (first_line ∷ []) ++ labels_text parts ++ listed (codes "E") element_text parts.elements ++ listed (codes "L") list_text parts.lists
-    ++ listed (codes "C") composite_text parts.composites ++ listed (codes "S") segment_text parts.segments ++ listed (codes "T") message_text parts.messages
+    line_of (first_line ∷ []) ++ labels_text parts
+    ++ listed (codes "E") element_text parts.elements ++ listed (codes "L") list_text parts.lists
+    ++ listed (codes "C") composite_text parts.composites ++ listed (codes "S") segment_text parts.segments
+    ++ listed (codes "T") message_text parts.messages
 
 -- a text each of whose counts has at most 19 digits: no text in memory is longer
 abbrev pub IsCountable : List ℕ → Type 0

@@ -17,9 +17,12 @@ use Rattle.dir_store.specs.Lines.{◌>>=◌, Reading, found_at, lined, several}
 use Rattle.dir_store.specs.Rules.{first_in, labels_in, section_in, element_in, list_in, value_in, composite_in, part_in, segment_in, item_in, message_in, row_in}
 
 -- what a head that keeps a rule and the members after it make; where they make nothing, the fault is at the head
-abbrev pub headed : {A B : Type 0} → (List ℕ → Option (List ℕ × ℕ)) → (Option A → List ℕ → Reading A) → (List ℕ → List A → Option B) → List ℕ → Reading B
+abbrev pub headed : {A B : Type 0}
+    → (List ℕ → Option (List ℕ × ℕ)) → (Option A → List ℕ → Reading A) → (List ℕ → List A → Option B)
+    → List ℕ → Reading B
 headed rule member made octets =
-    lined rule octets >>= λ head. several head.0.1 member [] head.1 >>= λ members. found_at octets (made head.0.0 members.0) members.1
+    lined rule octets >>= λ head. several head.0.1 member [] head.1
+    >>= λ members. found_at octets (made head.0.0 members.0) members.1
 
 -- data elements
 unfoldable pub element_at : Option ElementDef → List ℕ → Reading ElementDef
@@ -53,13 +56,14 @@ abbrev pub segment_of : List ℕ → List ItemDef → Option SegmentDef
 segment_of name items = Some (record { tag = record { octets = name }; items = items })
 
 unfoldable pub segment_at : List ElementDef → List CompositeDef → Option SegmentDef → List ℕ → Reading SegmentDef
-segment_at elements composites before octets = headed (segment_in before) (item_at elements composites) segment_of octets
+segment_at elements composites before octets =
+    headed (segment_in before) (item_at elements composites) segment_of octets
 
 -- messages
 unfoldable pub row_at : List SegmentDef → Option TableRow → List ℕ → Reading TableRow
 row_at segments before octets = lined (row_in segments) octets
 
--- the rows of a message are a segment table: that is judged after its last row, and its fault is at the line of its name
+-- the rows of a message are a segment table: it is judged after its last row, and its fault is at the name's line
 abbrev pub message_of : List ℕ → List TableRow → Option MessageDef
 message_of name rows = if is_filled_with (table_faults rows) then None else Some (record { name = name; rows = rows })
 
@@ -105,7 +109,7 @@ parts_at octets = do
   labels ← lined labels_in first.1
   definitions_at labels.0 labels.1
 
--- octets give a directory, or the place of the first line that breaks a rule: of the first octet after the last line where some
--- follow it, and of the octets' end where they end before LF ends the last line
+-- octets give a directory, or the place of the first line that breaks a rule: of the first octet after the last line
+-- where some follow it, and of the octets' end where they end before LF ends the last line
 unfoldable pub store_of : List ℕ → Result Parts ℕ
 store_of octets = result_map_both (λ parts. parts) (λ left. length octets - left) (parts_at octets)

@@ -108,7 +108,8 @@ impl Entry for CodeList {
 
 // The element of a code list on a line, which is one of the store, in order, and how many codes follow.
 fn list_on(line: &[u8], known: &Known<'_>, before: Option<&CodeList>) -> Option<(Code, u64)>
-    ensures { option_map (λ h. (h.0.octets, h.1)) result ≡ rules.list_in known.now.elements.now (option_copied before.entry) line.now }
+    ensures { option_map (λ h. (h.0.octets, h.1)) result
+        ≡ rules.list_in known.now.elements.now (option_copied before.entry) line.now }
 {
     let (name, count) = read_head(line)?;
     let code = read_element_code(name)?;
@@ -183,7 +184,8 @@ impl Entry for CompositeDef {
 
 // The code of a composite on a line, in order, and how many parts follow: 1 to 99.
 fn composite_on(line: &[u8], before: Option<&CompositeDef>) -> Option<(Code, u64)>
-    ensures { option_map (λ h. (h.0.octets, h.1)) result ≡ rules.composite_in (option_copied before.entry) line.now }
+    ensures { option_map (λ h. (h.0.octets, h.1)) result
+        ≡ rules.composite_in (option_copied before.entry) line.now }
 {
     let (name, count) = read_head(line)?;
     let code = read_composite_code(name)?;

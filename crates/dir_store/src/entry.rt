@@ -31,7 +31,8 @@ pub trait Entry: Sized + Drop {
         before: Option<&Self>,
         octets: &'o [u8],
     ) -> Result<(Self, &'o [u8]), Stop>
-        ensures { Answers (λ x. (x.0, x.1.now)) left_in result (read_at known.now (option_copied before.entry) octets.now) };
+        ensures { Answers (λ x. (x.0, x.1.now)) left_in result
+            (read_at known.now (option_copied before.entry) octets.now) };
 
     /// Puts the lines of a member at the end.
     fn put(&self, out: &mut Chunk) -> Result<(), AllocError>
@@ -45,7 +46,8 @@ pub fn read_several<'o, T: Entry>(
     count: u64,
     octets: &'o [u8],
 ) -> Result<(Vec<T>, &'o [u8]), Stop>
-    ensures { Answers (λ x. (x.0.items, x.1.now)) left_in result (several count (T.read_at known.now) [] octets.now) }
+    ensures { Answers (λ x. (x.0.items, x.1.now)) left_in result
+        (several count (T.read_at known.now) [] octets.now) }
 {
     let mut members = Vec::new(alloc);
     let mut rest = octets;
@@ -65,7 +67,8 @@ pub fn read_section<'o, T: Entry>(
     letter: &[u8],
     octets: &'o [u8],
 ) -> Result<(Vec<T>, &'o [u8]), Stop>
-    ensures { Answers (λ x. (x.0.items, x.1.now)) left_in result (section_at letter.now (T.read_at known.now) octets.now) }
+    ensures { Answers (λ x. (x.0.items, x.1.now)) left_in result
+        (section_at letter.now (T.read_at known.now) octets.now) }
 {
     let (line, rest) = read_line(octets)?;
     let (_, count) = section_on(line, letter).ok_or(Stop::at(octets))?;

@@ -45,7 +45,8 @@ impl Entry for SegmentDef {
 
 // The tag of a segment on a line, in order and not a service segment's, and how many items follow: 1 to 99.
 fn segment_on(line: &[u8], before: Option<&SegmentDef>) -> Option<(Tag, u64)>
-    ensures { option_map (λ h. (h.0.octets, h.1)) result ≡ rules.segment_in (option_copied before.entry) line.now }
+    ensures { option_map (λ h. (h.0.octets, h.1)) result
+        ≡ rules.segment_in (option_copied before.entry) line.now }
 {
     let (name, count) = read_head(line)?;
     let tag = Tag::read(name)?;
@@ -131,7 +132,8 @@ impl Entry for MessageDef {
 
 // The name of a message on a line, in order and not CONTRL, and how many rows follow: 2 to 2,000.
 fn message_on<'l>(line: &'l [u8], before: Option<&MessageDef>) -> Option<(&'l [u8], u64)>
-    ensures { option_map (λ h. (h.0.now, h.1)) result ≡ rules.message_in (option_copied before.entry) line.now }
+    ensures { option_map (λ h. (h.0.now, h.1)) result
+        ≡ rules.message_in (option_copied before.entry) line.now }
 {
     let (name, count) = read_head(line)?;
     if !is_message_name(name) || !is_between(2, 2000, count) || name == b"CONTRL".as_slice() {

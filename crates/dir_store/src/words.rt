@@ -47,7 +47,8 @@ pub fn four_words(line: &[u8]) -> Option<(&[u8], &[u8], &[u8], &[u8])>
 
 // The first word of a line, and what follows the space after it, if there is one.
 fn cut_word(line: &[u8]) -> (&[u8], Option<&[u8]>)
-    ensures { MatchOption result.1 (pieces_in line.now ≡ result.0.now ∷ []) (λ rest. pieces_in line.now ≡ result.0.now ∷ pieces_in rest.now) }
+    ensures { MatchOption result.1 (pieces_in line.now ≡ result.0.now ∷ [])
+        (λ rest. pieces_in line.now ≡ result.0.now ∷ pieces_in rest.now) }
 {
     match memchr(b' ', line) {
         Some(end) => (&line[..end], Some(&line[end + 1..])),

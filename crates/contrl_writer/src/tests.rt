@@ -19,32 +19,40 @@ fn error(segment: u32, tag: &[u8; 3], at: (u32, u32), kind: Kind) -> ErrorLine {
     }
 }
 
-fn party(alloc: Global, id: &[u8], qualifier: &[u8]) -> Result<Party, AllocError> {
+fn party(alloc: Global, id: &[u8]) -> Result<Party, AllocError> {
     Ok(Party {
         id: Chunk::of(alloc, id)?,
-        qualifier: Chunk::of(alloc, qualifier)?,
+        qualifier: Chunk::empty(alloc),
         route: Chunk::empty(alloc),
     })
 }
 
-// A message of the interchange, at these segments, in this group.
+// A message at these segments, in the group at this place.
 fn message(
     alloc: Global,
     reference: &[u8],
     segments: (u32, u32),
-    group: Option<u32>,
+    group: u32,
 ) -> Result<MessageHead, AllocError> {
+    let reference = Chunk::of(alloc, reference)?;
     Ok(MessageHead {
         first: segments.0,
         last: segments.1,
-        group,
-        reference: Chunk::of(alloc, reference)?,
-        kind: Chunk::of(alloc, b"TSTORD")?,
-        version: Chunk::of(alloc, b"D")?,
-        release: Chunk::of(alloc, b"96A")?,
-        agency: Chunk::of(alloc, b"UN")?,
+        group: Some(group),
+        reference,
+        kind: Chunk::empty(alloc),
+        version: Chunk::empty(alloc),
+        release: Chunk::empty(alloc),
+        agency: Chunk::empty(alloc),
         association: Chunk::empty(alloc),
     })
+}
+
+fn messages(alloc: Global) -> Result<List<MessageHead>, AllocError> {
+    let mut messages = Vec::new(alloc);
+    messages.push(message(alloc, b"1", (5, 8), 1)?)?;
+    messages.push(message(alloc, b"2", (11, 2_000_000), 2)?)?;
+    Ok(List::of(messages))
 }
 
 // A group at these segments.
@@ -53,44 +61,52 @@ fn group(alloc: Global, reference: &[u8], segments: (u32, u32)) -> Result<GroupH
         first: segments.0,
         last: segments.1,
         reference: Chunk::of(alloc, reference)?,
-        sender: party(alloc, b"BUYER", b"")?,
-        recipient: party(alloc, b"SELLER", b"")?,
+        sender: party(alloc, b"B")?,
+        recipient: party(alloc, b"S")?,
     })
 }
 
+fn groups(alloc: Global) -> Result<List<GroupHead>, AllocError> {
+    let mut groups = Vec::new(alloc);
+    groups.push(group(alloc, b"G'1", (2, 3))?)?;
+    groups.push(group(alloc, b"G2", (4, 9))?)?;
+    groups.push(group(alloc, b"G3", (10, 2_000_001))?)?;
+    Ok(List::of(groups))
+}
+
+fn opening(alloc: Global) -> Result<Opening, AllocError> {
+    Ok(Opening::Good {
+        level: Level::A,
+        version: 3,
+        sender: party(alloc, b"BUYER")?,
+        recipient: party(alloc, b"SELLER")?,
+        reference: Chunk::of(alloc, b"R1")?,
+    })
+}
+
+const HEAD: &[u8] = b"UNB+UNOA:3+SELLER+BUYER+960106:0800+C1'UNH+1+CONTRL:D:3:UN'";
+
+// An interchange of two messages, with these groups and errors.
 fn summary(
     alloc: Global,
-    groups: Vec<GroupHead>,
-    messages: Vec<MessageHead>,
-    errors: Vec<ErrorLine>,
+    groups: List<GroupHead>,
+    errors: &[ErrorLine],
 ) -> Result<Summary, AllocError> {
     Ok(Summary {
-        opening: Opening::Good {
-            level: Level::A,
-            version: 3,
-            sender: party(alloc, b"BUYER", b"14")?,
-            recipient: party(alloc, b"SELLER", b"14")?,
-            reference: Chunk::of(alloc, b"R1")?,
-        },
-        groups: List::of(groups),
-        messages: List::of(messages),
-        errors: List::of(errors),
+        opening: opening(alloc)?,
+        groups,
+        messages: messages(alloc)?,
+        errors: List::of(errors.to_vec(alloc)?),
     })
 }
 
-fn answer(alloc: Global, summary: &Summary) -> Result<Contrl, AllocError> {
+// What comes after UNB and UNH in an acknowledgement.
+fn body(alloc: Global, summary: &Summary) -> Result<Chunk, Fail> {
     let stamp = Stamp {
         date: *b"960106",
         time: *b"0800",
     };
-    write_contrl(alloc, summary, &stamp, b"C1")
-}
-
-const HEAD: &[u8] = b"UNB+UNOA:3+SELLER:14+BUYER:14+960106:0800+C1'UNH+1+CONTRL:D:3:UN'";
-
-// What comes after UNB and UNH in an acknowledgement.
-fn body(alloc: Global, summary: &Summary) -> Result<Chunk, Fail> {
-    match answer(alloc, summary)? {
+    match write_contrl(alloc, summary, &stamp, b"C1")? {
         Contrl::Octets(octets) => {
             let octets = octets.octets().strip_prefix(HEAD).ok_or("head")?;
             Ok(Chunk::of(alloc, octets)?)
@@ -100,29 +116,41 @@ fn body(alloc: Global, summary: &Summary) -> Result<Chunk, Fail> {
 }
 
 #[test]
-fn groups_are_answered(rt: HostRuntime) -> Result<(), Fail> {
+fn groups_and_messages_are_answered(rt: HostRuntime) -> Result<(), Fail> {
     let alloc = rt.alloc();
-    let groups = vec![in alloc;
-        group(alloc, b"G1", (2, 3))?,
-        group(alloc, b"G2", (4, 7))?,
-        group(alloc, b"G3", (8, 11))?,
-    ]?;
-    let messages = vec![in alloc;
-        message(alloc, b"2", (9, 10), Some(2))?,
-        message(alloc, b"1", (5, 6), Some(1))?,
-    ]?;
     #[rattlefmt::skip]
-    let errors = vec![in alloc;
-        error(9, b"UNH", (0, 0), Kind::GroupType),
-        error(5, b"UNH", (2, 0), Kind::NoTable),
-        error(6, b"UNT", (0, 0), Kind::Unplaced),
+    let errors = [
         error(2, b"UNG", (0, 0), Kind::EmptyGroup),
-        error(3, b"UNE", (1, 0), Kind::Count)
-    ]?;
-    let summary = summary(alloc, groups, messages, errors)?;
+        error(6, b"DTM", (1, 3), Kind::TooLong),
+        error(6, b"DTM", (2, 0), Kind::TooManyElements),
+        error(8, b"UNT", (0, 0), Kind::MissingSegment),
+        error(8, b"UNT", (1, 0), Kind::Count),
+    ];
+    let summary = summary(alloc, groups(alloc)?, &errors)?;
     assert!(rt;
         body(alloc, &summary)?.octets()
-            == b"UCI+R1+BUYER:14+SELLER:14+7'UCF+G1+BUYER+SELLER+4+32+UNG'UCF+G2+BUYER+SELLER+7'UCM+1+TSTORD:D:96A:UN+4+12+UNH+3'UCS+2+15'UCF+G3+BUYER+SELLER+4+31+UNH'UNT+8+1'UNZ+1+C1'".as_slice()
+            == b"UCI+R1+BUYER+SELLER+7'UCF+G?'1+B+S+4+32+UNG'UCF+G2+B+S+7'UCM+1++4+29+UNT+2'UCS+2'UCD+39+2:3'UCD+16+3'UCS+4+13'UNT+10+1'UNZ+1+C1'".as_slice()
     );
+    Ok(())
+}
+
+#[test]
+fn an_interchange_without_groups_is_answered(rt: HostRuntime) -> Result<(), Fail> {
+    let alloc = rt.alloc();
+    let unknown = error(5, b"UNH", (2, 0), Kind::NoTable);
+    let last = error(1_000_009, b"DTM", (1, 0), Kind::Missing);
+    let far = error(1_000_010, b"DTM", (1, 0), Kind::Missing);
+    let end = error(2_000_002, b"UNZ", (2, 0), Kind::Reference);
+    #[rattlefmt::skip]
+    let rows: [(&[ErrorLine], &[u8]); 4] = [
+        (&[], b"UCI+R1+BUYER+SELLER+7'UNT+3+1'UNZ+1+C1'"),
+        (&[unknown], b"UCI+R1+BUYER+SELLER+7'UCM+1++4+12+UNH+3'UNT+4+1'UNZ+1+C1'"),
+        (&[last, far], b"UCI+R1+BUYER+SELLER+7'UCM+2++4'UCS+999999'UCD+13+2'UNT+6+1'UNZ+1+C1'"),
+        (&[unknown, end], b"UCI+R1+BUYER+SELLER+4+28+UNZ+3'UNT+3+1'UNZ+1+C1'"),
+    ];
+    for (errors, text) in rows {
+        let summary = summary(alloc, List::of(Vec::new(alloc)), errors)?;
+        assert!(rt; body(alloc, &summary)?.octets() == text);
+    }
     Ok(())
 }

@@ -15,15 +15,16 @@ use Rattle.error_ledger.specs.declared.kind.Kind.TheVariants.{Missing}
 use Rattle.dir_compile.specs.declared.parts.Parts.{Parts}
 use Rattle.service_tables.specs.ServiceTables.{service_items_of, service_parts_of}
 use Rattle.seg_lexer.specs.Fields.{Component}
+use Rattle.seg_lexer.specs.Tag.{tag_of}
 use Rattle.seg_lexer.specs.declared.context.Context.{Context}
-use Rattle.element_check.specs.Local.{error_at, is_filled, local_errors_of}
+use Rattle.element_check.specs.Local.{elements_errors, error_at, errors_by, errors_tagged, is_filled, local_errors_of}
 use Rattle.element_check.specs.Repertoire.{is_admitted}
 use Rattle.element_check.specs.Rules.{SegmentRules, list_of, parts_of, rules_of, service_rules}
 use Rattle.element_check.specs.Streams.{after_front, alone_errors, composite_errors, item_errors, items_errors, part_errors, parts_errors, test_results, told_errors}
 use Rattle.element_check.specs.Local.{is_list_named}
 use Rattle.element_check.specs.Value.{counted_length, has_foreign, is_decimal, is_numeric}
 use Rattle.element_check.specs.declared.error.LocalError.{LocalError}
-use Rattle.element_check.proofs.BridgeLemmas.{elements-walk, errors-known}
+use Rattle.element_check.proofs.BridgeLemmas.{elements-walk}
 use Rattle.contrl_writer.specs.ReadBack.{components_read, element_read, values_read}
 use Rattle.contrl_writer.specs.Written.{Element, Segment, alone, is_empty_element, is_empty_value, trimmed}
 use Rattle.contrl_laws.proofs.Numbered.{after-numbered, all_numbered, front-numbered, numbered-order, numbered-tag}
@@ -31,6 +32,13 @@ use Rattle.contrl_laws.proofs.Numbered.{after-numbered, all_numbered, front-numb
 -- the rules of a service segment
 abbrev pub rules_for : Context → List ItemDef → SegmentRules
 rules_for context items = record { context = context; items = items; directory = None }
+
+-- the errors of a segment whose tag has rules are those of its elements
+pub errors-known : (parts : Parts) (context : Context) (components : List Component) (tag : List ℕ) (rules : SegmentRules)
+    → tag_of components ≡ Some tag → rules_of parts context tag ≡ Some rules → elements_errors rules components ≡ local_errors_of parts context components
+unfolding local_errors_of
+errors-known parts context components tag rules tagged known =
+    sym (ap (errors_tagged parts context components) tagged ∙ ap (errors_by components) known)
 
 -- a value passes the tests of a representation
 pub record Passes (context : Context) (repr : Repr) (value : List ℕ) : Type 0 where

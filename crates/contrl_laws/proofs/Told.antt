@@ -29,11 +29,11 @@ use Rattle.element_check.specs.Local.{elements_errors, error_at, is_filled, is_l
 use Rattle.element_check.specs.Rules.{SegmentRules, list_of, parts_of, rules_of, service_rules}
 use Rattle.element_check.specs.Streams.{after_front, composite_errors, first_value, front_values, item_errors, items_errors, later_values, part_errors, parts_errors, surplus_components, test_results, told_errors}
 use Rattle.element_check.specs.declared.error.LocalError.{LocalError}
-use Rattle.element_check.proofs.BridgeLemmas.{elements-walk, errors-known}
+use Rattle.element_check.proofs.BridgeLemmas.{elements-walk}
 use Rattle.segment_records.specs.Segments.{Segment, segment_between, segments_by, segments_in, tag_read, value_in}
 use Rattle.contrl_writer.proofs.PieceLemmas.{component_piece, components-are, element_pieces, pieces}
 use Rattle.contrl_laws.proofs.Each.{Each}
-use Rattle.contrl_laws.proofs.Items.{AllFalse, IsGoodValue, Passes, list-none, rules_for}
+use Rattle.contrl_laws.proofs.Items.{AllFalse, IsGoodValue, Passes, errors-known, list-none, rules_for}
 use Rattle.contrl_laws.proofs.Numbered.{after-numbered, all_numbered, component_of, front-numbered, numbered-order, numbered-value}
 
 -- components are numbered

@@ -1,5 +1,5 @@
 -- For bodies: what a run on a directory begins with, one thing after the other, and what comes in the place of each.
-use Rattle.std.specs.Prelude.{◌≡◌, ◌⊎◌, ℕ, List, Option, Some, IfSome, Result, Ok, Err}
+use Rattle.std.specs.Prelude.{◌≡◌, ◌⊎◌, ℕ, List, Option, Some, IfSome, Result, Err}
 use Rattle.edi_ports.specs.Faults.{HasRisen}
 use Rattle.edi_ports.specs.Named.{octets_named}
 use Rattle.edi_ports.specs.declared.named.Unread.{Unread}

@@ -1,5 +1,5 @@
 -- For bodies: what follows of what words ask for, by `form_of`.
-use Rattle.std.specs.Prelude.{ℕ, ⊤, IsTrue, List, Option, Some}
+use Rattle.std.specs.Prelude.{⊤, IsTrue, Option, Some}
 use Rattle.contrl_writer.specs.Stamp.{IsStamp, is_reference_of}
 use Rattle.drill_printer.specs.Drill.{IsDrill}
 use Rattle.edicheck_core.specs.Form.{Asked, Question, Errors, Answer, About, Edit, Drill}

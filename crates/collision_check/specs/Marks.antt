@@ -1,4 +1,5 @@
--- The numbers of a table's tags, and what is known of each tag after an entry. Bodies and their invariants need it alone.
+-- The numbers of a table's tags, and what is known of each tag after an entry. Bodies and their invariants need it
+-- alone.
 use Rattle.std.specs.Prelude.{◌≡◌, ◌≤◌, ℕ, Bool, true, false, ◌==◌, List, Option, Some, None, map, find, cond, length, slice_get, slice_set, unwrap_or, if◌then◌else◌}
 use Rattle.std.specs.List.{range_with_len}
 use Rattle.std.specs.Str.{bytes_eq}
@@ -70,4 +71,5 @@ abbrev pub Numbers : Option Tag → ℕ → (List ℕ → Option ℕ) → (List 
 Numbers None i old new number = (number ≡ None) × ((octets : List ℕ) → new octets ≡ old octets)
 Numbers (Some tag) i old new number =
     (number ≡ Some (unwrap_or (old tag.octets) i))
-    × ((octets : List ℕ) → new octets ≡ cond (bytes_eq tag.octets octets) (Some (unwrap_or (old tag.octets) i)) (old octets))
+    × ((octets : List ℕ)
+    → new octets ≡ cond (bytes_eq tag.octets octets) (Some (unwrap_or (old tag.octets) i)) (old octets))

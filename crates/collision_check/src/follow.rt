@@ -22,7 +22,8 @@ pub fn pairs(
     requires numbers { numbers.now ≡ numbers_of table.now }
     requires marks { length marks.old ≡ length table.now }
     requires fresh { IsFresh entry marks.old }
-    ensures pairs { IfOk result (λ pairs. pairs.items ≡ shared_pairs table.now (followers_of table.now entry)) }
+    ensures pairs { IfOk result
+        (λ pairs. pairs.items ≡ shared_pairs table.now (followers_of table.now entry)) }
     ensures fresh { IfOk result (λ _. IsFresh (entry + 1) marks.new) }
 {
     let first_must = table.first_must_after(entry);
@@ -49,8 +50,10 @@ fn first_met(
     follower: u16,
 ) -> Option<u16>
     requires within { follower < length numbers.now }
-    requires marked { ForSome (slice_index_or numbers.now follower None) (λ n. n < length marks.old) }
-    ensures { MeetsNumber (slice_index_or numbers.now follower None) entry follower marks.old marks.new result }
+    requires marked { ForSome (slice_index_or numbers.now follower None)
+        (λ n. n < length marks.old) }
+    ensures { MeetsNumber (slice_index_or numbers.now follower None) entry follower
+        marks.old marks.new result }
 {
     match numbers[usize::from(follower)] {
         Some(number) => meet(marks, entry, number, follower),

@@ -36,7 +36,9 @@ fn is_in_front(table: &Table, entry: u16, before: u16) -> bool
 fn is_on_the_way(table: &Table, entry: u16, node: u16) -> bool
     requires within { entry < length table.now }
     requires node { node < length table.now }
-    ensures { result ≡ list_all (λ g. is_must_at table.now g || list_any (nat_eq g) (groups_round table.now entry)) (groups_round table.now node) }
+    ensures { result ≡ list_all
+        (λ g. is_must_at table.now g || list_any (nat_eq g) (groups_round table.now entry))
+        (groups_round table.now node) }
 {
     for group in table.groups_round(usize::from(node)) {
         if !table.node(usize::from(group)).must && !table.is_round(entry, group) {

@@ -26,8 +26,10 @@ pub struct Collision {
 
 /// The collisions of a table, by the entry that stands before the shared tag, in table order.
 pub fn list_collisions(alloc: Global, table: &Table) -> Result<Vec<Collision>, AllocError>
-    ensures listed { IfOk result (λ collisions. map collision_seen collisions.items ≡ collisions_of table.now) }
-    ensures ambiguous { IfOk result (λ collisions. All (λ c. IsAmbiguous table.now (collision_seen c)) collisions.items) }
+    ensures listed { IfOk result
+        (λ collisions. map collision_seen collisions.items ≡ collisions_of table.now) }
+    ensures ambiguous { IfOk result
+        (λ collisions. All (λ c. IsAmbiguous table.now (collision_seen c)) collisions.items) }
     ensures only { IfOk result
         (λ collisions. collisions.items ≡ []
         → (tags : List Tag)
@@ -69,7 +71,8 @@ fn push_collisions(
     requires numbers { numbers.now ≡ numbers_of table.now }
     requires marks { length marks.old ≡ length table.now }
     requires fresh { IsFresh entry marks.old }
-    ensures listed { IfOk result (λ _. map collision_seen collisions.new.items ≡ map collision_seen collisions.old.items ++ collisions_at table.now entry) }
+    ensures listed { IfOk result (λ _. map collision_seen collisions.new.items
+        ≡ map collision_seen collisions.old.items ++ collisions_at table.now entry) }
     ensures fresh { IfOk result (λ _. IsFresh (entry + 1) marks.new) }
 {
     if table.is_group(usize::from(entry)) {
@@ -91,7 +94,9 @@ fn push_pairs(
     pairs: &[(u16, u16)],
     collisions: &mut Vec<Collision>,
 ) -> Result<(), AllocError>
-    ensures { IfOk result (λ _. map collision_seen collisions.new.items ≡ map collision_seen collisions.old.items ++ map (λ pair. with_followers table.now front.now pair.0 pair.1) pairs.now) }
+    ensures { IfOk result (λ _. map collision_seen collisions.new.items
+        ≡ map collision_seen collisions.old.items
+        ++ map (λ pair. with_followers table.now front.now pair.0 pair.1) pairs.now) }
 {
     for pair in pairs {
         collisions.push(colliding(alloc, table, front, pair.0, pair.1)?)?;
@@ -107,7 +112,8 @@ fn colliding(
     first: u16,
     second: u16,
 ) -> Result<Collision, AllocError>
-    ensures { IfOk result (λ c. collision_seen c ≡ with_followers table.now front.now first second) }
+    ensures { IfOk result
+        (λ c. collision_seen c ≡ with_followers table.now front.now first second) }
 {
     let first = with_last(alloc, front, first)?;
     let second = with_last(alloc, front, second)?;

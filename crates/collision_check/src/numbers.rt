@@ -48,7 +48,8 @@ fn number(
     node: &Node,
     place: u16,
 ) -> Result<Option<u16>, AllocError>
-    ensures { IfOk result (λ number. Numbers node.now.tag place (get bytes_eq first.old) (get bytes_eq first.new) number) }
+    ensures { IfOk result (λ number.
+        Numbers node.now.tag place (get bytes_eq first.old) (get bytes_eq first.new) number) }
 {
     let Some(tag) = node.tag else {
         return Ok(None);

@@ -16,7 +16,8 @@ use Rattle.edi_octets.specs.Head.{is_code_and_name, head_faults, code_of}
 abbrev pub is_text : Line → Bool
 is_text line =
     let fields = fields_of line.octets in
-    begins_with_word (codes "Desc:") fields || begins_with_word (codes "Repr:") fields || begins_with_word (codes "Note:") fields || nat_le 10 (indentation_of line.octets)
+    begins_with_word (codes "Desc:") fields || begins_with_word (codes "Repr:") fields
+    || begins_with_word (codes "Note:") fields || nat_le 10 (indentation_of line.octets)
 
 -- a code of 1 to 35 octets
 abbrev pub is_value : List ℕ → Bool
@@ -25,7 +26,8 @@ is_value field = nat_le 1 (length field) && nat_le (length field) 35
 -- a line of a code: indented by 1 to 7, a code and a name
 abbrev pub is_value_line : Line → Bool
 is_value_line line =
-    not (is_text line) && nat_le 1 (indentation_of line.octets) && nat_le (indentation_of line.octets) 7 && is_code_and_name is_value (fields_of line.octets)
+    not (is_text line) && nat_le 1 (indentation_of line.octets) && nat_le (indentation_of line.octets) 7
+    && is_code_and_name is_value (fields_of line.octets)
 
 -- the code of a line
 abbrev pub value_of : Line → List ℕ
@@ -39,7 +41,8 @@ values_of lines = map value_of (filter is_value_line lines)
 abbrev pub body_faults : List Line → Line → List DirFault
 body_faults earlier line =
     if is_text line then []
-    else (if not (is_value_line line) then at_line BadLine line ∷ [] else (if list_any (bytes_eq (value_of line)) (values_of earlier) then at_line Twice line ∷ [] else []))
+    else (if not (is_value_line line) then at_line BadLine line ∷ []
+    else (if list_any (bytes_eq (value_of line)) (values_of earlier) then at_line Twice line ∷ [] else []))
 
 -- an entry after these: its head, and its lines in order
 abbrev pub list_faults : List (List Line) → List Line → List DirFault

@@ -28,7 +28,8 @@ repr_of_line line = repr_behind_word (fields_of line.octets)
 abbrev pub body_faults : List Line → Line → List DirFault
 body_faults earlier line =
     if not (is_repr_line line) then []
-    else (if list_any is_repr_line earlier then at_line BadLine line ∷ [] else (if is_some (repr_of_line line) then [] else at_line BadRepr line ∷ []))
+    else (if list_any is_repr_line earlier then at_line BadLine line ∷ []
+    else (if is_some (repr_of_line line) then [] else at_line BadRepr line ∷ []))
 
 -- an entry has a `Repr:` line; this is judged where it ends
 abbrev pub end_faults : Line → List Line → List DirFault
@@ -38,7 +39,8 @@ end_faults head body = if list_any is_repr_line body then [] else at_line NoRepr
 abbrev pub element_faults : List (List Line) → List Line → List DirFault
 element_faults earlier [] = []
 element_faults earlier (head ∷ body) =
-    head_faults is_element_code earlier head ++ flat_map (λ p. body_faults p.0 p.1) (with_earlier body) ++ end_faults head body
+    head_faults is_element_code earlier head
+    ++ flat_map (λ p. body_faults p.0 p.1) (with_earlier body) ++ end_faults head body
 
 -- the data element of an entry
 abbrev pub element_with : List Line → Option Repr → Option ElementDef

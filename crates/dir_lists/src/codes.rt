@@ -63,7 +63,8 @@ fn read_values(alloc: Global, body: Body<'_>) -> Result<Vec<Chunk>, DirStop>
 fn read_line<'a>(line: &LineText<'a>, seen: &mut Seen<'a>) -> Result<(), DirStop>
     ensures judged { (earlier : List Line) → seen.old ≡ codes.values_of earlier
         → Answers (λ done. done) fault_in result (unless_faulty (codes.body_faults earlier (line_shown line.now)) tt) }
-    ensures joins { OnOk result (seen.new ≡ seen.old ++ codes.values_of (line_shown line.now ∷ [])) }
+    ensures joins { OnOk result
+        (seen.new ≡ seen.old ++ codes.values_of (line_shown line.now ∷ [])) }
 {
     if is_text(line) {
         return Ok(());

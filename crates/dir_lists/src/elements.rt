@@ -60,7 +60,9 @@ fn read_body(entry: &Entry<'_>) -> Result<Repr, DirStop>
 
 /// Reads a line of an entry after others, in which this representation was found: what is found with it.
 fn read_line(line: &LineText<'_>, found: Option<Repr>) -> Result<Option<Repr>, DirStop>
-    ensures { (earlier : List Line) → found ≡ repr_of_entry earlier → is_some found ≡ list_any is_repr_line earlier
+    ensures { (earlier : List Line)
+        → found ≡ repr_of_entry earlier
+        → is_some found ≡ list_any is_repr_line earlier
         → Answers (λ found. found) fault_in result (unless_faulty (body_faults earlier (line_shown line.now))
         (repr_of_entry (earlier ++ line_shown line.now ∷ []))) }
 {

@@ -15,7 +15,8 @@ pub(crate) fn read_head<'a>(head: &LineText<'a>, seen: &mut Seen<'a>) -> Result<
     ensures judged { (earlier : List (List Line)) → seen.old ≡ map head_field earlier
         → Answers (λ code. code) fault_in result (unless_faulty (head_faults is_element_code earlier (line_shown head.now))
         (record { octets = head_field (line_shown head.now ∷ []) })) }
-    ensures joins { OnOk result (seen.new ≡ seen.old ++ head_field (line_shown head.now ∷ []) ∷ []) }
+    ensures joins { OnOk result
+        (seen.new ≡ seen.old ++ head_field (line_shown head.now ∷ []) ∷ []) }
 {
     seen.read_head(head, read_element_code(head.first_field()))
 }

@@ -43,7 +43,8 @@ pub fn read_records<O: Octets, L: Ledger, M: Ledger>(
     ensures records { IfOk result (λ records. records.items
         ≡ records_from directory.now context.now before.now (drop from (O.octets text.now))) }
     // Octets after whole segments are read by themselves, and a segment that bounds an extent forgets the mode before it.
-    ensures apart { (front back : List ℕ) → WholeThenMore directory.now context.now before.now front back }
+    ensures apart { (front back : List ℕ)
+        → WholeThenMore directory.now context.now before.now front back }
     ensures forgets { (segment : Segment) → ForgetsBefore directory.now segment }
     ensures lexed { lexed.new ≤ lexed.old
         + (length (segments_by (at_start context.now.service) (drop from (O.octets text.now))) + 1) }

@@ -6,4 +6,6 @@ use Rattle.std.specs.Str.Parse.{digits_value}
 -- the number that 1 to 19 digits give; other octets give none
 abbrev pub decimal_in : List ℕ → Option ℕ
 decimal_in part =
-    if nat_le 1 (length part) && nat_le (length part) 19 && all_ascii_digits part then Some (digits_value 10 part) else None
+    if nat_le 1 (length part) && nat_le (length part) 19 && all_ascii_digits part
+    then Some (digits_value 10 part)
+    else None

@@ -27,4 +27,6 @@ code_of entry = record { octets = head_field entry }
 abbrev pub head_faults : (List ℕ → Bool) → List (List Line) → Line → List DirFault
 head_faults is_code earlier head =
     if not (is_code_and_name is_code (fields_of head.octets)) then at_line BadCode head ∷ []
-    else (if list_any (λ entry. bytes_eq (head_field entry) (first_field (fields_of head.octets))) earlier then at_line Twice head ∷ [] else [])
+    else (if list_any (λ entry. bytes_eq (head_field entry) (first_field (fields_of head.octets))) earlier
+    then at_line Twice head ∷ []
+    else [])

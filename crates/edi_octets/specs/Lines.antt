@@ -14,9 +14,13 @@ is_filled (x ∷ xs) = true
 
 -- a line that LF ends, without one CR directly before it
 abbrev pub without_return : List ℕ → List ℕ
-without_return octets = if is_filled octets then (if slice_index octets (length octets - 1) == 13 then take (length octets - 1) octets else octets) else octets
+without_return octets =
+    if is_filled octets
+    then (if slice_index octets (length octets - 1) == 13 then take (length octets - 1) octets else octets)
+    else octets
 
--- what stands between line ends, as lines: each part but the last ended with LF; the last is a line where it isn't empty
+-- what stands between line ends, as lines: each part but the last ended with LF; the last is a line where it isn't
+-- empty
 abbrev pub line_octets : List (List ℕ) → List (List ℕ)
 line_octets [] = []
 line_octets (last ∷ []) = if is_filled last then last ∷ [] else []

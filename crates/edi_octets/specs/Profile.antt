@@ -48,7 +48,8 @@ is_separator_of fields = false
 abbrev pub is_separator : Line → Bool
 is_separator line = is_separator_of (fields_of line.octets)
 
--- the entries of a file: what stands after its first separator, cut at separators, without blank lines; a part without a line is nothing
+-- the entries of a file: what stands after its first separator, cut at separators, without blank lines; a part without
+-- a line is nothing
 unfoldable pub entries_of : List Line → List (List Line)
 entries_of lines = filter is_filled (map (filter is_written) (drop 1 (slice_split is_separator lines)))
 
@@ -82,7 +83,9 @@ has_digits n field = length field == n && all_ascii_digits field
 -- a length is a number from 1 to 9999 without leading zero
 abbrev pub length_in : List ℕ → Option ℕ
 length_in field =
-    if nat_le 1 (length field) && nat_le (length field) 4 && all_ascii_digits field && not (slice_index field 0 == 48) then Some (digits_value 10 field) else None
+    if nat_le 1 (length field) && nat_le (length field) 4 && all_ascii_digits field && not (slice_index field 0 == 48)
+    then Some (digits_value 10 field)
+    else None
 
 -- the representation of a class with a length after it, exact where no `..` stands between
 abbrev pub sized_repr : Class → Bool → Option ℕ → Option Repr
@@ -91,12 +94,15 @@ sized_repr class exact (Some max) = Some (record { class = class; exact = exact;
 
 abbrev pub repr_behind : Class → List ℕ → Option Repr
 repr_behind class rest =
-    if slice_index rest 0 == 46 && slice_index rest 1 == 46 then sized_repr class false (length_in (drop 2 rest)) else sized_repr class true (length_in rest)
+    if slice_index rest 0 == 46 && slice_index rest 1 == 46
+    then sized_repr class false (length_in (drop 2 rest))
+    else sized_repr class true (length_in rest)
 
 -- a representation is `a`, `n` or `an`, perhaps `..`, and a length
 unfoldable pub repr_in : List ℕ → Option Repr
 repr_in field =
-    if slice_index field 0 == 97 then (if slice_index field 1 == 110 then repr_behind An (drop 2 field) else repr_behind A (drop 1 field))
+    if slice_index field 0 == 97
+    then (if slice_index field 1 == 110 then repr_behind An (drop 2 field) else repr_behind A (drop 1 field))
     else (if slice_index field 0 == 110 then repr_behind N (drop 1 field) else None)
 
 -- a status is `M`, mandatory, or `C`, conditional
@@ -108,6 +114,14 @@ status_in field = None
 abbrev pub first_field : List (List ℕ) → List ℕ
 first_field [] = []
 first_field (field ∷ fields) = field
+
+-- a line begins with a position of so many digits
+abbrev pub has_position : ℕ → Line → Bool
+has_position n line = has_digits n (first_field (fields_of line.octets))
+
+-- the position that it begins with
+abbrev pub position_of : Line → ℕ
+position_of line = digits_value 10 (first_field (fields_of line.octets))
 
 -- the line's first field is this word
 abbrev pub begins_with_word : List ℕ → List (List ℕ) → Bool

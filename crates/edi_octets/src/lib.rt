@@ -20,7 +20,7 @@ pub use name::is_name;
 pub use octets::{Flat, Octets};
 pub use profile::{
     after_position, is_composite_code, is_element_code, is_greater, is_lone_mark,
-    read_composite_code, read_element_code, read_repr, read_status,
+    read_composite_code, read_element_code, read_position, read_repr, read_status,
 };
 pub use seen::Seen;
 

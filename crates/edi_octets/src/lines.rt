@@ -165,7 +165,8 @@ impl<'a> LineText<'a> {
 
 /// What stands behind the marks in front of a line, where those are read as spaces; else the line.
 fn behind_marks(line: &[u8]) -> &[u8]
-    ensures { result.now ≡ (if is_marked line.now then drop (marks_of line.now) line.now else line.now) }
+    ensures { result.now
+        ≡ (if is_marked line.now then drop (marks_of line.now) line.now else line.now) }
 {
     let marks = marks_in_front(line);
     if marks <= MOST_MARKS && (marks == line.len() || line[marks] == b' ') {

@@ -1,11 +1,12 @@
 //! The words of the directory text profile.
-ghost use Rattle.std.specs.Prelude.{◌≡◌, ◌==◌, Some, None, drop, slice_index, if◌then◌else◌};
+ghost use Rattle.std.specs.Prelude.{◌≡◌, ◌==◌, ◌<◌, ◌≤◌, Some, None, drop, slice_index, if◌then◌else◌};
 ghost use Rattle.edi_tables.specs.Forms as forms;
 ghost use Rattle.edi_octets.specs.Profile as profile;
-ghost use Rattle.edi_octets.specs.Left.{cells_left};
+ghost use Rattle.edi_octets.specs.Left.{cells_left, line_shown};
 
 use crate::cells::Cells;
 use crate::decimal::{are_digits, read_decimal};
+use crate::lines::LineText;
 use edi_tables::{Class, Code, Repr};
 
 /// The fewest `-` of a separator.
@@ -54,7 +55,8 @@ pub fn is_composite_code(field: &[u8]) -> bool
 
 /// The code of a data element that a field is.
 pub fn read_element_code(field: &[u8]) -> Option<Code>
-    ensures { result ≡ (if forms.is_element_code field.now then Some (record { octets = field.now }) else None) }
+    ensures { result ≡ (if forms.is_element_code field.now
+        then Some (record { octets = field.now }) else None) }
 {
     if is_element_code(field) {
         Code::read(field)
@@ -65,7 +67,8 @@ pub fn read_element_code(field: &[u8]) -> Option<Code>
 
 /// The code of a composite that a field is.
 pub fn read_composite_code(field: &[u8]) -> Option<Code>
-    ensures { result ≡ (if forms.is_composite_code field.now then Some (record { octets = field.now }) else None) }
+    ensures { result ≡ (if forms.is_composite_code field.now
+        then Some (record { octets = field.now }) else None) }
 {
     if is_composite_code(field) {
         Code::read(field)
@@ -89,7 +92,9 @@ pub fn read_repr(field: &[u8]) -> Option<Repr>
 
 /// The representation that an `a` with this behind it is.
 fn read_behind_a(rest: &[u8]) -> Option<Repr>
-    ensures { result ≡ (if slice_index rest.now 0 == 110 then profile.repr_behind Class.An (drop 1 rest.now) else profile.repr_behind Class.A rest.now) }
+    ensures { result ≡ (if slice_index rest.now 0 == 110
+        then profile.repr_behind Class.An (drop 1 rest.now)
+        else profile.repr_behind Class.A rest.now) }
 {
     match rest {
         [b'n', rest @ ..] => read_sized(Class::An, rest),
@@ -135,6 +140,21 @@ pub fn read_status(field: &[u8]) -> Option<bool>
         b"C" => Some(false),
         _ => None,
     }
+}
+
+/// The position that a line begins with: its first field, where that has so many digits and no other octet.
+pub fn read_position(line: &LineText<'_>, digits: usize) -> Option<u64>
+    requires some { 0 < digits }
+    requires few { digits ≤ 19 }
+    ensures { let shown = line_shown line.now in
+        result ≡ (if profile.has_position digits shown
+        then Some (profile.position_of shown) else None) }
+{
+    let field = line.first_field();
+    if field.len() != digits {
+        return None;
+    }
+    read_decimal(field)
 }
 
 /// Whether a position is greater than the one before, if there is one.

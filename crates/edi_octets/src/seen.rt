@@ -45,7 +45,8 @@ impl<'a> Seen<'a> {
     /// Puts a word at the end unless it is there, and tells whether it is new.
     pub fn add(&mut self, word: &'a [u8]) -> Result<bool, AllocError>
         ensures new { IfOk result (λ new. new ≡ not (list_any (bytes_eq word.now) self.old)) }
-        ensures words { IfOk result (λ new. self.new ≡ (if new then self.old ++ word.now ∷ [] else self.old)) }
+        ensures words { IfOk result
+            (λ new. self.new ≡ (if new then self.old ++ word.now ∷ [] else self.old)) }
     {
         Ok(self.words.insert(word)?)
     }
@@ -57,7 +58,8 @@ impl<'a> Seen<'a> {
             → code ≡ (if is_code (first_field (fields_of head.now.octets.now)) then Some coded else None)
             → self.old ≡ map head_field earlier
             → Answers (λ code. code) fault_in result (unless_faulty (head_faults is_code earlier (line_shown head.now)) coded) }
-        ensures joins { OnOk result (self.new ≡ self.old ++ first_field (fields_of head.now.octets.now) ∷ []) }
+        ensures joins { OnOk result
+            (self.new ≡ self.old ++ first_field (fields_of head.now.octets.now) ∷ []) }
     {
         let Some(code) = code else {
             return Err(head.breaks(DirKind::BadCode));

@@ -10,7 +10,9 @@ use Rattle.edi_tables.specs.Placement.{is_filled}
 -- going from f to c: a repeated group, or f itself, stands a second time only where its greatest count is 2 or more
 abbrev pub may_stand_again : List Node → ℕ → ℕ → Bool
 may_stand_again nodes f c =
-    if is_repeat nodes f c then nat_le 2 (max_at nodes (c - 1)) else (if c == f then nat_le 2 (max_at nodes f) else true)
+    if is_repeat nodes f c
+    then nat_le 2 (max_at nodes (c - 1))
+    else (if c == f then nat_le 2 (max_at nodes f) else true)
 
 -- a follower of f: a candidate with nothing missing; f itself and a group round f only where a second one is allowed
 abbrev pub is_follower : List Node → ℕ → ℕ → Bool
@@ -20,11 +22,13 @@ is_follower nodes f c = not (is_filled (missing_between nodes f c)) && may_stand
 unfoldable pub followers_of : List Node → ℕ → List ℕ
 followers_of nodes f = filter (is_follower nodes f) (candidates_of nodes f)
 
--- an entry e stands in the front of f: f itself, or a mandatory entry before it, in groups that are mandatory or round f
+-- an entry e stands in the front of f: f itself, or a mandatory entry before it, in groups that are mandatory or round
+-- f
 abbrev pub is_in_front : List Node → ℕ → ℕ → Bool
 is_in_front nodes f e =
     not (is_group_at nodes e)
-    && (e == f || is_must_at nodes e && list_all (λ g. is_must_at nodes g || list_any (nat_eq g) (groups_round nodes f)) (groups_round nodes e))
+    && (e == f || is_must_at nodes e
+    && list_all (λ g. is_must_at nodes g || list_any (nat_eq g) (groups_round nodes f)) (groups_round nodes e))
 
 -- the front of an entry, in table order: the shortest way to it
 unfoldable pub front_of : List Node → ℕ → List ℕ

@@ -19,11 +19,14 @@ abbrev pub next_of : List (List ℕ) → List (Option Tag) → ℕ → Option �
 next_of names tags i =
     find (λ j. list_any (λ name. has_name name (tag_in tags j)) names) (range_with_len (i + 1) (length tags - (i + 1)))
 
--- the extent that opens at place i and stops at a place: a closing segment belongs to it, any other doesn't, and without one it runs to the last
+-- the extent that opens at place i and stops at a place: a closing segment belongs to it, any other doesn't, and
+-- without one it runs to the last
 abbrev pub extent_to : List ℕ → List (Option Tag) → ℕ → Option ℕ → Extent
 extent_to closing tags i None = record { first = i + 1; last = length tags; closed = false }
 extent_to closing tags i (Some j) =
-    if has_name closing (tag_in tags j) then record { first = i + 1; last = j + 1; closed = true } else record { first = i + 1; last = j; closed = false }
+    if has_name closing (tag_in tags j)
+    then record { first = i + 1; last = j + 1; closed = true }
+    else record { first = i + 1; last = j; closed = false }
 
 abbrev pub extent_at : List ℕ → List ℕ → List (List ℕ) → List (Option Tag) → ℕ → Option Extent
 extent_at opening closing stops tags i =
@@ -32,12 +35,17 @@ extent_at opening closing stops tags i =
 -- a message runs from a UNH to the first of UNT, UNH, UNE, UNG, UNZ, UNB after it; a UNT closes it
 unfoldable pub message_extents : List (Option Tag) → List Extent
 message_extents tags =
-    filter_map (extent_at (codes "UNH") (codes "UNT") (codes "UNT" ∷ codes "UNH" ∷ codes "UNE" ∷ codes "UNG" ∷ codes "UNZ" ∷ codes "UNB" ∷ []) tags) (range_with_len 0 (length tags))
+    filter_map
+    (extent_at (codes "UNH") (codes "UNT")
+    (codes "UNT" ∷ codes "UNH" ∷ codes "UNE" ∷ codes "UNG" ∷ codes "UNZ" ∷ codes "UNB" ∷ []) tags)
+    (range_with_len 0 (length tags))
 
 -- a functional group runs from a UNG to the first of UNE, UNG, UNZ, UNB after it; a UNE closes it
 unfoldable pub group_extents : List (Option Tag) → List Extent
 group_extents tags =
-    filter_map (extent_at (codes "UNG") (codes "UNE") (codes "UNE" ∷ codes "UNG" ∷ codes "UNZ" ∷ codes "UNB" ∷ []) tags) (range_with_len 0 (length tags))
+    filter_map
+    (extent_at (codes "UNG") (codes "UNE") (codes "UNE" ∷ codes "UNG" ∷ codes "UNZ" ∷ codes "UNB" ∷ []) tags)
+    (range_with_len 0 (length tags))
 
 -- the segment at place i lies in an extent
 abbrev pub lies_in : ℕ → Extent → Bool

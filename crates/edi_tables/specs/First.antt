@@ -6,7 +6,8 @@ abbrev pub unless_faulty : {F A : Type 0} → List F → A → Result A F
 unless_faulty [] value = Ok value
 unless_faulty (fault ∷ faults) value = Err fault
 
--- what was answered, seen by a view, is what was due; a stop that tells no fault, as want of memory, may come at any time
+-- what was answered, seen by a view, is what was due; a stop that tells no fault, as want of memory, may come at any
+-- time
 abbrev pub Answers : {X Y E F : Type 0} → (X → Y) → (E → Option F) → Result X E → Result Y F → Type 0
 Answers view fault_in (Ok found) due = due ≡ Ok (view found)
 Answers view fault_in (Err stop) due = IfSome (fault_in stop) (λ fault. due ≡ Err fault)

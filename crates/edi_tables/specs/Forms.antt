@@ -54,7 +54,8 @@ is_part_formed part = is_element_code part.code.octets && is_repr_formed part.re
 
 abbrev pub is_composite_formed : CompositeDef → Bool
 is_composite_formed composite =
-    is_composite_code composite.code.octets && is_count_formed (length composite.parts) && list_all is_part_formed composite.parts
+    is_composite_code composite.code.octets && is_count_formed (length composite.parts)
+    && list_all is_part_formed composite.parts
 
 -- an item is a data element, or names a composite
 abbrev pub is_item_formed : ItemDef → Bool

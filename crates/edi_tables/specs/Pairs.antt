@@ -1,4 +1,5 @@
--- The pairs of a walk: each group round the entry placed last, and that entry, with their counts. They are all that a next step looks at.
+-- The pairs of a walk: each group round the entry placed last, and that entry, with their counts. They are all that a
+-- next step looks at.
 use Rattle.std.specs.Prelude.{◌-◌, ◌+◌, ℕ, Bool, not, ◌==◌, ◌&&◌, nat_le, List, [], ◌∷◌, ◌++◌, map, reverse, Option, if◌then◌else◌}
 use Rattle.edi_tables.specs.declared.table.Node.{Node}
 use Rattle.edi_tables.specs.Walk.{max_at, is_trigger_at, is_repeat, groups_round, missing_between}

@@ -34,8 +34,10 @@ breaks_frame rows i row =
 -- UNB, UNG, UNE and UNZ stand in no table, UNH only first and UNT only last
 abbrev pub breaks_envelope : List TableRow → ℕ → TableRow → Bool
 breaks_envelope rows i row =
-    has_name (codes "UNB") row.tag || has_name (codes "UNG") row.tag || has_name (codes "UNE") row.tag || has_name (codes "UNZ") row.tag
-    || (has_name (codes "UNH") row.tag && not (i == 0)) || (has_name (codes "UNT") row.tag && not (i + 1 == length rows))
+    has_name (codes "UNB") row.tag || has_name (codes "UNG") row.tag
+    || has_name (codes "UNE") row.tag || has_name (codes "UNZ") row.tag
+    || (has_name (codes "UNH") row.tag && not (i == 0))
+    || (has_name (codes "UNT") row.tag && not (i + 1 == length rows))
 
 -- a greatest count is from 1 to 999,999
 abbrev pub breaks_max : TableRow → Bool
@@ -69,8 +71,9 @@ when broken x = if broken then x ∷ [] else []
 
 abbrev pub row_faults : List TableRow → ℕ → TableRow → List TableKind
 row_faults rows i row =
-    when (breaks_frame rows i row) NoUnhUnt ++ when (breaks_envelope rows i row) EnvelopeTag ++ when (breaks_max row) BadMax
-    ++ when (breaks_depth rows i row) BadDepth ++ when (nat_lt 16 row.depth) TooDeep ++ when (breaks_trigger rows i row) NoTrigger
+    when (breaks_frame rows i row) NoUnhUnt ++ when (breaks_envelope rows i row) EnvelopeTag
+    ++ when (breaks_max row) BadMax ++ when (breaks_depth rows i row) BadDepth
+    ++ when (nat_lt 16 row.depth) TooDeep ++ when (breaks_trigger rows i row) NoTrigger
 
 abbrev pub faults_at : List TableRow → ℕ → Option TableRow → List RowFault
 faults_at rows i None = []
@@ -80,7 +83,9 @@ faults_at rows i (Some row) = map (λ kind. record { at = i; kind = kind }) (row
 unfoldable pub table_faults : List TableRow → List RowFault
 table_faults rows =
     if nat_lt 2000 (length rows) then record { at = 2000; kind = TooMany } ∷ []
-    else (if length rows == 0 then record { at = 0; kind = NoUnhUnt } ∷ [] else flat_map (λ i. faults_at rows i (slice_get rows i)) (range_with_len 0 (length rows)))
+    else (if length rows == 0
+    then record { at = 0; kind = NoUnhUnt } ∷ []
+    else flat_map (λ i. faults_at rows i (slice_get rows i)) (range_with_len 0 (length rows)))
 
 -- the depth of the row at i: the number of groups round it
 abbrev pub depth_at : List TableRow → ℕ → ℕ
@@ -93,7 +98,9 @@ parent_of rows i = find (λ j. nat_lt (depth_at rows j) (depth_at rows i)) (reve
 -- the first row after i that is no deeper: one past its last descendant
 unfoldable pub end_of : List TableRow → ℕ → ℕ
 end_of rows i =
-    unwrap_or (find (λ j. nat_le (depth_at rows j) (depth_at rows i)) (range_with_len (i + 1) (length rows - (i + 1)))) (length rows)
+    unwrap_or
+    (find (λ j. nat_le (depth_at rows j) (depth_at rows i)) (range_with_len (i + 1) (length rows - (i + 1))))
+    (length rows)
 
 -- the node of the row at i
 abbrev pub node_of : List TableRow → ℕ → TableRow → Node

@@ -73,16 +73,20 @@ candidates_of nodes f = itself nodes f ++ outward nodes f (groups_round nodes f)
 -- the nodes after an entry up to the table's end, each level that is left with its later siblings, ascending
 unfoldable pub later_nodes : List Node → ℕ → List ℕ
 later_nodes nodes f =
-    filter (λ j. list_any (λ i. nat_lt i j && are_siblings nodes i j) (f ∷ groups_round nodes f)) (range_with_len (f + 1) (length nodes - (f + 1)))
+    filter (λ j. list_any (λ i. nat_lt i j && are_siblings nodes i j) (f ∷ groups_round nodes f))
+    (range_with_len (f + 1) (length nodes - (f + 1)))
 
 -- going to c from f repeats a group: c is the trigger of a group round f
 abbrev pub is_repeat : List Node → ℕ → ℕ → Bool
 is_repeat nodes f c = is_trigger_at nodes c && list_any (λ g. g + 1 == c) (groups_round nodes f)
 
--- the node that going from f to c reaches, and passes none from there on: a repeated group is passed to its end, f itself passes none
+-- the node that going from f to c reaches, and passes none from there on: a repeated group is passed to its end, f
+-- itself passes none
 abbrev pub reached_node : List Node → ℕ → ℕ → ℕ
 reached_node nodes f c =
-    if is_repeat nodes f c then end_at nodes (c - 1) else (if c == f then 0 else (if is_trigger_at nodes c then c - 1 else c))
+    if is_repeat nodes f c
+    then end_at nodes (c - 1)
+    else (if c == f then 0 else (if is_trigger_at nodes c then c - 1 else c))
 
 -- the mandatory nodes that going from f to c passes, ascending
 unfoldable pub missing_between : List Node → ℕ → ℕ → List ℕ

@@ -15,7 +15,8 @@ command_text (Contrl stamp reference) = codes "contrl " ++ (stamp_text stamp ++ 
 command_text Text = codes "text" ++ 10 ∷ []
 command_text End = codes "end" ++ 10 ∷ []
 
--- a command of the grammar: numbers of at most 19 digits, at most 4,194,304 octets to put, a stamp and a reference of their form
+-- a command of the grammar: numbers of at most 19 digits, at most 4,194,304 octets to put, a stamp and a reference of
+-- their form
 abbrev pub IsCommand : Command → Type 0
 IsCommand (Replace at cut put) = (at < 10 ^ 19) × (cut < 10 ^ 19) × (length put ≤ 4194304)
 IsCommand Errors = ⊤

@@ -92,7 +92,8 @@ is_empty_group tags i = option_map_or (λ e. messages_in tags e == 0) (group_ope
 unfoldable pub is_of_other_type : List Head → List (Option Tag) → ℕ → Bool
 is_of_other_type heads tags i =
     is_at (codes "UNH") tags i
-    && option_map_or (λ e. differ (message_type_of heads (i + 1)) (message_type_of heads e.first)) (group_at tags i) false
+    && option_map_or (λ e. differ (message_type_of heads (i + 1)) (message_type_of heads e.first))
+    (group_at tags i) false
 
 -- what the first UNZ counts: the groups before it or, where there are none, the messages before it
 abbrev pub counted_at_end : List (Option Tag) → ℕ → ℕ
@@ -102,7 +103,8 @@ counted_at_end tags i =
 abbrev pub count_due_at_end : List (Option Tag) → ℕ → Option ℕ
 count_due_at_end tags i = if is_end tags i then Some (counted_at_end tags i) else None
 
--- the number that a closing segment has to give: that of its message's segments, of its group's messages, or that at the end
+-- the number that a closing segment has to give: that of its message's segments, of its group's messages, or that at
+-- the end
 unfoldable pub count_due : List (Option Tag) → ℕ → Option ℕ
 count_due tags i =
     option_or (option_map segments_in (message_closed_at tags i))

@@ -47,7 +47,8 @@ place_by k mark = option_map (λ kind. record { segment = k; start = mark.start;
 -- where the head at place i is, if the segment there has one of the six tags
 abbrev pub head_place : List SegmentMark → ℕ → Option HeadPlace
 head_place marks i =
-    option_map (λ kind. record { segment = i + 1; start = start_in marks i; kind = kind }) (kind_of (tag_in (tags_of marks) i))
+    option_map (λ kind. record { segment = i + 1; start = start_in marks i; kind = kind })
+    (kind_of (tag_in (tags_of marks) i))
 
 -- the heads are all segments with the six tags, in order
 abbrev pub Fits : List Head → List SegmentMark → Type 0

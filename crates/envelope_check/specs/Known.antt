@@ -180,7 +180,8 @@ miscounts_by (Some head) due = option_map_or (λ n. not (gives head.count n)) du
 
 abbrev pub opening_by : Option HeadKind → Known → Option Head
 opening_by kind known =
-    by_closing kind (option_copied known.message) (option_copied known.group) (if known.ended then None else option_copied known.interchange)
+    by_closing kind (option_copied known.message) (option_copied known.group)
+    (if known.ended then None else option_copied known.interchange)
 
 abbrev pub refers_elsewhere_by : Option Head → Option Head → Bool
 refers_elsewhere_by None opening = false

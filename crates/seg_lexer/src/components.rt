@@ -174,9 +174,11 @@ impl<'a, O: Octets> Fields<'a, O> {
     fn cut(&self, place: Place) -> Cut
         requires { self.now.place ≡ Some place }
         ensures stop { (place.at ≤ result.stop) × (result.stop ≤ self.now.end - self.now.start) }
-        ensures next { let xs = slice_range (O.octets self.now.text.now) self.now.start self.now.end in
+        ensures next { let xs =
+            slice_range (O.octets self.now.text.now) self.now.start self.now.end in
             ForSome result.next (IsPlace self.now.separators.release xs) }
-        ensures rest { let xs = slice_range (O.octets self.now.text.now) self.now.start self.now.end in
+        ensures rest { let xs =
+            slice_range (O.octets self.now.text.now) self.now.start self.now.end in
             rest_of self.now.separators xs (Some place)
             ≡ component_to self.now.separators.release xs place result.stop
             ∷ rest_of self.now.separators xs result.next }

@@ -44,7 +44,8 @@ impl<'a, O: Octets> Value<'a, O> {
     pub(crate) fn new(text: &'a O, release: Option<u8>, from: usize, to: usize) -> Value<'a, O>
         requires ordered { from ≤ to }
         requires within { to ≤ length (O.octets text.now) }
-        ensures octets { octets_of result ≡ value_of release (slice_range (O.octets text.now) from to) }
+        ensures octets { octets_of result
+            ≡ value_of release (slice_range (O.octets text.now) from to) }
         ensures span { span_of result ≡ record { from = from; to = to } }
     {
         Value {

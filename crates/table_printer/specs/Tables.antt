@@ -21,7 +21,8 @@ status_shown false = codes "C"
 -- the line of node k: its number, its depth, what it is called, its status and its greatest count
 unfoldable pub node_line : ℕ → TableRow → List ℕ
 node_line k row =
-    decimal k ++ codes " " ++ decimal row.depth ++ codes " " ++ node_shown row.tag ++ codes " " ++ status_shown row.must ++ codes " " ++ decimal row.max ++ 10 ∷ []
+    decimal k ++ codes " " ++ decimal row.depth ++ codes " " ++ node_shown row.tag
+    ++ codes " " ++ status_shown row.must ++ codes " " ++ decimal row.max ++ 10 ∷ []
 
 -- the lines of nodes, numbered from k
 abbrev pub node_lines_from : ℕ → List TableRow → List ℕ

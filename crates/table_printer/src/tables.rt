@@ -57,7 +57,8 @@ fn put_table(
     message: &MessageDef,
     collisions: &[Collision],
 ) -> Result<(), AllocError>
-    ensures { OnOk result (out.new ≡ out.old ++ table_text message.now (map collision_seen collisions.now)) }
+    ensures { OnOk result
+        (out.new ≡ out.old ++ table_text message.now (map collision_seen collisions.now)) }
 {
     let rows = message.rows.items();
     out.add(b"table ")?;
@@ -121,7 +122,8 @@ fn put_status(out: &mut Chunk, must: bool) -> Result<(), AllocError>
 
 // The lines of collisions.
 fn put_collisions(out: &mut Chunk, collisions: &[Collision]) -> Result<(), AllocError>
-    ensures { OnOk result (out.new ≡ out.old ++ flat_map collision_line (map collision_seen collisions.now)) }
+    ensures { OnOk result
+        (out.new ≡ out.old ++ flat_map collision_line (map collision_seen collisions.now)) }
 {
     for collision in collisions {
         put_collision(out, collision)?;

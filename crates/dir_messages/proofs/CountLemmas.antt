@@ -1,19 +1,16 @@
 -- Digits, greatest counts and group numbers.
-use Rattle.std.proofs.Common.{◌≡◌, ◌≢◌, ℕ, ◌+◌, ◌-◌, ◌*◌, ◌^◌, ◌<◌, ◌≤◌, Bool, true, false, not, ◌==◌, ◌&&◌, ◌||◌, nat_le, cond, if◌then◌else◌, Option, Some, None, List, [], ◌∷◌, length, slice_index, take, drop, count_by, refl, sym, ap, ◌∙◌, subst, ⊎_elim, arith, one-add, length-take-le, le-leb, ne_eqb, eq-eqb, pow-suc}
-use Rattle.std.proofs.Math.Nat.{pow-le-pow_right, mul-le-mul_left}
-use Rattle.std.proofs.lemmas.Str.{digit_value_digit}
-use Rattle.std.specs.Char.{digit_value}
-use Rattle.std.specs.Int.{IsInRange}
+use Rattle.std.proofs.Common.{◌≡◌, ◌≢◌, ℕ, ◌^◌, ◌<◌, ◌≤◌, Bool, true, false, not, ◌==◌, ◌&&◌, ◌||◌, nat_le, cond, if◌then◌else◌, Option, Some, None, List, [], ◌∷◌, length, slice_index, take, drop, count_by, refl, sym, ap, ◌∙◌, subst, ⊎_elim, arith, one-add, length-take-le, le-leb, ne_eqb, eq-eqb}
+use Rattle.std.proofs.Math.Nat.{pow-le-pow_right}
 use Rattle.std.specs.List.{prefix_len, list_all}
 use Rattle.std.specs.Option.{option_map}
 use Rattle.std.specs.Str.{all_ascii_digits}
-use Rattle.std.specs.Str.Parse.{digits_value, digits_value_after}
+use Rattle.std.specs.Str.Parse.{digits_value}
 use Rattle.std.proofs.lemmas.Bool.{cases_Bool, cases_lt, and_parts, lt-leb, and_right}
 use Rattle.std.proofs.lemmas.List.Sums.{prefix_len-le-length}
 use Rattle.edi_tables.specs.Tag.{is_digit}
 use Rattle.edi_octets.specs.Decimal.{decimal_in}
 use Rattle.edi_octets.specs.Lines.{is_filled, after_spaces}
-use Rattle.edi_octets.proofs.DecimalLemmas.{digit_between, digits_value-room, decimal_in-value}
+use Rattle.edi_octets.proofs.DecimalLemmas.{digits_value-room, digits_value-least, decimal_in-value}
 use Rattle.dir_messages.specs.Message.{is_tail_octet, is_plain_number}
 use Rattle.dir_messages.specs.Parts.{count_in, counts_in, IsNumber}
 
@@ -66,21 +63,12 @@ decimal_in-few digits n all few is =
     let value : n ≡ digits_value 10 digits = some_where (nat_le 1 (length digits) && nat_le (length digits) 19 && all_ascii_digits digits) (digits_value 10 digits) n is in
     rw value (digits_value-room digits 6 all few)
 
-value_after : (n : ℕ) (digits : List ℕ) → n * 10 ^ length digits ≤ digits_value_after 10 n digits
-value_after n [] = omega arith
-value_after n (x ∷ digits) = let more = value_after (n * 10 + digit_value x) digits in omega (arith, more, ap (λ power. n * power) (pow-suc 10 (length digits)))
-
-above_zero : (x : ℕ) → IsInRange 48 57 x → x ≢ 48 → 1 ≤ x - 48
-above_zero x between first = omega arith
-
 -- a number of 20 or more digits is at least ten to the nineteenth
 many_digits : (field : List ℕ) → all_ascii_digits field ≡ true → slice_index field 0 ≢ 48 → 19 < length field → 10 ^ 19 ≤ digits_value 10 field
 many_digits [] all first long = absurd (omega arith)
 many_digits (x ∷ digits) all first long =
-    let between = digit_between (x ∷ digits) 0 all (omega arith) in
-    let some : 1 ≤ digit_value x = omega (arith, digit_value_digit x between, above_zero x between first) in
     let large : 10 ^ 19 ≤ 10 ^ length digits = pow-le-pow_right {n = 10} (omega arith) {i = 19} {j = length digits} (omega arith) in
-    omega (arith, large, mul-le-mul_left (10 ^ length digits) some, value_after (0 + digit_value x) digits)
+    omega (arith, large, digits_value-least x digits all first)
 
 filled_some : (field : List ℕ) → is_filled field ≡ true → 1 ≤ length field
 filled_some [] filled = cc

@@ -11,12 +11,12 @@ use Rattle.edi_tables.specs.Rows.{when}
 use Rattle.edi_octets.specs.declared.fault.DirKind.{DirKind}
 use Rattle.edi_octets.specs.declared.fault.DirKind.TheVariants.{BadLine, BadPosition, BadGroup, CloseWithoutOpen}
 use Rattle.edi_octets.specs.Lines.{Line}
-use Rattle.edi_octets.specs.Profile.{with_earlier, fields_of, is_greater}
+use Rattle.edi_octets.specs.Profile.{with_earlier, fields_of, position_of, is_greater}
 use Rattle.edi_octets.proofs.EarlierLemmas.{with_earlier-push}
 use Rattle.edi_octets.specs.DirStop.{at_line}
 use Rattle.dir_messages.specs.declared.drawing.Drawing.{Drawing}
 use Rattle.dir_messages.specs.declared.drawing.DrawnRow.{DrawnRow}
-use Rattle.dir_messages.specs.Message.{name_on, has_rest, is_in_order, drawing_faults, is_group_line, is_table_line, is_type_line, line_faults, groups_among, open_after, ends_drawn, position_of, last_position, middle_of, status_of, max_of, number_drawn, tag_drawn, row_of, rows_of, form_faults, row_tag, ends_among, kinds_broken}
+use Rattle.dir_messages.specs.Message.{name_on, has_rest, is_in_order, drawing_faults, is_group_line, is_table_line, is_type_line, line_faults, groups_among, open_after, ends_drawn, last_position, middle_of, status_of, max_of, number_drawn, tag_drawn, row_of, rows_of, form_faults, row_tag, ends_among, kinds_broken}
 use Rattle.dir_messages.specs.Drawing.{held, IsDrawn, BeginsWith, DrawsRow, Puts}
 
 -- the form's faults of a line behind others

@@ -11,7 +11,7 @@ use Rattle.std.proofs.lemmas.List.Splits.{slice_split_first, slice_split_none}
 use Rattle.std.proofs.lemmas.List.Sums.{prefix_len-le-length, fails_before_first, passes_at_first}
 use Rattle.std.proofs.lemmas.Slice.{drop-append-drop}
 use Rattle.edi_octets.specs.Lines.{Line, is_filled, cells_of, is_space, pieces_in, after_spaces}
-use Rattle.edi_octets.specs.Profile.{is_marked, marks_of, unmarked, fields_of, indentation_of, first_field, has_digits, status_in, after_position}
+use Rattle.edi_octets.specs.Profile.{is_marked, marks_of, unmarked, fields_of, indentation_of, first_field, has_digits, has_position, status_in, after_position}
 use Rattle.edi_octets.proofs.CellLemmas.{cells_of-skip, cells_of-first, cells_of-nil, no_octet, prefix_len-behind}
 use Rattle.dir_messages.specs.declared.table_line.Counts.{Counts}
 use Rattle.dir_messages.specs.Message.{is_table_line, is_status, status_of, rest_of, middle_of, max_of, max_in, tail_in, ends_in, has_counts, ends_drawn, has_rest, pieces_of}
@@ -239,9 +239,9 @@ CountsFound-rest line must rest counts status is some =
 
 pub Position-at : (line : Line) (n : ℕ) → is_table_line line ≡ true → n ≡ indentation_of line.octets → Position line.octets n
 Position-at line n is_one is =
-    rw is (Position-of line.octets (and_parts (nat_le (indentation_of line.octets) 4) (has_digits 4 (first_field (fields_of line.octets))) is_one).1)
+    rw is (Position-of line.octets (and_parts (nat_le (indentation_of line.octets) 4) (has_position 4 line) is_one).1)
 
 -- a table line is indented by at most 4
 pub indentation-small : (line : Line) → is_table_line line ≡ true → indentation_of line.octets ≤ 4
 indentation-small line is_one =
-    leb-true (indentation_of line.octets) 4 (and_parts (nat_le (indentation_of line.octets) 4) (has_digits 4 (first_field (fields_of line.octets))) is_one).0
+    leb-true (indentation_of line.octets) 4 (and_parts (nat_le (indentation_of line.octets) 4) (has_position 4 line) is_one).0

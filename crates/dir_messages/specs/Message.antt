@@ -16,7 +16,7 @@ use Rattle.edi_octets.specs.declared.fault.DirKind.{DirKind}
 use Rattle.edi_octets.specs.declared.fault.DirKind.TheVariants.{BadLine, BadPosition, NoType, BadGroup, CloseWithoutOpen, NotClosed, TooMany, NoUnhUnt, EnvelopeTag, BadMax, TooDeep, NoTrigger}
 use Rattle.edi_octets.specs.declared.fault.DirFault.{DirFault}
 use Rattle.edi_octets.specs.Lines.{Line, is_filled, lines_of, pieces_in, after_spaces}
-use Rattle.edi_octets.specs.Profile.{unmarked, fields_of, indentation_of, first_field, has_digits, status_in, after_position, is_greater, with_earlier}
+use Rattle.edi_octets.specs.Profile.{unmarked, fields_of, indentation_of, has_position, position_of, is_greater, after_position, status_in, with_earlier}
 use Rattle.edi_tables.specs.First.{unless_faulty}
 use Rattle.edi_octets.specs.DirStop.{at_line}
 
@@ -34,9 +34,9 @@ name_on fields = None
 abbrev pub is_type_line : Line → Bool
 is_type_line line = is_some (name_on (fields_of line.octets))
 
--- a table line: indented by at most 4, and its first field, the position, is four digits
+-- a table line: indented by at most 4, and it begins with a position of four digits
 abbrev pub is_table_line : Line → Bool
-is_table_line line = nat_le (indentation_of line.octets) 4 && has_digits 4 (first_field (fields_of line.octets))
+is_table_line line = nat_le (indentation_of line.octets) 4 && has_position 4 line
 
 -- the pieces of a line between single spaces
 abbrev pub pieces_of : Line → List (List ℕ)
@@ -128,10 +128,6 @@ ends_among lines = sum_by ends_drawn (filter (λ line. not (is_group_line line))
 
 abbrev pub open_after : List Line → ℕ
 open_after lines = groups_among lines - ends_among lines
-
--- the position of a table line
-abbrev pub position_of : Line → ℕ
-position_of line = digits_value 10 (first_field (fields_of line.octets))
 
 -- the position of the last of these lines, if there is one
 abbrev pub last_position : List Line → Option ℕ

@@ -38,9 +38,10 @@ impl Drawing {
     ghost use Rattle.std.specs.Prelude.{◌≡◌, ◌≤◌, ◌<◌, ◌^◌, ◌++◌, ◌∷◌, [], List, filter, true, MatchOption, MatchResult, IfOk, OnOk, IsSome, unwrap_or, slice_get};
     ghost use Rattle.edi_octets.specs.Lines.{Line};
     ghost use Rattle.edi_octets.specs.Left.{line_shown};
+    ghost use Rattle.edi_octets.specs.Profile.{position_of};
     ghost use Rattle.edi_tables.specs.First.{Answers, unless_faulty};
     ghost use Rattle.edi_octets.specs.DirStop.{fault_in};
-    ghost use Rattle.dir_messages.specs.Message.{is_table_line, kinds_broken, position_of, open_faults, rows_faults, rows_of};
+    ghost use Rattle.dir_messages.specs.Message.{is_table_line, kinds_broken, open_faults, rows_faults, rows_of};
     ghost use Rattle.dir_messages.specs.Drawing.{IsDrawn, DrawsOrStops, FirstOf, DrawsRow, Puts, BeginsWith};
 
     /// Nothing drawn yet. It takes no memory.

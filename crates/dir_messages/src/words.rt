@@ -3,13 +3,14 @@ ghost use Rattle.std.specs.Prelude.{◌≡◌, ◌≤◌, ◌==◌, false, true,
 ghost use Rattle.std.specs.List.{list_all};
 ghost use Rattle.std.specs.Str.{bytes_eq, all_ascii_digits, str_eq_ignore_ascii_case};
 ghost use Rattle.edi_octets.specs.Left.{line_shown};
+ghost use Rattle.edi_octets.specs.Profile as profile;
 ghost use Rattle.edi_octets.specs.Profile.{fields_of};
 ghost use Rattle.edi_tables.specs.Forms.{is_message_name};
 ghost use Rattle.edi_tables.specs.Tag.{is_tag_octet_of};
 ghost use Rattle.dir_messages.specs.Message as message;
 ghost use Rattle.dir_messages.specs.Message.{begins_type};
 
-use edi_octets::{LineText, read_decimal};
+use edi_octets::{LineText, read_position};
 
 /// How deep a table line may be indented.
 const MOST_INDENTATION: usize = 4;
@@ -59,16 +60,12 @@ pub(crate) fn position_of(line: &LineText<'_>) -> Option<u64>
     ensures { MatchOption result
         (message.is_table_line (line_shown line.now) ≡ false)
         (λ position. (message.is_table_line (line_shown line.now) ≡ true)
-        × (message.position_of (line_shown line.now) ≡ position)) }
+        × (profile.position_of (line_shown line.now) ≡ position)) }
 {
     if line.indentation() > MOST_INDENTATION {
         return None;
     }
-    let field = line.fields().next()?;
-    if field.len() != POSITION_DIGITS {
-        return None;
-    }
-    read_decimal(field)
+    read_position(line, POSITION_DIGITS)
 }
 
 /// Whether a field is a number without leading zero, of any length.

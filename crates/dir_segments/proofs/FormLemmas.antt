@@ -18,14 +18,14 @@ use Rattle.edi_octets.specs.declared.fault.DirKind.{DirKind}
 use Rattle.edi_octets.specs.declared.fault.DirKind.TheVariants.{BadLine, BadPosition, BadStatus, BadRepr}
 use Rattle.edi_octets.specs.DirStop.{at_line}
 use Rattle.edi_octets.specs.Lines.{Line, lines_of}
-use Rattle.edi_octets.specs.Profile.{first_field, entries_of, with_earlier}
+use Rattle.edi_octets.specs.Profile.{first_field, entries_of, with_earlier, position_of, is_greater}
 use Rattle.edi_octets.specs.Head.{head_faults}
 use Rattle.edi_octets.proofs.AnswerLemmas.{none_from_ok}
 use Rattle.edi_octets.proofs.EachLemmas.{passes_if_made, nothing-append, All-each, passes-filter_map, length-filter_map, All-judged}
 use Rattle.edi_octets.proofs.HeadLemmas.{head_faults-code}
 use Rattle.edi_octets.proofs.PlainLemmas.{IsEntry, entries_of-entries}
 use Rattle.edi_octets.proofs.ProfileLemmas.{repr_in-formed}
-use Rattle.dir_segments.specs.Parts.{fields_behind, position_of, last_of, has_position, is_greater, is_element_form, is_composite_form, element_status, element_repr, composite_status, element_fault, composite_fault, fault_list, part_with, part_in, part_faults, count_faults}
+use Rattle.dir_segments.specs.Parts.{fields_behind, last_of, is_placed, is_element_form, is_composite_form, element_status, element_repr, composite_status, element_fault, composite_fault, part_with, part_in, part_faults, count_faults}
 use Rattle.dir_segments.specs.Composites.{part_lines, parts_faults, parts_in, composite_faults, composite_of, composites_in}
 use Rattle.dir_segments.specs.Segments.{Item, place_of, items_of, items_in, item_in, item_of, alone_item, composite_item, line_faults, detail_faults, item_end_faults, repeated_parts, item_faults, items_faults, segment_faults, segment_of, segments_in}
 use Rattle.dir_segments.proofs.FieldLemmas.{is_composite_form-element}
@@ -79,9 +79,9 @@ part_in-made before line none form =
 part_faults-made : (earlier : List Line) (line : Line) → Unit {0} → part_faults (last_of (map position_of earlier)) line ≡ [] → is_some (part_in (fields_behind line)) ≡ true
 part_faults-made earlier line given none =
     let before = last_of (map position_of earlier) in
-    let good = has_position line && is_element_form (fields_behind line) in
+    let good = is_placed line && is_element_form (fields_behind line) in
     let rules = first_rule (not good) BadLine (element_fault before line) (none_listed line (if not good then Some BadLine else element_fault before line) none) in
-    part_in-made before line rules.1 (and_parts (has_position line) (is_element_form (fields_behind line)) (not-false good rules.0)).1
+    part_in-made before line rules.1 (and_parts (is_placed line) (is_element_form (fields_behind line)) (not-false good rules.0)).1
 
 -- ---- composites
 
@@ -161,7 +161,7 @@ line_faults-made before line none =
     let fields = fields_behind line in
     let composite = if is_composite_form fields then composite_fault before line else Some BadLine in
     let forms = if is_element_form fields then element_fault before line else composite in
-    let rules = first_rule (not (has_position line)) BadLine forms (none_listed line (if not (has_position line) then Some BadLine else forms) none) in
+    let rules = first_rule (not (is_placed line)) BadLine forms (none_listed line (if not (is_placed line) then Some BadLine else forms) none) in
     ⊎_elim
     (λ (form : is_element_form fields ≡ true).
     let other : is_composite_form fields ≡ false = is_composite_form-element fields form in

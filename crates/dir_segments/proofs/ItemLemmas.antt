@@ -15,7 +15,7 @@ use Rattle.edi_tables.specs.First.{Answers, unless_faulty}
 use Rattle.edi_octets.specs.DirStop.{fault_in}
 use Rattle.edi_octets.specs.Lines.{Line}
 use Rattle.edi_octets.specs.Profile.{fields_of, first_field}
-use Rattle.dir_segments.specs.Parts.{is_item_line, part_in, has_position, fields_behind, is_element_form, is_composite_form, composite_status, element_fault, composite_fault, fault_list}
+use Rattle.dir_segments.specs.Parts.{is_item_line, part_in, is_placed, fields_behind, is_element_form, is_composite_form, composite_status, element_fault, composite_fault, fault_list}
 use Rattle.dir_segments.specs.Composites.{part_lines}
 use Rattle.dir_segments.specs.Segments.{item_at, items_of, details_of, is_part_line, detail_faults, repeated_parts, line_faults, alone_item, composite_item, item_in}
 use Rattle.dir_segments.proofs.StopLemmas.{stops}
@@ -99,10 +99,10 @@ module _ (below_composite : Bool) where
       let whole = goes_all all read.front rest read.splits ended in
       (ap (flat_map (detail_faults below_composite)) whole ∙ read.clean, ap repeated_parts whole ∙ sym read.found)
 
-pub line_faults-element : (before : Option ℕ) (line : Line) → has_position line ≡ true → is_element_form (fields_behind line) ≡ true → line_faults before line ≡ fault_list line (element_fault before line)
+pub line_faults-element : (before : Option ℕ) (line : Line) → is_placed line ≡ true → is_element_form (fields_behind line) ≡ true → line_faults before line ≡ fault_list line (element_fault before line)
 line_faults-element before line position form = rw (position, form) refl
 
-pub line_faults-composite : (before : Option ℕ) (line : Line) → has_position line ≡ true → is_element_form (fields_behind line) ≡ false → is_composite_form (fields_behind line) ≡ true → line_faults before line ≡ fault_list line (composite_fault before line)
+pub line_faults-composite : (before : Option ℕ) (line : Line) → is_placed line ≡ true → is_element_form (fields_behind line) ≡ false → is_composite_form (fields_behind line) ≡ true → line_faults before line ≡ fault_list line (composite_fault before line)
 line_faults-composite before line position other form = rw (position, other, form) refl
 
 -- an item that names a composite has a composite's form, and others don't

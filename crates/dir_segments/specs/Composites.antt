@@ -6,10 +6,10 @@ use Rattle.edi_tables.specs.declared.element.CompositeDef.{CompositeDef}
 use Rattle.edi_octets.specs.declared.fault.DirFault.{DirFault}
 use Rattle.edi_octets.specs.Lines.{Line, lines_of}
 use Rattle.edi_tables.specs.Forms.{is_composite_code}
-use Rattle.edi_octets.specs.Profile.{entries_of, with_earlier}
+use Rattle.edi_octets.specs.Profile.{position_of, entries_of, with_earlier}
 use Rattle.edi_tables.specs.First.{unless_faulty}
 use Rattle.edi_octets.specs.Head.{head_faults, code_of}
-use Rattle.dir_segments.specs.Parts.{is_item_line, fields_behind, position_of, last_of, part_in, part_faults, count_faults}
+use Rattle.dir_segments.specs.Parts.{is_item_line, fields_behind, last_of, part_in, part_faults, count_faults}
 
 -- the part lines of an entry's lines: those indented by at most 4; all others are text
 abbrev pub part_lines : List Line → List Line

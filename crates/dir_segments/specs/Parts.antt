@@ -1,7 +1,6 @@
 -- The lines of parts and items, in composite and segment files.
-use Rattle.std.specs.Prelude.{◌≡◌, ◌-◌, ℕ, Bool, true, not, ◌==◌, ◌&&◌, ◌||◌, nat_le, nat_lt, List, [], ◌∷◌, length, drop, reverse, slice_get, Option, Some, None, is_some, Result, if◌then◌else◌}
+use Rattle.std.specs.Prelude.{◌≡◌, ◌-◌, ℕ, Bool, not, ◌==◌, ◌&&◌, ◌||◌, nat_le, nat_lt, List, [], ◌∷◌, length, drop, reverse, slice_get, Option, Some, None, is_some, Result, if◌then◌else◌}
 use Rattle.std.specs.Option.{option_or}
-use Rattle.std.specs.Str.Parse.{digits_value}
 use Rattle.edi_tables.specs.declared.element.Code.{Code}
 use Rattle.edi_tables.specs.declared.element.Repr.{Repr}
 use Rattle.edi_tables.specs.declared.element.PartDef.{PartDef}
@@ -15,7 +14,7 @@ use Rattle.edi_tables.specs.First.{Answers, unless_faulty}
 use Rattle.edi_octets.specs.DirStop.{at_line, fault_in}
 use Rattle.edi_octets.specs.Lines.{Line}
 use Rattle.edi_tables.specs.Forms.{is_element_code, is_composite_code}
-use Rattle.edi_octets.specs.Profile.{fields_of, indentation_of, first_field, after_position, has_digits, repr_in, status_in}
+use Rattle.edi_octets.specs.Profile.{fields_of, indentation_of, first_field, after_position, has_position, position_of, is_greater, repr_in, status_in}
 
 -- a line of a part or an item: indented by at most 4
 abbrev pub is_item_line : Line → Bool
@@ -25,21 +24,13 @@ is_item_line line = nat_le (indentation_of line.octets) 4
 abbrev pub fields_behind : Line → List (List ℕ)
 fields_behind line = after_position (drop 1 (fields_of line.octets))
 
--- the position that a line has: three digits
-abbrev pub has_position : Line → Bool
-has_position line = has_digits 3 (first_field (fields_of line.octets))
-
-abbrev pub position_of : Line → ℕ
-position_of line = digits_value 10 (first_field (fields_of line.octets))
+-- a line of a part or an item begins with a position of three digits
+abbrev pub is_placed : Line → Bool
+is_placed line = has_position 3 line
 
 -- the last of these positions, if there is one
 abbrev pub last_of : List ℕ → Option ℕ
 last_of positions = slice_get positions (length positions - 1)
-
--- a position is greater than the one before, if there is one
-abbrev pub is_greater : Option ℕ → ℕ → Bool
-is_greater None position = true
-is_greater (Some before) position = nat_lt before position
 
 -- the field that many places before the end, from 1
 abbrev pub field_from_end : ℕ → List (List ℕ) → List ℕ
@@ -104,7 +95,7 @@ fault_list line (Some kind) = record { line = line.number; kind = kind } ∷ []
 abbrev pub part_faults : Option ℕ → Line → List DirFault
 part_faults before line =
     fault_list line
-    (if not (has_position line && is_element_form (fields_behind line)) then Some BadLine
+    (if not (is_placed line && is_element_form (fields_behind line)) then Some BadLine
     else element_fault before line)
 
 -- what was read of a data element's fields: the code, and the status and the representation where they are good

@@ -15,11 +15,11 @@ use Rattle.edi_octets.specs.declared.fault.DirFault.{DirFault}
 use Rattle.edi_octets.specs.declared.fault.DirKind.TheVariants.{BadLine, PartsDiffer}
 use Rattle.edi_octets.specs.Lines.{Line, is_filled, lines_of}
 use Rattle.edi_tables.specs.Forms.{is_element_code}
-use Rattle.edi_octets.specs.Profile.{fields_of, first_field, entries_of, with_earlier}
+use Rattle.edi_octets.specs.Profile.{fields_of, first_field, position_of, entries_of, with_earlier}
 use Rattle.edi_tables.specs.First.{unless_faulty}
 use Rattle.edi_octets.specs.DirStop.{at_line}
 use Rattle.edi_octets.specs.Head.{head_faults, head_field}
-use Rattle.dir_segments.specs.Parts.{is_item_line, fields_behind, has_position, position_of, last_of, count_faults, is_element_form, is_composite_form, part_in, composite_status, element_fault, composite_fault, fault_list}
+use Rattle.dir_segments.specs.Parts.{is_item_line, fields_behind, is_placed, last_of, count_faults, is_element_form, is_composite_form, part_in, composite_status, element_fault, composite_fault, fault_list}
 
 -- an item: its line, and the detail lines behind it, up to the next item line
 pub record Item : Type 0 where
@@ -45,7 +45,7 @@ abbrev pub line_faults : Option ℕ → Line → List DirFault
 line_faults before line =
     let fields = fields_behind line in
     fault_list line
-    (if not (has_position line) then Some BadLine
+    (if not (is_placed line) then Some BadLine
     else (if is_element_form fields then element_fault before line
     else (if is_composite_form fields then composite_fault before line else Some BadLine)))
 

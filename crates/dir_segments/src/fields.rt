@@ -1,12 +1,11 @@
 //! What stands on a line of a part or an item.
-ghost use Rattle.std.specs.Prelude.{◌≡◌, ◌==◌, ◌&&◌, nat_le, length, drop, true, false, Some, None, MatchOption, if◌then◌else◌};
+ghost use Rattle.std.specs.Prelude.{◌≡◌, ◌==◌, ◌&&◌, nat_le, length, drop, true, false, MatchOption};
 ghost use Rattle.edi_octets.specs.Left.{line_shown, cells_left};
 ghost use Rattle.edi_octets.specs.Profile.{fields_of, first_field};
 ghost use Rattle.dir_segments.specs.Parts as parts;
 
 use edi_octets::{
-    Cells, LineText, after_position, is_composite_code, is_element_code, read_decimal, read_repr,
-    read_status,
+    Cells, LineText, after_position, is_composite_code, is_element_code, read_repr, read_status,
 };
 use edi_tables::{Code, Repr};
 
@@ -30,18 +29,6 @@ pub(crate) fn is_item_line(line: &LineText<'_>) -> bool
     ensures { result ≡ parts.is_item_line (line_shown line.now) }
 {
     line.indentation() <= 4
-}
-
-/// The position of a line: its first field, where that is three digits.
-pub(crate) fn read_position(line: &LineText<'_>) -> Option<u64>
-    ensures { let shown = line_shown line.now in
-        result ≡ (if parts.has_position shown then Some (parts.position_of shown) else None) }
-{
-    let field = line.first_field();
-    if field.len() != 3 {
-        return None;
-    }
-    read_decimal(field)
 }
 
 /// The fields after the position of a line.

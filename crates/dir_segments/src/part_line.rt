@@ -4,22 +4,24 @@ ghost use Rattle.edi_tables.specs.First.{Answers, unless_faulty};
 ghost use Rattle.edi_octets.specs.DirStop.{at_line, fault_in};
 ghost use Rattle.edi_octets.specs.declared.fault.DirStop.TheVariants.{Fault};
 ghost use Rattle.edi_octets.specs.Left.{line_shown};
+ghost use Rattle.edi_octets.specs.Profile as profile;
 ghost use Rattle.dir_segments.specs.Parts as parts;
 ghost use Rattle.dir_segments.specs.Segments as segments;
 
-use crate::fields::{
-    CompositeFields, ElementFields, fields_behind, read_composite, read_element, read_position,
-};
-use edi_octets::{DirKind, DirStop, LineText, is_greater};
+use crate::fields::{CompositeFields, ElementFields, fields_behind, read_composite, read_element};
+use edi_octets::{DirKind, DirStop, LineText, is_greater, read_position};
 use edi_tables::{ItemDef, PartDef};
+
+/// How many digits a position has.
+const POSITION_DIGITS: usize = 3;
 
 /// Reads a part line after the position before: its position and its part.
 pub(crate) fn read_part(before: Option<u64>, line: &LineText<'_>) -> Result<(u64, PartDef), DirStop>
     ensures { let shown = line_shown line.now in
         parts.GivesPlaced result (parts.part_faults before shown)
-        (parts.position_of shown) (parts.part_in (parts.fields_behind shown)) }
+        (profile.position_of shown) (parts.part_in (parts.fields_behind shown)) }
 {
-    let Some(position) = read_position(line) else {
+    let Some(position) = read_position(line, POSITION_DIGITS) else {
         return Err(line.breaks(DirKind::BadLine));
     };
     let Some(element) = read_element(fields_behind(line)) else {
@@ -33,9 +35,9 @@ pub(crate) fn read_part(before: Option<u64>, line: &LineText<'_>) -> Result<(u64
 pub(crate) fn read_item(before: Option<u64>, line: &LineText<'_>) -> Result<(u64, ItemDef), DirStop>
     ensures { let shown = line_shown line.now in
         parts.GivesPlaced result (segments.line_faults before shown)
-        (parts.position_of shown) (segments.item_in (parts.fields_behind shown)) }
+        (profile.position_of shown) (segments.item_in (parts.fields_behind shown)) }
 {
-    let Some(position) = read_position(line) else {
+    let Some(position) = read_position(line, POSITION_DIGITS) else {
         return Err(line.breaks(DirKind::BadLine));
     };
     let fields = fields_behind(line);
@@ -57,7 +59,7 @@ fn judge_element(
     line: &LineText<'_>,
     element: &ElementFields,
 ) -> Result<PartDef, DirStop>
-    requires position { position ≡ parts.position_of (line_shown line.now) }
+    requires position { position ≡ profile.position_of (line_shown line.now) }
     requires form { IsTrue (parts.is_element_form (parts.fields_behind (line_shown line.now))) }
     requires element { parts.IsElement element.now (parts.fields_behind (line_shown line.now)) }
     ensures { let shown = line_shown line.now in
@@ -83,7 +85,7 @@ fn judge_composite(
     line: &LineText<'_>,
     composite: &CompositeFields,
 ) -> Result<ItemDef, DirStop>
-    requires position { position ≡ parts.position_of (line_shown line.now) }
+    requires position { position ≡ profile.position_of (line_shown line.now) }
     requires form { IsTrue (parts.is_composite_form (parts.fields_behind (line_shown line.now))) }
     requires composite { parts.IsComposite composite.now
         (parts.fields_behind (line_shown line.now)) }
@@ -106,7 +108,7 @@ fn judge_status(
     line: &LineText<'_>,
     status: Option<bool>,
 ) -> Result<bool, DirStop>
-    requires { position ≡ parts.position_of (line_shown line.now) }
+    requires { position ≡ profile.position_of (line_shown line.now) }
     ensures { let shown = line_shown line.now in
         Answers (λ must. Some must) fault_in result
         (unless_faulty (parts.fault_list shown (parts.status_fault before shown status)) status) }

@@ -102,7 +102,8 @@ fn read_whole_item(
     behind: Body<'_>,
 ) -> Result<(u64, ItemDef), DirStop>
     ensures { let item = segments.item_at (line_shown line.now) (body_left behind.entry) in
-        parts.GivesPlaced result (segments.item_faults known.now.composites.now before item) (segments.place_of item) (segments.item_of item) }
+        parts.GivesPlaced result (segments.item_faults known.now.composites.now before item)
+        (segments.place_of item) (segments.item_of item) }
 {
     let (position, item) = read_item(before, line)?;
     let repeated = read_details(alloc, is_composite_item(&item), behind)?;

@@ -3,7 +3,8 @@ use Rattle.std.proofs.lemmas.Result.{err_from_is_err_and}
 use Rattle.edi_tables.specs.declared.element.PartDef.{PartDef}
 use Rattle.edi_octets.specs.Left.{line_shown, body_left}
 use Rattle.dir_segments.specs.Composites.{part_lines, parts_in}
-use Rattle.dir_segments.specs.Parts.{is_item_line, position_of, fields_behind, part_in, part_faults, count_faults}
+use Rattle.edi_octets.specs.Profile.{position_of}
+use Rattle.dir_segments.specs.Parts.{is_item_line, fields_behind, part_in, part_faults, count_faults}
 use Rattle.dir_segments.proofs.StopLemmas.{placed, placed_none, placed_value}
 use Rattle.dir_segments.proofs.FrontLemmas.{read_more, read_stops}
 use Rattle.dir_segments.proofs.ItemLemmas.{part_lines-item}

@@ -1,6 +1,7 @@
 use Rattle.edi_octets.specs.Left.{body_left}
 use Rattle.dir_segments.specs.Composites.{part_lines}
-use Rattle.dir_segments.specs.Parts.{part_faults, position_of, part_in, fields_behind}
+use Rattle.edi_octets.specs.Profile.{position_of}
+use Rattle.dir_segments.specs.Parts.{part_faults, part_in, fields_behind}
 use Rattle.dir_segments.proofs.FrontLemmas.{IsRead}
 use Rattle.dir_segments.proofs.composites.read_parts.Given as goal
 

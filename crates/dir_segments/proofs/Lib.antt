@@ -4,3 +4,4 @@ pub mod FrontLemmas
 pub mod ItemLemmas
 pub mod KnownLemmas
 pub mod StopLemmas
+mod Worked

@@ -26,11 +26,6 @@ range_length f most (suc n) a b is each =
     let later : length (flat_map f (range_with_len (a + 1) n)) ≤ n * most = range_length f most n (a + 1) b (omega arith) (λ k from below. each k (omega arith) below) in
     rw (length-append (f a) (flat_map f (range_with_len (a + 1) n))) (omega arith)
 
--- five parts put one after the other are put as one
-pub five_parts : (a b c d e before one two three four five : List ℕ) → one ≡ before ++ a → two ≡ one ++ b → three ≡ two ++ c → four ≡ three ++ d → five ≡ four ++ e → five ≡ before ++ (a ++ b ++ c ++ d ++ e)
-five_parts a b c d e before one two three four five is_one is_two is_three is_four is_five =
-    rw (is_five, is_four, is_three, is_two, is_one) (simp append_assoc)
-
 -- three parts put into an empty text
 pub three_parts : (a b c none one two three : List ℕ) → none ≡ [] → one ≡ none ++ a → two ≡ one ++ b → three ≡ two ++ c → three ≡ a ++ b ++ c
 three_parts a b c none one two three is_none is_one is_two is_three =

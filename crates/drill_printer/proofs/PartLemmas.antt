@@ -5,11 +5,6 @@ use Rattle.std.proofs.lemmas.List.{append_assoc}
 use Rattle.drill_maker.specs.Interchange.{interchange_text}
 use Rattle.drill_printer.specs.Drill.{counts_line, drill_text, edited_text, edits_line, error_sum, numbers_line, text_drilled}
 
--- five parts put one after the other are put as one
-pub five_parts : (a b c d e before one two three four five : List ℕ) → one ≡ before ++ a → two ≡ one ++ b → three ≡ two ++ c → four ≡ three ++ d → five ≡ four ++ e → five ≡ before ++ (a ++ b ++ c ++ d ++ e)
-five_parts a b c d e before one two three four five is_one is_two is_three is_four is_five =
-    rw (is_five, is_four, is_three, is_two, is_one) (simp append_assoc)
-
 -- what is printed of a text that is edited
 pub edited_parts : (number edits total : ℕ) (text opened drilled before one two three : List ℕ) → opened ≡ text → total ≡ error_sum number edits opened → drilled ≡ text_drilled number edits opened
     → one ≡ before ++ counts_line (codes "open") opened → two ≡ one ++ edits_line edits total → three ≡ two ++ counts_line (codes "close") drilled

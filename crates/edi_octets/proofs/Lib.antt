@@ -6,6 +6,7 @@ pub mod EarlierLemmas
 pub mod EntryLemmas
 pub mod HeadLemmas
 pub mod LineLemmas
+pub mod PartLemmas
 pub mod PlaceLemmas
 pub mod PlainLemmas
 pub mod ProfileLemmas

@@ -87,8 +87,3 @@ pub tables_all : (directory : Parts) (i : ℕ) (printed : List ℕ) → length d
 unfolding tables_text
 tables_all directory i printed past is =
     is ∙ ap (λ (ms : List MessageDef). labels_line directory ++ flat_map message_text ms) (take_all i directory.messages past)
-
--- five parts put one after the other are put as one
-pub five_parts : (a b c d e before one two three four five : List ℕ) → one ≡ before ++ a → two ≡ one ++ b → three ≡ two ++ c → four ≡ three ++ d → five ≡ four ++ e → five ≡ before ++ (a ++ b ++ c ++ d ++ e)
-five_parts a b c d e before one two three four five is_one is_two is_three is_four is_five =
-    rw (is_five, is_four, is_three, is_two, is_one) (simp append_assoc)

@@ -1,7 +1,7 @@
 use Rattle.std.specs.Prelude.{codes, decimal}
 use Rattle.std.proofs.lemmas.Result.{on_ok_weaker}
 use Rattle.drill_maker.specs.Interchange.{head_text}
-use Rattle.drill_maker.proofs.RangeLemmas.{five_parts}
+use Rattle.edi_octets.proofs.PartLemmas.{five_parts}
 use Rattle.drill_maker.proofs.interchange.put_head.Goals as goal
 
 pub returns : goal.returns

@@ -1,7 +1,7 @@
 use Rattle.std.proofs.Common.{[], ◌∷◌}
 use Rattle.std.proofs.lemmas.Result.{on_ok_weaker}
 use Rattle.drill_printer.specs.Drill.{numbers_line, spaced}
-use Rattle.drill_printer.proofs.PartLemmas.{five_parts}
+use Rattle.edi_octets.proofs.PartLemmas.{five_parts}
 use Rattle.drill_printer.proofs.drill.put_numbers.Goals as goal
 
 pub returns : goal.returns

@@ -6,7 +6,7 @@ use Rattle.std.proofs.lemmas.Result.{on_ok_weaker}
 use Rattle.edi_tables.specs.declared.segment.TableRow.{TableRow}
 use Rattle.collision_check.specs.Listed.{collision_seen}
 use Rattle.table_printer.specs.Tables.{table_text, numbered_line, node_lines_from, collision_line}
-use Rattle.table_printer.proofs.TableLemmas.{five_parts}
+use Rattle.edi_octets.proofs.PartLemmas.{five_parts}
 use Rattle.table_printer.proofs.tables.put_table.Goals as goal
 
 pub returns : goal.returns

@@ -3,15 +3,17 @@ use Rattle.std.proofs.Common.{◌≡◌, ℕ, ◌+◌, Bool, true, false, not, �
 use Rattle.std.specs.Prelude.{Option}
 use Rattle.std.specs.List.{list_any}
 use Rattle.edi_tables.specs.declared.element.Class.{Class}
+use Rattle.edi_tables.specs.declared.element.Class.TheVariants.{A, N, An}
 use Rattle.edi_tables.specs.declared.element.CodeList.{CodeList}
 use Rattle.edi_tables.specs.declared.element.Repr.{Repr}
 use Rattle.error_ledger.specs.declared.kind.Kind.{Kind}
 use Rattle.error_ledger.specs.declared.kind.Kind.TheVariants.{Repertoire, WrongType, Decimal, TooLong, TooShort, Code}
 use Rattle.seg_lexer.specs.declared.context.Context.{Context}
+use Rattle.seg_lexer.specs.declared.service.Service.{Service}
 use Rattle.element_check.specs.Repertoire.{is_admitted}
-use Rattle.element_check.specs.Value.{counted_length, has_foreign, is_counted, is_decimal, is_numeric, is_unlisted}
+use Rattle.element_check.specs.Value.{counted_length, has_foreign, is_counted, is_decimal, is_foreign, is_numeric, is_unlisted}
 use Rattle.element_check.specs.Streams.{test_results}
-use Rattle.element_check.specs.Tally.{is_foreign_sort, is_number, is_uncounted_sort, nothing_found, sort_of, tally_after, tally_over}
+use Rattle.element_check.specs.Tally.{is_number, is_uncounted_sort, nothing_found, sort_of, tally_after, tally_over, typed_after}
 use Rattle.element_check.specs.declared.tally.Tally.{Tally}
 use Rattle.element_check.proofs.NumberLemmas.{counted-is, ends_number-is, foreign-is, form_over}
 
@@ -24,9 +26,25 @@ or_assoc true b c = refl
 or_assoc false b c = refl
 
 -- counting one more octet, or not
-counted-more : (b : Bool) (n x : ℕ) (ys : List ℕ) → cond b n (n + 1) + length ys ≡ n + length (cond (not b) (x ∷ ys) ys)
-counted-more true n x ys = refl
-counted-more false n x ys = omega arith
+counted-more : (b : Bool) (n x : ℕ) (ys : List ℕ) → cond b (n + 1) n + length ys ≡ n + length (cond b (x ∷ ys) ys)
+counted-more true n x ys = omega arith
+counted-more false n x ys = refl
+
+counted-unless : (b : Bool) (n : ℕ) → cond b n (n + 1) ≡ cond (not b) (n + 1) n
+counted-unless true n = refl
+counted-unless false n = refl
+
+-- one more octet is foreign, and is counted, by its class
+foreign-typed : (s : Service) (class : Class) (t : Tally) (x : ℕ) → (typed_after s class t x).foreign ≡ (t.foreign || is_foreign s class x)
+foreign-typed s A t x = refl
+foreign-typed s N t x = ap (λ (f : Bool). t.foreign || f) (foreign-is s N x)
+foreign-typed s An t x = or_false t.foreign
+
+counted-typed : (s : Service) (class : Class) (t : Tally) (x : ℕ) → (typed_after s class t x).counted ≡ cond (is_counted s class x) (t.counted + 1) t.counted
+counted-typed s A t x = refl
+counted-typed s N t x =
+    counted-unless (is_uncounted_sort N (sort_of s x)) t.counted ∙ ap (λ (c : Bool). cond c (t.counted + 1) t.counted) (counted-is s N x)
+counted-typed s An t x = refl
 
 module _ (context : Context) (class : Class) where
   abbrev is_refused : ℕ → Bool
@@ -40,24 +58,32 @@ module _ (context : Context) (class : Class) where
   foreign-over t [] = or_false t.foreign
   foreign-over t (x ∷ xs) =
       foreign-over (tally_after context class t x) xs
-      ∙ or_assoc t.foreign (is_foreign_sort class (sort_of context.service x)) (has_foreign context.service class xs)
-      ∙ ap (λ (f : Bool). t.foreign || (f || has_foreign context.service class xs)) (foreign-is context.service class x)
+      ∙ ap (λ (f : Bool). f || has_foreign context.service class xs) (foreign-typed context.service class t x)
+      ∙ or_assoc t.foreign (is_foreign context.service class x) (has_foreign context.service class xs)
 
   counted-over : (t : Tally) (xs : List ℕ) → (tally_over context class t xs).counted ≡ t.counted + counted_length context.service class xs
   counted-over t [] = omega arith
   counted-over t (x ∷ xs) =
       counted-over (tally_after context class t x) xs
-      ∙ counted-more (is_uncounted_sort class (sort_of context.service x)) t.counted x (filter (is_counted context.service class) xs)
-      ∙ ap (λ (c : Bool). t.counted + length (cond c (x ∷ filter (is_counted context.service class) xs) (filter (is_counted context.service class) xs))) (counted-is context.service class x)
+      ∙ ap (λ (n : ℕ). n + counted_length context.service class xs) (counted-typed context.service class t x)
+      ∙ counted-more (is_counted context.service class x) t.counted x (filter (is_counted context.service class) xs)
 
-  form-over : (t : Tally) (xs : List ℕ) → (tally_over context class t xs).form ≡ form_over context.service t.form xs
-  form-over t [] = refl
-  form-over t (x ∷ xs) = form-over (tally_after context class t x) xs
+-- only numbers have a form
+form-over : (context : Context) (t : Tally) (xs : List ℕ) → (tally_over context N t xs).form ≡ form_over context.service t.form xs
+form-over context t [] = refl
+form-over context t (x ∷ xs) = form-over context (tally_after context N t x) xs
+
+number-over : (context : Context) (class : Class) (foreign : Bool) (xs : List ℕ)
+    → (is_numeric class && not foreign && not (is_number (tally_over context class nothing_found xs).form)) ≡ (is_numeric class && not foreign && not (is_decimal context.service xs))
+number-over context A foreign xs = refl
+number-over context N foreign xs =
+    ap (λ (b : Bool). true && not foreign && not b) (ap is_number (form-over context nothing_found xs) ∙ ends_number-is context.service xs)
+number-over context An foreign xs = refl
 
 -- the results of the tests, by what they ask
 abbrev results_of : Repr → Option CodeList → List ℕ → Bool → Bool → Bool → ℕ → List (Kind × Bool)
-results_of repr list value refused foreign number counted =
-    (Repertoire, refused) ∷ (WrongType, foreign) ∷ (Decimal, is_numeric repr.class && not foreign && not number)
+results_of repr list value refused foreign decimal counted =
+    (Repertoire, refused) ∷ (WrongType, foreign) ∷ (Decimal, decimal)
     ∷ (TooLong, ltb repr.max counted) ∷ (TooShort, repr.exact && ltb counted repr.max) ∷ (Code, is_unlisted list value) ∷ []
 
 abbrev found : Context → Repr → List ℕ → Tally
@@ -71,14 +97,13 @@ foreign context repr value = has_foreign context.service repr.class value
 
 -- a scan gives the results of the tests
 pub results-tally : (context : Context) (repr : Repr) (list : Option CodeList) (value : List ℕ) (t : Tally) → t ≡ tally_over context repr.class nothing_found value
-    → results_of repr list value t.refused t.foreign (is_number t.form) t.counted ≡ test_results context repr list value
+    → results_of repr list value t.refused t.foreign (is_numeric repr.class && not t.foreign && not (is_number t.form)) t.counted ≡ test_results context repr list value
 results-tally context repr list value t is =
-    ap (λ (u : Tally). results_of repr list value u.refused u.foreign (is_number u.form) u.counted) is
-    ∙ ap (λ (b : Bool). results_of repr list value b (found context repr value).foreign (is_number (found context repr value).form) (found context repr value).counted) (refused-over context repr.class nothing_found value)
-    ∙ ap (λ (b : Bool). results_of repr list value (refused context value) b (is_number (found context repr value).form) (found context repr value).counted) (foreign-over context repr.class nothing_found value)
-    ∙ ap (λ (b : Bool). results_of repr list value (refused context value) (foreign context repr value) b (found context repr value).counted)
-    (ap is_number (form-over context repr.class nothing_found value) ∙ ends_number-is context.service value)
-    ∙ ap (λ (n : ℕ). results_of repr list value (refused context value) (foreign context repr value) (is_decimal context.service value) n)
+    ap (λ (u : Tally). results_of repr list value u.refused u.foreign (is_numeric repr.class && not u.foreign && not (is_number u.form)) u.counted) is
+    ∙ ap (λ (b : Bool). results_of repr list value b (found context repr value).foreign (is_numeric repr.class && not (found context repr value).foreign && not (is_number (found context repr value).form)) (found context repr value).counted) (refused-over context repr.class nothing_found value)
+    ∙ ap (λ (b : Bool). results_of repr list value (refused context value) b (is_numeric repr.class && not b && not (is_number (found context repr value).form)) (found context repr value).counted) (foreign-over context repr.class nothing_found value)
+    ∙ ap (λ (b : Bool). results_of repr list value (refused context value) (foreign context repr value) b (found context repr value).counted) (number-over context repr.class (foreign context repr value) value)
+    ∙ ap (λ (n : ℕ). results_of repr list value (refused context value) (foreign context repr value) (is_numeric repr.class && not (foreign context repr value) && not (is_decimal context.service value)) n)
     (counted-over context repr.class nothing_found value ∙ zero-add (counted_length context.service repr.class value))
 
 -- the same, where some of the results were found apart

@@ -1,7 +1,7 @@
 -- For bodies and their invariants: what one scan of a value finds.
 use Rattle.std.specs.Prelude.{ℕ, ◌+◌, Bool, true, false, not, ◌||◌, ◌==◌, List, [], ◌∷◌, if◌then◌else◌}
 use Rattle.edi_tables.specs.declared.element.Class.{Class}
-use Rattle.edi_tables.specs.declared.element.Class.TheVariants.{A, N}
+use Rattle.edi_tables.specs.declared.element.Class.TheVariants.{A, N, An}
 use Rattle.edi_tables.specs.Tag.{is_digit}
 use Rattle.seg_lexer.specs.declared.context.Context.{Context}
 use Rattle.seg_lexer.specs.declared.service.Service.{Service}
@@ -46,13 +46,30 @@ is_number Whole = true
 is_number Fraction = true
 is_number form = false
 
+-- what was found, after one more octet of that sort of a number
+abbrev pub numbered_after : Tally → Sort → Tally
+numbered_after t sort = record {
+  refused = t.refused;
+  foreign = t.foreign || is_foreign_sort N sort;
+  counted = if is_uncounted_sort N sort then t.counted else t.counted + 1;
+  form = form_after t.form sort;
+}
+
+-- what was found, after one more octet of a value of that class, its repertoire left out; only numbers have a form
+abbrev pub typed_after : Service → Class → Tally → ℕ → Tally
+typed_after s A t x =
+    record { refused = t.refused; foreign = t.foreign || is_digit x; counted = t.counted + 1; form = t.form }
+typed_after s N t x = numbered_after t (sort_of s x)
+typed_after s An t x =
+    record { refused = t.refused; foreign = t.foreign; counted = t.counted + 1; form = t.form }
+
 -- what was found, after one more octet
 abbrev pub tally_after : Context → Class → Tally → ℕ → Tally
 tally_after context class t x = record {
   refused = t.refused || not (is_admitted context.level x);
-  foreign = t.foreign || is_foreign_sort class (sort_of context.service x);
-  counted = if is_uncounted_sort class (sort_of context.service x) then t.counted else t.counted + 1;
-  form = form_after t.form (sort_of context.service x);
+  foreign = (typed_after context.service class t x).foreign;
+  counted = (typed_after context.service class t x).counted;
+  form = (typed_after context.service class t x).form;
 }
 
 -- what was found, after these octets

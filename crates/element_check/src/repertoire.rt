@@ -4,9 +4,6 @@ ghost use Rattle.element_check.specs.Repertoire.{is_admitted, is_in_level_a as i
 
 use seg_lexer::Level;
 
-/// The signs that level A admits.
-const SIGNS: &[u8] = b" .,-()/='+:?!\"%&*;<>";
-
 /// Whether a level admits an octet in a value.
 pub(crate) fn admits(level: Level, octet: u8) -> bool
     ensures { result ≡ is_admitted level octet }
@@ -18,11 +15,12 @@ pub(crate) fn admits(level: Level, octet: u8) -> bool
     }
 }
 
+// Its signs and its digits stand side by side, but for `#` and `$`, which it lacks.
 #[tactic(auto, unfolding(crate::specs::Repertoire::is_in_level_a))]
 fn is_in_level_a(octet: u8) -> bool
     ensures { result ≡ is_in_level_a_of octet }
 {
-    octet.is_ascii_uppercase() || octet.is_ascii_digit() || SIGNS.contains(&octet)
+    matches!(octet, b' '..=b'"' | b'%'..=b'?' | b'A'..=b'Z')
 }
 
 fn is_printable(octet: u8) -> bool

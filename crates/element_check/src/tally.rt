@@ -1,7 +1,7 @@
 //! What one scan of a value finds.
-ghost use Rattle.std.specs.Prelude.{◌≡◌, ◌+◌, ◌<◌, ◌^◌, ◌&&◌, not, if◌then◌else◌};
+ghost use Rattle.std.specs.Prelude.{◌≡◌, ◌+◌, ◌<◌, ◌^◌, ◌&&◌, not};
 ghost use Rattle.seg_lexer.specs.Value.{octets_of};
-ghost use Rattle.element_check.specs.Tally.{form_after, is_foreign_sort, is_number, is_uncounted_sort, nothing_found, sort_of as sort_of_octet, tally_over};
+ghost use Rattle.element_check.specs.Tally.{form_after, is_number, nothing_found, numbered_after, sort_of as sort_of_octet, tally_over, typed_after};
 ghost use Rattle.element_check.specs.Value.{is_mark as is_mark_of, is_numeric, is_service_character as is_service_character_of};
 
 use crate::repertoire::admits;
@@ -72,6 +72,50 @@ impl Form {
 }
 
 impl Tally {
+    /// What was found after one more octet of a value of a class, its repertoire left out.
+    #[inline(always)]
+    fn after(self, service: &Service, class: Class, octet: u8) -> Tally
+        requires { self.counted + 1 < 2 ^ 64 }
+        ensures { result ≡ typed_after service.now class self octet }
+    {
+        match class {
+            Class::An => Tally {
+                counted: self.counted + 1,
+                ..self
+            },
+            Class::A => Tally {
+                foreign: self.foreign || octet.is_ascii_digit(),
+                counted: self.counted + 1,
+                ..self
+            },
+            Class::N => self.after_sort(sort_of(service, octet)),
+        }
+    }
+
+    /// The same for one more octet of a number, of that sort.
+    fn after_sort(self, sort: Sort) -> Tally
+        requires { self.counted + 1 < 2 ^ 64 }
+        ensures { result ≡ numbered_after self sort }
+    {
+        match sort {
+            Sort::Digit => Tally {
+                counted: self.counted + 1,
+                form: self.form.after(sort),
+                ..self
+            },
+            Sort::Hyphen | Sort::Point => Tally {
+                form: self.form.after(sort),
+                ..self
+            },
+            Sort::Other => Tally {
+                foreign: true,
+                counted: self.counted + 1,
+                form: Form::Broken,
+                ..self
+            },
+        }
+    }
+
     /// Whether a value of a class must be a number, has its octets, and isn't one.
     pub(crate) fn is_no_number(&self, class: Class) -> bool
         ensures { result
@@ -88,38 +132,26 @@ impl Tally {
 pub(crate) fn scan<O: Octets>(context: &Context, class: Class, value: &Value<'_, O>) -> Tally
     ensures { result ≡ tally_over context.now class nothing_found (octets_of value.now) }
 {
+    // Each class is scanned by a loop of its own: most values are of class an, and few tests are theirs.
+    match class {
+        Class::A => scan_as(context, Class::A, value),
+        Class::N => scan_as(context, Class::N, value),
+        Class::An => scan_as(context, Class::An, value),
+    }
+}
+
+#[inline(always)]
+fn scan_as<O: Octets>(context: &Context, class: Class, value: &Value<'_, O>) -> Tally
+    ensures { result ≡ tally_over context.now class nothing_found (octets_of value.now) }
+{
     let mut found = NOTHING;
     for octet in value.octets() {
-        let sort = sort_of(&context.service, octet);
         found = Tally {
             refused: found.refused || !admits(context.level, octet),
-            foreign: found.foreign || is_foreign(class, sort),
-            counted: count_after(class, sort, found.counted),
-            form: found.form.after(sort),
+            ..found.after(&context.service, class, octet)
         };
     }
     found
-}
-
-/// Whether a class doesn't admit an octet of that sort.
-fn is_foreign(class: Class, sort: Sort) -> bool
-    ensures { result ≡ is_foreign_sort class sort }
-{
-    matches!(
-        (class, sort),
-        (Class::A, Sort::Digit) | (Class::N, Sort::Other)
-    )
-}
-
-/// How many octets are counted, after one of that sort: the length of a number leaves `-` and marks out.
-fn count_after(class: Class, sort: Sort, counted: usize) -> usize
-    requires { counted + 1 < 2 ^ 64 }
-    ensures { result ≡ (if is_uncounted_sort class sort then counted else counted + 1) }
-{
-    match (class, sort) {
-        (Class::N, Sort::Hyphen | Sort::Point) => counted,
-        _ => counted + 1,
-    }
 }
 
 #[tactic(auto, unfolding(crate::specs::Tally::sort_of))]

@@ -1,7 +1,7 @@
 use Rattle.std.proofs.Common.{◌≡◌, ◌+◌, ◌<◌, ◌^◌, length}
 use Rattle.seg_lexer.specs.Value.{octets_of}
 use Rattle.element_check.specs.Tally.{nothing_found, tally_over}
-use Rattle.element_check.proofs.tally.scan.Given as goal
+use Rattle.element_check.proofs.tally.scan_as.Given as goal
 
 -- what was found so far, and then in what is left, is what is found in all
 abbrev pub invariant-loop-octet : goal.invariant-loop-octet

@@ -53,6 +53,10 @@ abbrev pub first_value : List (List ℕ) → List ℕ
 first_value [] = []
 first_value (v ∷ vs) = v
 
+-- the first of these values has an octet
+abbrev pub is_first_filled : List (List ℕ) → Bool
+is_first_filled values = is_filled (first_value values)
+
 abbrev pub later_values : List (List ℕ) → List (List ℕ)
 later_values [] = []
 later_values (v ∷ vs) = vs

@@ -92,7 +92,16 @@ fn check_composite<O: Octets>(
     }
 }
 
-fn is_any_filled<O: Octets>(element: u32, values: &Ahead<'_, O>) -> bool
+/// Whether any value of an element is filled. Most often the first is, and then no other is read.
+fn is_any_filled<O: Octets>(element: u32, values: &mut Ahead<'_, O>) -> bool
+    ensures filled { result ≡ list_any is_filled_of (values_left element values.old) }
+    ensures values { values_left element values.new ≡ values_left element values.old }
+    ensures ahead { components_ahead values.new ≡ components_ahead values.old }
+{
+    values.begins_filled(element) || is_filled_behind(element, values)
+}
+
+fn is_filled_behind<O: Octets>(element: u32, values: &Ahead<'_, O>) -> bool
     ensures { result ≡ list_any is_filled_of (values_left element values.now) }
 {
     let mut values = *values;

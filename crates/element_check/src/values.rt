@@ -3,7 +3,7 @@ ghost use Rattle.std.specs.Prelude.{◌≡◌, None};
 ghost use Rattle.std.specs.Iterator.{YieldsFirstBy};
 ghost use Rattle.seg_lexer.specs.Left.{components_left};
 ghost use Rattle.seg_lexer.specs.Value.{octets_of};
-ghost use Rattle.element_check.specs.Streams.{after_front, components_ahead, seen, values_left};
+ghost use Rattle.element_check.specs.Streams.{after_front, components_ahead, is_first_filled, seen, values_left};
 
 use edi_octets::Octets;
 use seg_lexer::{Component, Fields, Value};
@@ -53,6 +53,22 @@ impl<'a, O: Octets> Ahead<'a, O> {
             return None;
         }
         Some(found.value)
+    }
+
+    /// Whether the component that is next belongs to an element and has a value. It is still the next one.
+    #[tactic(auto, unfolding(crate::specs::Streams::components_ahead, crate::specs::Streams::values_left))]
+    pub(crate) fn begins_filled(&mut self, element: u32) -> bool
+        ensures values { values_left element self.new ≡ values_left element self.old }
+        ensures ahead { components_ahead self.new ≡ components_ahead self.old }
+        ensures filled { result ≡ is_first_filled (values_left element self.old) }
+    {
+        if self.read.is_none() {
+            self.read = self.rest.next();
+        }
+        match &self.read {
+            Some(found) => found.element == element && !found.value.is_empty(),
+            None => false,
+        }
     }
 
     /// Takes all components of an element that are next.

@@ -2,7 +2,7 @@ use Rattle.std.proofs.Common.{◌≡◌, length}
 use Rattle.std.specs.List.{list_any}
 use Rattle.element_check.specs.Local.{is_filled}
 use Rattle.element_check.specs.Streams.{values_left}
-use Rattle.element_check.proofs.element.is_any_filled.Given as goal
+use Rattle.element_check.proofs.element.is_filled_behind.Given as goal
 
 -- the values so far are empty
 abbrev pub invariant-loop-value : goal.invariant-loop-value

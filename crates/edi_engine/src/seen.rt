@@ -88,6 +88,8 @@ impl<'e> Iterator for Segments<'e> {
 
     ghost remaining = { item_count (λ left. left) };
 
+    // Each walk over a text's segments makes one such call for each.
+    #[inline(always)]
     fn next(&mut self) -> Option<Seen<'e>> {
         let record = self.current?;
         let next = self.rest.next();

@@ -26,6 +26,7 @@ impl<'a, O: Octets> Ahead<'a, O> {
     }
 
     /// Takes the next component.
+    #[inline(always)]
     #[tactic(auto, unfolding(crate::specs::Streams::components_ahead))]
     pub(crate) fn step(&mut self) -> Option<Component<'a, O>>
         ensures next { YieldsFirstBy seen components_ahead self.old result self.new }

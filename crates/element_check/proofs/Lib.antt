@@ -1,5 +1,6 @@
 pub mod AscendingLemmas
 pub mod BridgeLemmas
+mod CodeLemmas
 pub mod ElementLemmas
 mod ErrorsLemmas
 mod NumberLemmas

@@ -1,6 +1,8 @@
 //! What a segment is checked by: its items, the parts of composites, and code lists.
-ghost use Rattle.std.specs.Prelude.{None, ◌≡◌, if◌then◌else◌};
+ghost use Rattle.std.specs.Prelude.{None, ◌≡◌, if◌then◌else◌, IfSome};
 ghost use Rattle.std.specs.Option.{ForSome, option_copied};
+ghost use Rattle.edi_tables.specs.Ascending.{IsAscendingBy};
+ghost use Rattle.dir_compile.specs.Compile.{value_name};
 ghost use Rattle.dir_compile.specs.Directory.{IsDirectory};
 ghost use Rattle.element_check.specs.Rules.{list_of, parts_of, rules_of};
 
@@ -78,15 +80,20 @@ impl<'a> Rules<'a> {
     /// The code list that the values of a data element must be in, if one is loaded: none where its composite names a
     /// list itself.
     pub(crate) fn list_unless(&self, named: bool, element: Code) -> Option<&'a CodeList>
-        ensures { option_copied result ≡ (if named then None else list_of self.now element.octets) }
+        ensures list { option_copied result
+            ≡ (if named then None else list_of self.now element.octets) }
+        ensures ordered { IfSome (option_copied result)
+            (λ list. IsAscendingBy value_name list.values) }
     {
         if named { None } else { self.list(element) }
     }
 
-    /// The code list of a data element, if one is loaded.
+    /// The code list of a data element, if one is loaded, with its codes in ascending order.
     #[tactic(auto, unfolding(crate::specs::Rules::list_of))]
     fn list(&self, element: Code) -> Option<&'a CodeList>
-        ensures { option_copied result ≡ list_of self.now element.octets }
+        ensures list { option_copied result ≡ list_of self.now element.octets }
+        ensures ordered { IfSome (option_copied result)
+            (λ list. IsAscendingBy value_name list.values) }
     {
         self.directory?.list(element)
     }

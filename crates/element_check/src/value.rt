@@ -1,8 +1,12 @@
 //! The tests of a value.
-ghost use Rattle.std.specs.Prelude.{◌≡◌, ◌+◌, ◌++◌, ◌<◌, ◌&&◌, nat_lt, length, OnOk, OnErr};
+ghost use Rattle.std.specs.Prelude.{◌≡◌, ◌+◌, ◌++◌, ◌<◌, ◌&&◌, nat_lt, length, IfSome, OnOk, OnErr};
+ghost use Rattle.std.specs.Cmp.Lexicographic.{slice_cmp};
 ghost use Rattle.std.specs.List.{list_any};
 ghost use Rattle.std.specs.Option.{option_copied};
+ghost use Rattle.std.specs.Ordering.{nat_cmp};
 ghost use Rattle.std.specs.Str.{bytes_eq};
+ghost use Rattle.edi_tables.specs.Ascending.{IsAscendingBy};
+ghost use Rattle.dir_compile.specs.Compile.{value_name};
 ghost use Rattle.seg_lexer.specs.Value.{octets_of};
 ghost use Rattle.element_check.specs.Streams.{test_results, told_errors};
 ghost use Rattle.element_check.specs.Value.{is_unlisted as is_unlisted_of};
@@ -14,6 +18,7 @@ use edi_tables::{CodeList, Repr};
 use error_ledger::Kind;
 use seg_lexer::{Context, Value};
 use std::alloc::AllocError;
+use std::cmp::Ordering;
 
 /// How many tests a value has.
 const TESTS: usize = 6;
@@ -25,6 +30,7 @@ pub(crate) fn test_value<O: Octets>(
     list: Option<&CodeList>,
     value: &Value<'_, O>,
 ) -> [(Kind, bool); TESTS]
+    requires ordered { IfSome (option_copied list) (λ list. IsAscendingBy value_name list.values) }
     ensures { result
         ≡ test_results context.now repr (option_copied list.entry) (octets_of value.now) }
 {
@@ -48,6 +54,7 @@ fn is_too_short(repr: Repr, counted: usize) -> bool
 
 /// Whether a value isn't in the code list that it must be in, if there is one.
 fn is_unlisted<O: Octets>(list: Option<&CodeList>, value: &Value<'_, O>) -> bool
+    requires ordered { IfSome (option_copied list) (λ list. IsAscendingBy value_name list.values) }
     ensures { result ≡ is_unlisted_of (option_copied list.entry) (octets_of value.now) }
 {
     match list {
@@ -56,13 +63,35 @@ fn is_unlisted<O: Octets>(list: Option<&CodeList>, value: &Value<'_, O>) -> bool
     }
 }
 
+/// Whether a value is one of the codes of a list. They ascend, so it is found by halving.
 fn is_listed<O: Octets>(list: &CodeList, value: &Value<'_, O>) -> bool
+    requires ordered { IsAscendingBy value_name list.now.values }
     ensures { result ≡ list_any (λ code. bytes_eq code (octets_of value.now)) list.now.values }
 {
     list.values
         .items()
-        .iter()
-        .any(|code| value.is(code.octets()))
+        .binary_search_by(|code| order_of(code.octets(), value))
+        .is_ok()
+}
+
+/// How a code stands to a value in octet order. The octets of the value are read up to the first that differs.
+fn order_of<O: Octets>(code: &[u8], value: &Value<'_, O>) -> Ordering
+    ensures { result ≡ slice_cmp nat_cmp code.now (octets_of value.now) }
+{
+    let mut rest = code;
+    for octet in value.octets() {
+        let [first, later @ ..] = rest else {
+            return Ordering::Less;
+        };
+        match first.cmp(&octet) {
+            Ordering::Equal => rest = later,
+            unequal => return unequal,
+        }
+    }
+    match rest {
+        [] => Ordering::Equal,
+        [_, ..] => Ordering::Greater,
+    }
 }
 
 /// Puts the kinds of the tests that were failed.

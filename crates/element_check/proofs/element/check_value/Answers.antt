@@ -13,7 +13,7 @@ told : (g : _) (c : After-put_failed g) → told_errors c.args.element c.args.co
     ≡ part_errors c.args.rules.now c.args.element c.args.component c.args.part.now c.args.named (octets_of c.args.value.now)
 told g c = part-filled c.args.rules.now c.args.element c.args.component c.args.part.now c.args.named (octets_of c.args.value.now) c.is_empty.result
     c.rules.inside.context.now (option_copied c.list_unless-list.result) c.test_value-results.result
-    (ap (λ (r : SegmentRules). r.context) c.rules.view_is) c.list_unless-list.ensures c.test_value-results.ensures c.is_empty.ensures c.if-is_empty.false
+    (ap (λ (r : SegmentRules). r.context) c.rules.view_is) c.list_unless-list.ensures.list c.test_value-results.ensures c.is_empty.ensures c.if-is_empty.false
 
 pub returns-clause-ok : goal.returns-clause-ok
 returns-clause-ok g c =

@@ -15,7 +15,6 @@ use edi_tables::Chunk;
 use envelope_check::{Head, HeadKind, SegmentMark};
 use seg_lexer::{Fields, Service};
 use segment_records::copy_value;
-use seq_tree::Seq;
 use std::alloc::{AllocError, Global};
 
 impl Engine<'_> {
@@ -37,8 +36,8 @@ impl Engine<'_> {
     }
 
     // The first octet and the tag of each segment.
-    pub(crate) fn marks(&self, alloc: Global) -> Result<Seq<SegmentMark>, AllocError>
-        ensures { IfOk result (λ marks. marks ≡ marks_of (segments_in self.now.text)) }
+    pub(crate) fn marks(&self, alloc: Global) -> Result<Vec<SegmentMark>, AllocError>
+        ensures { IfOk result (λ marks. marks.items ≡ marks_of (segments_in self.now.text)) }
     {
         let mut marks = Vec::with_capacity(alloc, self.segment_count() as usize)?;
         for seen in self.segments() {
@@ -47,7 +46,7 @@ impl Engine<'_> {
                 tag: seen.record.tag(),
             })?;
         }
-        Seq::of_items(alloc, marks)
+        Ok(marks)
     }
 }
 

@@ -1,5 +1,5 @@
 -- How the errors of a text are told segment by segment.
-use Rattle.std.proofs.Common.{◌≡◌, ℕ, zero, suc, ◌+◌, ◌<◌, List, [], ◌∷◌, ◌++◌, Option, Some, length, drop, sym, ap, subst, ◌∙◌, not, arith, add-one, append_assoc, append-nil}
+use Rattle.std.proofs.Common.{◌≡◌, ℕ, zero, suc, ◌+◌, ◌<◌, List, [], ◌∷◌, ◌++◌, Option, Some, length, drop, sym, ap, subst, ◌∙◌, not, arith, add-one, append_assoc, append-nil, length-drop}
 use Rattle.std.specs.Prelude.{slice_get, is_some}
 use Rattle.std.specs.List.{range_with_len, flat_map}
 use Rattle.std.proofs.lemmas.List.Concat.{flat_map-append}
@@ -55,14 +55,9 @@ next_of (m ∷ marks) (suc i) mark more same =
     let later = next_of marks i mark more same in
     record { here = later.here; after = later.after }
 
-none_left : (marks : List SegmentMark) (i : ℕ) → i < length marks → drop i marks ≡ [] → ⊥
-none_left [] i within none = omega arith
-none_left (m ∷ marks) zero within none = cc
-none_left (m ∷ marks) (suc i) within none = none_left marks i (omega arith) none
-
 -- a segment is left before the end
-pub some_left : (heads : List Head) (marks : List SegmentMark) (i : ℕ) (known : Known) (rest : List Head) (left : List SegmentMark) (errors : List ErrorLine) → i < length marks → IsDone heads marks i known rest left errors → left ≡ [] → ⊥
-some_left heads marks i known rest left errors within done none = none_left marks i within (sym done.left_is ∙ none)
+pub some_left : (heads : List Head) (marks : List SegmentMark) (i : ℕ) (known : Known) (rest : List Head) (left : List SegmentMark) (errors : List ErrorLine) → i < length marks → IsDone heads marks i known rest left errors → length left ≡ 0 → ⊥
+some_left heads marks i known rest left errors within done none = omega (arith, length-drop i marks, ap length done.left_is)
 
 range_more : (a n j : ℕ) → a + n ≡ j → range_with_len a (suc n) ≡ range_with_len a n ++ j ∷ []
 range_more a zero j sum = ap (λ k. k ∷ []) (omega arith)

@@ -16,7 +16,6 @@ use crate::heads::{first_unb, has_end, split_here};
 use crate::known::Known;
 use crate::rules::{Rule, rules};
 use error_ledger::{ErrorLine, Kind};
-use seq_tree::Seq;
 use std::alloc::{AllocError, Global};
 
 /// The errors of the envelopes of a text, in the order of errors: of the interchange, its functional groups and its messages.
@@ -28,7 +27,7 @@ pub fn envelope_errors(
     alloc: Global,
     heads: &[Head],
     total: u32,
-    starts: &Seq<SegmentMark>,
+    starts: &[SegmentMark],
 ) -> Result<Vec<ErrorLine>, AllocError>
     requires fits { Fits heads.now starts.now }
     requires total { total ≡ length starts.now }

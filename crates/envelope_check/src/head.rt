@@ -3,7 +3,6 @@ ghost use Rattle.std.specs.Prelude.{◌≡◌};
 ghost use Rattle.envelope_check.specs.Heads.{kind_of};
 
 use edi_tables::{Chunk, Tag};
-use seq_tree::Measured;
 
 /// Which of the six tags that open or close an interchange, a functional group or a message.
 #[derive(Clone, Copy, Debug, PartialEq, Eq)]
@@ -49,17 +48,9 @@ pub struct Head {
     pub tabled: bool,
 }
 
-/// A segment's first octet, and its tag if it has one. Each weighs 1.
+/// A segment's first octet, and its tag if it has one.
 #[derive(Clone, Copy, Debug, PartialEq, Eq)]
 pub struct SegmentMark {
     pub start: u32,
     pub tag: Option<Tag>,
-}
-
-impl Measured for SegmentMark {
-    ghost measure = { λ _. 1 };
-
-    fn weight(&self) -> u32 {
-        1
-    }
 }

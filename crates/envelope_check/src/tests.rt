@@ -6,7 +6,6 @@ ghost use Rattle.envelope_check.specs.Heads.{Fits, place_of, place_by};
 use crate::{Head, HeadKind, SegmentMark, envelope_errors};
 use edi_tables::{Chunk, Tag};
 use error_ledger::print_errors;
-use seq_tree::Seq;
 use std::alloc::{AllocError, Global};
 use std::process::Abort;
 use std::test::Fail;
@@ -86,8 +85,7 @@ fn expect(rt: &impl Abort, alloc: Global, rows: &[Row], wanted: &str) -> Result<
         push_row(alloc, &mut heads, &mut marks, row)?;
     }
     let total = marks.len() as u32;
-    let starts = Seq::of_items(alloc, marks)?;
-    let errors = envelope_errors(alloc, &heads, total, &starts)?;
+    let errors = envelope_errors(alloc, &heads, total, &marks)?;
     let printed = print_errors(alloc, &errors)?;
     assert!(rt; printed.octets() == wanted.as_bytes(), "{wanted}");
     Ok(())

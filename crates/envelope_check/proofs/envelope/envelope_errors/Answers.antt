@@ -5,7 +5,7 @@ use Rattle.envelope_check.proofs.Progress.{done_first, done_next, done_all, some
 use Rattle.envelope_check.proofs.envelope.envelope_errors.Goals as goal
 
 pub loop-init : goal.loop-init
-loop-init c = done_first _ _ _ _ _ c.requires.fits c.first-known.ensures c.iter-marks.ensures c.in_ok-errors.ensures
+loop-init c = done_first _ _ _ _ _ c.requires.fits c.first-known.ensures c.iter-marks.ensures.rest c.in_ok-errors.ensures
 
 pub unreachable-requires : goal.unreachable-requires
 unreachable-requires c = some_left _ _ _ _ _ _ _ (omega (arith, c.loop-test.true, c.requires.total)) c.loop.invariant c.in_default.ensures.steps.0

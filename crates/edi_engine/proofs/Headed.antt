@@ -131,6 +131,12 @@ module _ (dir : Parts) (context : Context) (s : Service) (text : List ℕ) (segm
   pub marks_alike : mark_seen seen ≡ record { start = segment.start; tag = segment.tag }
   marks_alike = ap (λ (n : ℕ). record { start = n; tag = segment.tag }) starts_alike
 
+-- a mark with the first octet and the tag of a segment is that of the segment
+pub mark_is : (seen : SeenSegment) (mark : SegmentMark) → mark.start ≡ (as_segment seen).start → mark.tag ≡ seen.kept.tag → mark ≡ mark_seen seen
+mark_is seen mark start tag =
+    ap (λ (n : ℕ). let m : SegmentMark = record { start = n; tag = mark.tag } in m) start
+    ∙ ap (λ (t : Option Tag). let m : SegmentMark = record { start = (as_segment seen).start; tag = t } in m) tag
+
 -- members with their numbers, from 1 or from 0
 abbrev up : ℕ × Segment → ℕ × Segment
 up p = (p.0 + 1, p.1)

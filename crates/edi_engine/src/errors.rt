@@ -52,9 +52,13 @@ impl Engine<'_> {
             errors.items
             ≡ envelope_errors_of (heads_of self.now.directory segments) (marks_of segments)) }
     {
-        let heads = self.heads(alloc)?;
-        let marks = self.marks(alloc)?;
-        envelope_errors(alloc, &heads, self.segment_count(), &marks)
+        let envelopes = self.envelopes(alloc)?;
+        envelope_errors(
+            alloc,
+            &envelopes.heads,
+            self.segment_count(),
+            &envelopes.marks,
+        )
     }
 
     // Puts the errors of each segment by itself and by its message.

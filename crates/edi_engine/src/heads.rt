@@ -17,36 +17,38 @@ use seg_lexer::{Fields, Service};
 use segment_records::copy_value;
 use std::alloc::{AllocError, Global};
 
+/// What the rules on envelopes ask of a text: the segments that open or close one, in order, and the first octet and
+/// the tag of each segment.
+#[derive(Drop)]
+pub(crate) struct Envelopes {
+    pub(crate) heads: Vec<Head>,
+    pub(crate) marks: Vec<SegmentMark>,
+}
+
 impl Engine<'_> {
-    // All segments that open or close an envelope, in order. Their values are read from the text.
-    pub(crate) fn heads(&self, alloc: Global) -> Result<Vec<Head>, AllocError>
-        ensures { IfOk result (λ heads. heads.items
+    // Its heads and marks, in one walk over its segments. The values of the heads are read from the text.
+    pub(crate) fn envelopes(&self, alloc: Global) -> Result<Envelopes, AllocError>
+        ensures heads { IfOk result (λ envelopes. envelopes.heads.items
             ≡ heads_of self.now.directory (segments_in self.now.text)) }
+        ensures marks { IfOk result
+            (λ envelopes. envelopes.marks.items ≡ marks_of (segments_in self.now.text)) }
     {
         let text = self.whole();
         let service = self.service();
         let mut heads = Vec::new(alloc);
+        let mut marks = Vec::with_capacity(alloc, self.segment_count() as usize)?;
         for seen in self.segments() {
-            if let Some(kind) = HeadKind::of(seen.record.tag()) {
+            let tag = seen.record.tag();
+            marks.push(SegmentMark {
+                start: seen.start(),
+                tag,
+            })?;
+            if let Some(kind) = HeadKind::of(tag) {
                 let head = read_head(alloc, &text, service, &seen, kind)?;
                 heads.push(head)?;
             }
         }
-        Ok(heads)
-    }
-
-    // The first octet and the tag of each segment.
-    pub(crate) fn marks(&self, alloc: Global) -> Result<Vec<SegmentMark>, AllocError>
-        ensures { IfOk result (λ marks. marks.items ≡ marks_of (segments_in self.now.text)) }
-    {
-        let mut marks = Vec::with_capacity(alloc, self.segment_count() as usize)?;
-        for seen in self.segments() {
-            marks.push(SegmentMark {
-                start: seen.start(),
-                tag: seen.record.tag(),
-            })?;
-        }
-        Ok(marks)
+        Ok(Envelopes { heads, marks })
     }
 }
 

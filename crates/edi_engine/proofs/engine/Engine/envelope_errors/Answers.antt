@@ -10,9 +10,9 @@ pub envelope_errors-requires-clause-fits : goal.envelope_errors-requires-clause-
 envelope_errors-requires-clause-fits c =
     let dir = c.args.self.now.directory in
     let segments = segments_in c.args.self.now.text in
-    subst (λ (heads : List Head). Fits heads c.deref-2.result.now) (sym (c.deref.ensures.value ∙ c.in_ok-heads.ensures))
-    (subst (Fits (heads_of dir segments)) (sym (c.deref-2.ensures.value ∙ c.in_ok-marks.ensures)) (fits_are dir segments))
+    subst (λ (heads : List Head). Fits heads c.deref-2.result.now) (sym (c.deref.ensures.value ∙ c.in_ok-envelopes.ensures.heads))
+    (subst (Fits (heads_of dir segments)) (sym (c.deref-2.ensures.value ∙ c.in_ok-envelopes.ensures.marks)) (fits_are dir segments))
 
 pub envelope_errors-requires-clause-total : goal.envelope_errors-requires-clause-total
 envelope_errors-requires-clause-total c =
-    c.segment_count.ensures ∙ count_marks c.args.self.now.text ∙ ap length (sym (c.deref-2.ensures.value ∙ c.in_ok-marks.ensures))
+    c.segment_count.ensures ∙ count_marks c.args.self.now.text ∙ ap length (sym (c.deref-2.ensures.value ∙ c.in_ok-envelopes.ensures.marks))

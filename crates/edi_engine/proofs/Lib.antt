@@ -10,6 +10,7 @@ pub mod Ending
 pub mod Following
 pub mod Grouping
 pub mod Headed
+pub mod LastMode
 pub mod Likeness
 pub mod Looking
 pub mod Nearby

@@ -1,5 +1,7 @@
 //! The records of a text, from a boundary on.
-ghost use Rattle.std.specs.Prelude.{◌≡◌, ◌+◌, ◌≤◌, ℕ, List, drop, length, IfOk};
+ghost use Rattle.std.specs.Prelude.{◌≡◌, ◌+◌, ◌-◌, ◌≤◌, ℕ, List, drop, length, IfOk};
+ghost use Rattle.std.specs.List.{slice_get};
+ghost use Rattle.std.specs.Option.{option_map_or};
 ghost use Rattle.seg_lexer.specs.Context.{context_of};
 ghost use Rattle.seg_lexer.specs.Segments.{IsBoundary};
 ghost use Rattle.seg_lexer.specs.Service.{IsUsable};
@@ -53,16 +55,26 @@ pub fn read_records<O: Octets, L: Ledger, M: Ledger>(
 {
     let room = text.len().saturating_sub(from) / SHORT_SEGMENT;
     let mut records = Vec::with_capacity(alloc, room)?;
-    let mut mode = before.share()?;
     let mut from = from;
     while let Lexed::Ended { start, end } = next_segment(text, &context.service, from, lexed) {
         let place = Place { from, start, end };
-        let record = Record::read(alloc, directory, context, &mode, text, place, placed)?;
-        mode = record.mode().share()?;
+        let mode = mode_after(before, &records);
+        let record = Record::read(alloc, directory, context, mode, text, place, placed)?;
         records.push(record)?;
         from = end + 1;
     }
     Ok(records)
+}
+
+// The mode after the last of these records, or where there is none, the one before.
+fn mode_after<'a>(before: &'a Mode, records: &'a [Record]) -> &'a Mode
+    ensures { result.now ≡ option_map_or (λ kept. kept.step.after)
+        (slice_get records.now (length records.now - 1)) before.now }
+{
+    match records.last() {
+        Some(record) => record.mode(),
+        None => before,
+    }
 }
 
 /// The context of a text, and the records of all its segments.

@@ -17,11 +17,11 @@ impl Measured for Gram {
     }
 }
 
-/// The weights 0, 1 and so on, so many.
+/// The weights 0 and 1 by turns, so many.
 fn seq_of(rt: &impl Abort, alloc: Global, count: u32) -> Result<Seq<Gram>, AllocError> {
     let mut grams = Vec::new(alloc);
     for weight in 0..count {
-        grams.push(Gram(weight))?;
+        grams.push(Gram(weight % 2))?;
     }
     assert!(rt; grams.len() < 1000);
     Seq::of_items(alloc, grams)

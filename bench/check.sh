@@ -28,10 +28,18 @@ rows = [b"UNH Message header M 1"] + [b"DTM Date C 1", b"RFF Reference C 1"] * 9
 open(folder + "/long2000", "wb").write(b"Message Type : TSTLNG\n" + b"".join(b"%04d %s\n" % (i + 1, r) for i, r in enumerate(rows)))
 manifest = open(folder + "/m", "rb").read()
 open(folder + "/m2", "wb").write(manifest + b"message long2000\n")
+# Lists of 400 codes for the coded values of the usual orders.
+entries = []
+for element, used in [("1001", "220"), ("1225", "9"), ("2005", "137"), ("2379", "102"), ("3035", "BY"), ("3055", "9"),
+                      ("5125", "AAA"), ("6063", "21"), ("7143", "EN")]:
+    codes = sorted({str(k) for k in range(1, 400)} | {used})
+    entries.append("-" * 70 + f"\n  {element}  Name of an element\n\n" + "".join(f"     {code}   Name\n" for code in codes))
+open(folder + "/longlists", "w").write("".join(entries))
+open(folder + "/m3", "wb").write(manifest.replace(b"codes uncl", b"codes longlists"))
 open(folder + "/absent", "wb").write(opening + b"UNH+1+TSTLNG:D:96A:UN'" + b"AAA'" * 1000000 + b"UNT+1000002+1'UNZ+1+R1'")
 P
 cd "$work"
-for case in "m usual" "m broken" "m terminators" "m2 absent" "m long"; do
+for case in "m usual" "m3 usual" "m broken" "m terminators" "m2 absent" "m long"; do
     python3 - "$program" $case <<'P'
 import resource, subprocess, sys, time
 program, manifest, name = sys.argv[1:]
@@ -43,6 +51,6 @@ for _ in range(3):
     best = took if best is None else min(best, took)
 peak = resource.getrusage(resource.RUSAGE_CHILDREN).ru_maxrss // 1024
 first = out.split(b"\n", 1)[0].decode()
-print(f"{name:12} {best:6.3f} s {peak:5} MiB {len(out):10} octets  {first}")
+print(f"{manifest:2} {name:12} {best:6.3f} s {peak:5} MiB {len(out):10} octets  {first}")
 P
 done

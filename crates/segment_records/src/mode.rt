@@ -1,7 +1,4 @@
 //! What one segment leaves to the next.
-ghost use Rattle.std.specs.Prelude.{◌≡◌, IfOk};
-
-use std::alloc::AllocError;
 use table_walk::State;
 
 /// Where a text is after one of its segments: outside of messages, inside a message that the directory has no segment
@@ -21,22 +18,6 @@ impl Drop for Mode {
         match self {
             Mode::Outside | Mode::Untabled => {}
             Mode::Within { table: _, state } => drop(state),
-        }
-    }
-}
-
-impl Mode {
-    /// The same mode once more. It takes memory only where the state has more than four pairs.
-    pub fn share(&self) -> Result<Mode, AllocError>
-        ensures { IfOk result (λ mode. mode ≡ self.now) }
-    {
-        match self {
-            Mode::Outside => Ok(Mode::Outside),
-            Mode::Untabled => Ok(Mode::Untabled),
-            Mode::Within { table, state } => Ok(Mode::Within {
-                table: *table,
-                state: state.share()?,
-            }),
         }
     }
 }

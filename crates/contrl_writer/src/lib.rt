@@ -13,8 +13,6 @@ mod segment;
 mod service;
 mod stamp;
 mod summary;
-#[cfg(test)]
-mod tests;
 mod write;
 
 pub use answer::Contrl;

@@ -4,8 +4,6 @@
 mod codes;
 mod elements;
 mod head;
-#[cfg(test)]
-mod tests;
 
 pub use codes::read_codes;
 pub use elements::read_elements;

@@ -6,8 +6,6 @@ mod gather;
 mod loading;
 mod manifest;
 mod stop;
-#[cfg(test)]
-mod tests;
 mod words;
 
 pub use loading::load;

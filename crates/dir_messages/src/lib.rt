@@ -6,8 +6,6 @@ mod form;
 mod reader;
 mod status;
 mod table_line;
-#[cfg(test)]
-mod tests;
 mod words;
 
 pub use reader::read_message;

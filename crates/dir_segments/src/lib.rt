@@ -11,6 +11,3 @@ mod segments;
 
 pub use composites::read_composites;
 pub use segments::read_segments;
-
-#[cfg(test)]
-mod tests;

@@ -9,8 +9,6 @@ mod line;
 mod reading;
 mod segments;
 mod stop;
-#[cfg(test)]
-mod tests;
 mod words;
 mod writing;
 

@@ -9,6 +9,3 @@ mod tables;
 pub use edit::{DrillEdit, make_edit};
 pub use interchange::make_interchange;
 pub use reduced::reduced_parts;
-
-#[cfg(test)]
-mod tests;

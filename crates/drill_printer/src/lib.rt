@@ -4,6 +4,3 @@
 mod drill;
 
 pub use drill::print_drill;
-
-#[cfg(test)]
-mod tests;

@@ -22,6 +22,3 @@ pub use form::{Form, Question, read_form};
 pub use program::{refuse_memory, run};
 pub use status::Status;
 pub use text_printer::Detail;
-
-#[cfg(test)]
-mod tests;

@@ -7,8 +7,6 @@ mod data;
 mod name;
 mod reader;
 mod stop;
-#[cfg(test)]
-mod tests;
 mod words;
 
 pub use command::Command;

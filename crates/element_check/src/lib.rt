@@ -7,8 +7,6 @@ mod error;
 mod repertoire;
 mod rules;
 mod tally;
-#[cfg(test)]
-mod tests;
 mod value;
 mod values;
 

@@ -7,8 +7,6 @@ mod heads;
 mod known;
 mod rules;
 mod step;
-#[cfg(test)]
-mod tests;
 
 pub use envelope::envelope_errors;
 pub use head::{Head, HeadKind, SegmentMark};

@@ -13,6 +13,3 @@ pub use error_text::print_errors;
 pub use kind::{Kind, code_of};
 pub use tree::{GroupMark, TreeLine, TreePlace};
 pub use tree_text::print_tree;
-
-#[cfg(test)]
-mod tests;

@@ -3,8 +3,6 @@
 
 mod piece;
 mod pieces;
-#[cfg(test)]
-mod tests;
 mod text;
 mod view;
 

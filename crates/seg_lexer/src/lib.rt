@@ -8,8 +8,6 @@ mod segment;
 mod service;
 mod stretch;
 mod tag;
-#[cfg(test)]
-mod tests;
 mod value;
 
 pub use components::{Component, Fields};

@@ -6,8 +6,6 @@ mod look;
 mod measure;
 mod run;
 mod sequence;
-#[cfg(test)]
-mod tests;
 mod tree;
 mod walk;
 

@@ -4,8 +4,6 @@
 mod position;
 mod read;
 mod state;
-#[cfg(test)]
-mod tests;
 
 pub use read::read_tags;
 pub use state::{Placed, State, start};

@@ -6,6 +6,3 @@ mod text;
 mod value_lines;
 
 pub use text::{Detail, PrintedText, print_text};
-
-#[cfg(test)]
-mod tests;

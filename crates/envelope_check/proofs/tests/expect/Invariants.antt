@@ -1,6 +1,0 @@
-use Rattle.std.proofs.Common.{◌≡◌, length}
-use Rattle.envelope_check.specs.Heads.{Fits}
-use Rattle.envelope_check.proofs.tests.expect.Given as goal
-
-abbrev pub invariant-loop-row : goal.invariant-loop-row
-invariant-loop-row g l = Fits l.heads.items l.marks.items × (length l.marks.items ≡ l.row-index)

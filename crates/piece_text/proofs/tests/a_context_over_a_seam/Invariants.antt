@@ -1,4 +1,0 @@
-use Rattle.piece_text.proofs.tests.a_context_over_a_seam.Given as goal
-
-abbrev pub ghosts-context_of : goal.ghosts-context_of
-ghosts-context_of g a = record { name = a.blank.name; parts = a.blank.parts }

@@ -1,4 +1,0 @@
-use Rattle.piece_text.proofs.tests.a_value_in_three_pieces.Given as goal
-
-abbrev pub ghosts-first_lexed : goal.ghosts-first_lexed
-ghosts-first_lexed g a = record { name = a.blank.name; parts = a.blank.parts }

@@ -1,0 +1,11 @@
+//! Tests of public calls of the program: scripts, a drill, and runs over objects that fail.
+//!
+//! They stand in a crate of their own, over the proved libraries: a crate with tests in it is proved twice.
+#![tactic(auto)]
+
+#[cfg(test)]
+mod drill_printer_calls;
+#[cfg(test)]
+mod edicheck_core_calls;
+#[cfg(test)]
+mod edit_script_calls;

@@ -1,5 +1,0 @@
-use Rattle.table_walk.proofs.tests.readings_go_as_worked_by_hand.Given as goal
-
--- the test's counter stands for the ledger of its blank
-abbrev pub ghosts-expect_all : goal.ghosts-expect_all
-ghosts-expect_all g a = record { name = a.blank.name; parts = a.blank.parts }

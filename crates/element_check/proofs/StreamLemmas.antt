@@ -3,6 +3,7 @@ use Rattle.std.proofs.Common.{◌≡◌, ℕ, suc, ◌+◌, ◌<◌, ◌≤◌, 
 use Rattle.std.proofs.Math.ListN.{drop_of_length-le}
 use Rattle.std.proofs.Math.Nat.{le_refl}
 use Rattle.std.proofs.Math.Seq.{drop-cons}
+use Rattle.std.proofs.lemmas.Bool.{or_parts}
 use Rattle.std.proofs.lemmas.Bool.Decides.{nat_tests}
 use Rattle.std.specs.Prelude.{Option, Some, None, MatchOption, unwrap_or, if◌then◌else◌}
 use Rattle.std.specs.List.{list_any}
@@ -184,3 +185,10 @@ after_none-cond false v vs x xs ys none = refl
 pub after_front-none : (element : ℕ) (xs : List Component) → front_values element xs ≡ [] → after_front element xs ≡ xs
 after_front-none element [] none = refl
 after_front-none element (x ∷ xs) none = after_none-cond (eqb x.element element) x.octets (front_values element xs) x xs (after_front element xs) none
+
+-- nothing is told where no test was failed
+pub told-none : (element component : ℕ) (results : List (Kind × Bool)) → list_any (λ test. test.1) results ≡ false → told_errors element component results ≡ []
+told-none element component [] none = refl
+told-none element component (p ∷ ps) none =
+    let parts = or_parts p.1 (list_any (λ (test : Kind × Bool). test.1) ps) none in
+    ap (λ (b : Bool). when b (error_at element component p.0) ++ told_errors element component ps) parts.0 ∙ told-none element component ps parts.1

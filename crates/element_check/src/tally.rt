@@ -132,16 +132,38 @@ impl Tally {
 pub(crate) fn scan<O: Octets>(context: &Context, class: Class, value: &Value<'_, O>) -> Tally
     ensures { result ≡ tally_over context.now class nothing_found (octets_of value.now) }
 {
+    match value.slice() {
+        Some(octets) => scan_slice(context, class, octets),
+        None => scan_each(context, class, value),
+    }
+}
+
+fn scan_slice(context: &Context, class: Class, octets: &[u8]) -> Tally
+    ensures { result ≡ tally_over context.now class nothing_found octets.now }
+{
     // Each class is scanned by a loop of its own: most values are of class an, and few tests are theirs.
     match class {
-        Class::A => scan_as(context, Class::A, value),
-        Class::N => scan_as(context, Class::N, value),
-        Class::An => scan_as(context, Class::An, value),
+        Class::A => scan_as(context, Class::A, octets),
+        Class::N => scan_as(context, Class::N, octets),
+        Class::An => scan_as(context, Class::An, octets),
     }
 }
 
 #[inline(always)]
-fn scan_as<O: Octets>(context: &Context, class: Class, value: &Value<'_, O>) -> Tally
+fn scan_as(context: &Context, class: Class, octets: &[u8]) -> Tally
+    ensures { result ≡ tally_over context.now class nothing_found octets.now }
+{
+    let mut found = NOTHING;
+    for octet in octets {
+        found = Tally {
+            refused: found.refused || !admits(context.level, *octet),
+            ..found.after(&context.service, class, *octet)
+        };
+    }
+    found
+}
+
+fn scan_each<O: Octets>(context: &Context, class: Class, value: &Value<'_, O>) -> Tally
     ensures { result ≡ tally_over context.now class nothing_found (octets_of value.now) }
 {
     let mut found = NOTHING;

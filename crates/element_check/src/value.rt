@@ -94,7 +94,7 @@ fn order_of<O: Octets>(code: &[u8], value: &Value<'_, O>) -> Ordering
     }
 }
 
-/// Puts the kinds of the tests that were failed.
+/// Puts the kinds of the tests that were failed. Most often none was.
 pub(crate) fn put_failed(
     errors: &mut Errors,
     element: u32,
@@ -106,8 +106,17 @@ pub(crate) fn put_failed(
     ensures full { OnErr result
         (4 < length errors.old + length (told_errors element component results.now)) }
 {
+    if !is_any_failed(results) {
+        return Ok(());
+    }
     for &(kind, failed) in results {
         errors.put_if(failed, element, component, kind)?;
     }
     Ok(())
+}
+
+fn is_any_failed(results: &[(Kind, bool)]) -> bool
+    ensures { result ≡ list_any (λ test. test.1) results.now }
+{
+    results.iter().any(|test| test.1)
 }

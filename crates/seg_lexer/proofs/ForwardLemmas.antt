@@ -1,8 +1,8 @@
 -- A text read forwards: one octet after another, with one flag, that the next octet is released.
 use Rattle.std.proofs.Common.{◌≡◌, ℕ, zero, suc, ◌+◌, ◌-◌, ◌<◌, ◌≤◌, Bool, true, false, not, ◌&&◌, cond, List, [], ◌∷◌, ◌++◌, length, get_or, take, drop, Option, refl, sym, ap, ◌∙◌, arith}
 use Rattle.std.specs.Prelude.{map}
-use Rattle.std.specs.List.{filter, range_with_len}
-use Rattle.std.proofs.lemmas.Bool.{and_from, and_left, and_right, cond_both}
+use Rattle.std.specs.List.{filter, list_any, range_with_len}
+use Rattle.std.proofs.lemmas.Bool.{and_from, and_left, and_right, cond_both, or_parts}
 use Rattle.std.proofs.lemmas.List.{drop_more, take_more, take_all}
 use Rattle.seg_lexer.specs.Fields.{is_releasing, places_that, value_of}
 use Rattle.seg_lexer.specs.Released.{is_release, is_released}
@@ -87,3 +87,18 @@ length-value_of release xs =
     let few = length-plain release false xs in
     let same : length (value_of release xs) ≡ length (plain release false xs) = ap length (value-is release xs) in
     omega arith
+
+-- a component of two octets or more has a value
+pub value_of-two : (release : Option ℕ) (x y : ℕ) (xs : List ℕ) → 0 < length (value_of release (x ∷ y ∷ xs))
+value_of-two release x y xs = by (is_release release x) refl
+  where
+    by : (b : Bool) → is_release release x ≡ b → 0 < length (value_of release (x ∷ y ∷ xs))
+    by true released = let kept = ap length (value_of-release release x y xs released) in omega arith
+    by false other = let kept = ap length (value_of-plain release x (y ∷ xs) other) in omega arith
+
+-- a component without a release character is its own value
+pub value_of-all : (release : Option ℕ) (xs : List ℕ) → list_any (is_release release) xs ≡ false → value_of release xs ≡ xs
+value_of-all release [] none = value_of-none release
+value_of-all release (x ∷ xs) none =
+    let parts = or_parts (is_release release x) (list_any (is_release release) xs) none in
+    value_of-plain release x xs parts.0 ∙ ap (λ (ys : List ℕ). x ∷ ys) (value_of-all release xs parts.1)

@@ -1,6 +1,6 @@
 //! The scan over a text: for octets that aren't released, and over line breaks.
 ghost use Rattle.std.specs.Prelude.{◌≡◌, ◌+◌, ◌≤◌, MatchOption, IfSome, length, slice_index, take};
-ghost use Rattle.memchr.specs.Find.{IsFirst, IsFirstByte, NoneBefore, Nowhere};
+ghost use Rattle.memchr.specs.Find.{IsFirst, IsFirstByte, NoneBefore, Nowhere, is_byte2};
 ghost use Rattle.seg_lexer.specs.Scan.{IsFree, IsFreeIn, is_sought, released_after};
 ghost use Rattle.seg_lexer.specs.Segments.{is_break as is_break_of, lead};
 
@@ -8,7 +8,7 @@ use crate::LONGEST_TEXT;
 use crate::stretch::{StretchOctets, lend};
 use crate::value::is_release;
 use edi_octets::Octets;
-use memchr::{memchr, memchr2};
+use memchr::memchr;
 
 /// The octets that a scan looks for.
 #[derive(Clone, Copy)]
@@ -25,6 +25,7 @@ pub struct Found {
 }
 
 /// The first octet of `from..end` that is sought and that no octet from `from` on releases.
+#[inline(always)]
 pub fn find_free<O: Octets>(
     text: &O,
     release: Option<u8>,
@@ -57,6 +58,7 @@ pub fn find_free<O: Octets>(
 }
 
 // The first place of a part that is sought and isn't released, where the part's first octet is released or isn't.
+#[inline(always)]
 fn find_free_in(part: &[u8], release: Option<u8>, sought: Sought, released: bool) -> Option<usize>
     ensures { IsFirst (IsFreeIn release sought released part.now) 0 (length part.now) result }
 {
@@ -73,6 +75,7 @@ fn find_free_in(part: &[u8], release: Option<u8>, sought: Sought, released: bool
 
 // Whether the octet at a place of a part, or the one after its last, is released: it is where an odd run of release
 // characters comes before it. A run that reaches back to the part's first octet goes on before that.
+#[inline]
 fn is_released_in(part: &[u8], release: Option<u8>, place: usize, released: bool) -> bool
     requires { place ≤ length part.now }
     ensures { result ≡ released_after release released (take place part.now) }
@@ -90,13 +93,27 @@ fn is_released_in(part: &[u8], release: Option<u8>, place: usize, released: bool
 }
 
 // The first place that holds one of the sought octets.
+#[inline(always)]
 fn find_sought(part: &[u8], sought: Sought) -> Option<usize>
     ensures { IsFirstByte (is_sought sought) part.now result }
 {
     match sought {
         Sought::One(one) => memchr(one, part),
-        Sought::Two(one, two) => memchr2(one, two, part),
+        Sought::Two(one, two) => find_either(part, one, two),
     }
+}
+
+// The first place that holds one of two octets. The components of a segment are short: each octet is looked at.
+#[inline(always)]
+fn find_either(part: &[u8], one: u8, two: u8) -> Option<usize>
+    ensures { IsFirstByte (is_byte2 one two) part.now result }
+{
+    for (place, octet) in part.iter().enumerate() {
+        if *octet == one || *octet == two {
+            return Some(place);
+        }
+    }
+    None
 }
 
 /// The first place of `from..end` that holds neither CR nor LF, or else `end`.

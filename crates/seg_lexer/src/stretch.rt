@@ -7,6 +7,7 @@ use edi_octets::Octets;
 use std::marker::Model;
 
 /// What a text lends of `at..to`: a part that begins there, and that is empty only where the stretch is.
+#[inline(never)]
 pub fn lend<O: Octets>(text: &O, at: usize, to: usize) -> &[u8]
     requires ordered { at ≤ to }
     requires within { to ≤ length (O.octets text.now) }
@@ -67,6 +68,7 @@ impl<O: Octets> Iterator for StretchOctets<'_, O> {
 
     ghost remaining = { item_count (λ rest. rest) };
 
+    #[inline(always)]
     fn next(&mut self) -> Option<u8> {
         let part = lent(self.text, self.part, self.at, self.to);
         let (first, rest) = part.split_first()?;
@@ -77,6 +79,7 @@ impl<O: Octets> Iterator for StretchOctets<'_, O> {
 }
 
 // What is lent of `at..to`: the part that is still there, or else the next.
+#[inline(always)]
 fn lent<'a, O: Octets>(text: &'a O, part: &'a [u8], at: usize, to: usize) -> &'a [u8]
     requires { IsLent (O.octets text.now) at to part.now }
     ensures lent { IsLent (O.octets text.now) at to result.now }

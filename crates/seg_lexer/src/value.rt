@@ -1,10 +1,11 @@
 //! Values of components, and a cursor over the octets of one.
-ghost use Rattle.std.specs.Prelude.{List, ℕ, ⊤, ◌≡◌, ◌<◌, ◌≤◌, ◌^◌, ◌↔◌, ◌==◌, IsTrue, IfOk, length, slice_index, slice_range};
+ghost use Rattle.std.specs.Prelude.{List, ℕ, ⊤, ◌≡◌, ◌<◌, ◌≤◌, ◌^◌, ◌↔◌, ◌==◌, IsTrue, IfOk, IfSome, length, slice_index, slice_range};
 ghost use Rattle.std.specs.Iterator.{YieldsFirst, item_count};
+ghost use Rattle.std.specs.List.{list_any};
 ghost use Rattle.seg_lexer.specs.Fields.{value_of};
 ghost use Rattle.seg_lexer.specs.Released.{is_release as is_release_of};
 
-use crate::stretch::StretchOctets;
+use crate::stretch::{StretchOctets, lend};
 use edi_octets::Octets;
 use edi_tables::Chunk;
 use std::alloc::{AllocError, Global};
@@ -79,7 +80,11 @@ impl<'a, O: Octets> Value<'a, O> {
     pub fn is_empty(&self) -> bool
         ensures { result ≡ (length (octets_of self.now) == 0) }
     {
-        self.octets().next().is_none()
+        match self.to - self.from {
+            0 => true,
+            1 => is_release(self.release, self.text.octet(self.from)),
+            _ => false,
+        }
     }
 
     /// The octet at a place in it. This goes over all before it: use `octets` for one after another.
@@ -117,8 +122,31 @@ impl<'a, O: Octets> Value<'a, O> {
         rest.next().is_none()
     }
 
+    /// Its octets in one slice, where the text lends them in one part and none is a release character. Most values are so,
+    /// and then this costs less than going over `octets`.
+    #[tactic(auto, unfolding(crate::specs::Value::octets_of))]
+    pub fn slice(&self) -> Option<&'a [u8]>
+        ensures { IfSome result (λ octets. octets.now ≡ octets_of self.now) }
+    {
+        let part = lend(self.text, self.from, self.to);
+        if part.len() < self.to - self.from || has_release(self.release, part) {
+            return None;
+        }
+        Some(part)
+    }
+
     /// A copy of its octets.
     pub fn copy(&self, alloc: Global) -> Result<Chunk, AllocError>
+        ensures { IfOk result (λ c. c ≡ octets_of self.now) }
+    {
+        match self.slice() {
+            Some(octets) => Chunk::of(alloc, octets),
+            None => self.copy_each(alloc),
+        }
+    }
+
+    // The same, octet by octet.
+    fn copy_each(&self, alloc: Global) -> Result<Chunk, AllocError>
         ensures { IfOk result (λ c. c ≡ octets_of self.now) }
     {
         let mut copy = Chunk::with_room(alloc, self.to - self.from)?;
@@ -159,24 +187,42 @@ impl<O: Octets> Iterator for ValueOctets<'_, O> {
 
     ghost remaining = { item_count (λ rest. rest) };
 
+    #[inline(always)]
     fn next(&mut self) -> Option<u8> {
         next_kept(&mut self.written, self.release)
     }
 }
 
 /// The next octet of a value: the next one that is written, or the one after it where that is a release character.
+#[inline(always)]
 fn next_kept<O: Octets>(written: &mut StretchOctets<'_, O>, release: Option<u8>) -> Option<u8>
     ensures { let left = value_of release written.new in
         YieldsFirst (λ rest. rest) (value_of release written.old) result left }
 {
     let octet = written.next()?;
     if is_release(release, octet) {
-        return written.next();
+        return next_released(written);
     }
     Some(octet)
 }
 
+// Few octets are released.
+#[inline(never)]
+fn next_released<O: Octets>(written: &mut StretchOctets<'_, O>) -> Option<u8>
+    ensures { YieldsFirst (λ rest. rest) written.old result written.new }
+{
+    written.next()
+}
+
+// Whether one of these octets is the release character, if there is one.
+fn has_release(release: Option<u8>, part: &[u8]) -> bool
+    ensures { result ≡ list_any (is_release_of release) part.now }
+{
+    part.iter().any(|octet| is_release(release, *octet))
+}
+
 /// Whether an octet is the release character, if there is one.
+#[inline(always)]
 pub(crate) fn is_release(release: Option<u8>, octet: u8) -> bool
     ensures { result ≡ is_release_of release octet }
 {

@@ -7,7 +7,7 @@ returns-in_err-octet g c = kept-none c.args.release _ _ _ c.from_residual.ensure
 
 pub returns-then-is_release : goal.returns-then-is_release
 returns-then-is_release g c =
-    kept-released c.args.release _ _ _ c.in_ok-octet.ensures.steps _ _ (sym c.is_release.ensures ∙ c.if-is_release.true) c.next-then-is_release.ensures.steps
+    kept-released c.args.release _ _ _ c.in_ok-octet.ensures.steps _ _ (sym c.is_release.ensures ∙ c.if-is_release.true) c.next_released.ensures
 
 pub returns : goal.returns
 returns g c = kept-plain c.args.release _ _ _ c.in_ok-octet.ensures.steps (sym c.is_release.ensures ∙ c.if-is_release.false)

@@ -5,8 +5,6 @@ mod calls;
 mod shelf;
 mod sink;
 mod source;
-#[cfg(test)]
-mod tests;
 
 pub use shelf::FolderShelf;
 pub use sink::StdSink;

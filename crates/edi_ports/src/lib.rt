@@ -8,8 +8,6 @@ mod read;
 mod shelf;
 mod sink;
 mod source;
-#[cfg(test)]
-mod tests;
 
 pub use adapters::{FolderShelf, StdSink, StdSource};
 pub use memory::{MemShelf, MemSink, MemSource};

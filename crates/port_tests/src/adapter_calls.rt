@@ -1,5 +1,5 @@
 //! The adapters over a fake of std that fails in mid-stream, and a folder's shelf over the system's files.
-use crate::{FolderShelf, Opened, Put, Shelf, Sink, Source, StdSink, StdSource, Taken};
+use edi_ports::{FolderShelf, Opened, Put, Shelf, Sink, Source, StdSink, StdSource, Taken};
 use std::io;
 use std::io::{ErrorKind, Read, Write};
 

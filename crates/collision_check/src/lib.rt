@@ -8,6 +8,3 @@ mod marks;
 mod numbers;
 
 pub use list::{Collision, list_collisions};
-
-#[cfg(test)]
-mod tests;

@@ -23,6 +23,3 @@ pub use profile::{
     read_composite_code, read_element_code, read_position, read_repr, read_status,
 };
 pub use seen::Seen;
-
-#[cfg(test)]
-mod tests;

@@ -61,21 +61,3 @@ impl Chunk {
         self.items.extend_from_slice(part)
     }
 }
-
-#[cfg(test)]
-mod tests {
-    use super::*;
-    use std::test::Fail;
-
-    #[test]
-    fn octets_are_put_at_the_end(rt: HostRuntime) -> Result<(), Fail> {
-        let mut copied = Chunk::of(rt.alloc(), b"AB")?;
-        copied.add(b"")?;
-        copied.add(b"C")?;
-        assert!(rt; copied.octets() == b"ABC".as_slice());
-        let mut roomy = Chunk::with_room(rt.alloc(), 2)?;
-        roomy.add(b"XYZ")?;
-        assert!(rt; roomy.octets() == b"XYZ".as_slice());
-        Ok(())
-    }
-}

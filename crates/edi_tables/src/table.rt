@@ -323,6 +323,3 @@ impl Table {
         }
     }
 }
-
-#[cfg(test)]
-mod tests;

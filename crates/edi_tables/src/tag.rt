@@ -42,26 +42,3 @@ fn is_tag_octet(octet: u8) -> bool
 {
     octet.is_ascii_uppercase() || octet.is_ascii_digit()
 }
-
-#[cfg(test)]
-mod tests {
-    use super::*;
-
-    #[test]
-    fn a_tag_has_three_octets_and_begins_with_a_letter(rt: HostRuntime) {
-        for tag in [b"UNH".as_slice(), b"A12", b"ZZZ"] {
-            assert!(rt; is_tag(tag), "{tag:?}");
-        }
-        for other in [
-            b"".as_slice(),
-            b"UN",
-            b"UNHX",
-            b"1AB",
-            b"uNH",
-            b"U N",
-            b"UN:",
-        ] {
-            assert!(rt; !is_tag(other), "{other:?}");
-        }
-    }
-}

@@ -34,17 +34,3 @@ pub fn contrl_rows() -> &'static [TableRow]
 {
     CONTRL
 }
-
-#[cfg(test)]
-mod tests {
-    use super::*;
-    use edi_tables::Tag;
-
-    #[test]
-    fn the_rows_of_contrl_begin_and_end_with_the_message(rt: HostRuntime) {
-        let rows = contrl_rows();
-        assert_eq!(rt; rows.len(), 15);
-        assert_eq!(rt; rows[0].tag, Some(Tag { octets: *b"UNH" }));
-        assert_eq!(rt; rows[14].tag, Some(Tag { octets: *b"UNT" }));
-    }
-}

@@ -1,24 +1,36 @@
-//! Tables on the edges of the rules, and that of the test order.
-use crate::{Node, Table, TableKind, TableRow, TableStop, Tag};
+//! Owned octets, tags, tables on the edges of the rules, and that of the test order.
+use crate::rows::{dates, group, segment, test_order};
+use edi_tables::{Chunk, Node, RowFault, Table, TableKind, TableRow, TableStop, Tag, is_tag};
 use std::alloc::{AllocError, Global};
-use std::process::Abort;
 use std::test::Fail;
 
-const fn segment(name: &[u8; 3], must: bool, max: u32, depth: u8) -> TableRow {
-    TableRow {
-        tag: Some(Tag { octets: *name }),
-        must,
-        max,
-        depth,
-    }
+#[test]
+fn octets_are_put_at_the_end(rt: HostRuntime) -> Result<(), Fail> {
+    let mut copied = Chunk::of(rt.alloc(), b"AB")?;
+    copied.add(b"")?;
+    copied.add(b"C")?;
+    assert!(rt; copied.octets() == b"ABC".as_slice());
+    let mut roomy = Chunk::with_room(rt.alloc(), 2)?;
+    roomy.add(b"XYZ")?;
+    assert!(rt; roomy.octets() == b"XYZ".as_slice());
+    Ok(())
 }
 
-const fn group(max: u32, depth: u8) -> TableRow {
-    TableRow {
-        tag: None,
-        must: false,
-        max,
-        depth,
+#[test]
+fn a_tag_has_three_octets_and_begins_with_a_letter(rt: HostRuntime) {
+    for tag in [b"UNH".as_slice(), b"A12", b"ZZZ"] {
+        assert!(rt; is_tag(tag), "{tag:?}");
+    }
+    for other in [
+        b"".as_slice(),
+        b"UN",
+        b"UNHX",
+        b"1AB",
+        b"uNH",
+        b"U N",
+        b"UN:",
+    ] {
+        assert!(rt; !is_tag(other), "{other:?}");
     }
 }
 
@@ -28,16 +40,6 @@ fn nested(alloc: Global, groups: u8) -> Result<Vec<TableRow>, AllocError> {
     for depth in 0..groups {
         rows.push(group(1, depth))?;
         rows.push(segment(b"DTM", true, 1, depth.saturating_add(1)))?;
-    }
-    rows.push(segment(b"UNT", true, 1, 0))?;
-    Ok(rows)
-}
-
-/// UNH, so many optional DTM, and UNT.
-fn flat(alloc: Global, dates: u16) -> Result<Vec<TableRow>, AllocError> {
-    let mut rows = vec![in alloc; segment(b"UNH", true, 1, 0)]?;
-    for _ in 0..dates {
-        rows.push(segment(b"DTM", false, 1, 0))?;
     }
     rows.push(segment(b"UNT", true, 1, 0))?;
     Ok(rows)
@@ -63,40 +65,13 @@ fn groups_nest_to_depth_16(rt: HostRuntime) -> Result<(), Fail> {
 
 #[test]
 fn a_table_has_2000_rows_at_most(rt: HostRuntime) -> Result<(), Fail> {
-    let table = Table::build(rt.alloc(), &flat(rt.alloc(), 1998)?)?;
+    let table = Table::build(rt.alloc(), &dates(rt.alloc(), 1998)?)?;
     assert_eq!(rt; table.len(), 2000);
     assert_eq!(rt; table.node(1999).end, 2000);
-    let refused = Table::build(rt.alloc(), &flat(rt.alloc(), 1999)?);
-    let too_many = matches!(
-        &refused,
-        Err(TableStop::Fault {
-            at: 2000,
-            kind: TableKind::TooMany
-        })
-    );
-    assert!(rt; too_many, "{refused:?}");
+    let fault = Table::first_fault(&dates(rt.alloc(), 1999)?);
+    let kind = TableKind::TooMany;
+    assert_eq!(rt; fault, Some(RowFault { at: 2000, kind }));
     Ok(())
-}
-
-/// The rows of the test order.
-fn test_order() -> [TableRow; 15] {
-    [
-        segment(b"UNH", true, 1, 0),
-        segment(b"BGM", true, 1, 0),
-        segment(b"DTM", true, 2, 0),
-        group(2, 0),
-        segment(b"NAD", true, 1, 1),
-        segment(b"CTA", false, 1, 1),
-        group(3, 0),
-        segment(b"LIN", true, 1, 1),
-        segment(b"QTY", false, 1, 1),
-        group(2, 1),
-        segment(b"PRI", true, 1, 2),
-        segment(b"DTM", false, 1, 2),
-        segment(b"UNS", true, 1, 0),
-        segment(b"MOA", false, 1, 0),
-        segment(b"UNT", true, 1, 0),
-    ]
 }
 
 /// Nodes of the test order by their numbers: its first group, the group in another, and the trigger of that.

@@ -1,5 +1,5 @@
 //! Worked cases, by hand from the rules of the directory text profile.
-use crate::*;
+use edi_octets::*;
 use edi_tables::{Chunk, Class, Repr};
 use std::process::Abort;
 use std::test::Fail;

@@ -16,10 +16,10 @@ use Rattle.dir_load.specs.declared.stop.Refusal.{Refusal}
 use Rattle.dir_load.specs.Load.{load_of}
 use Rattle.text_printer.specs.declared.text.Detail.{Detail}
 use Rattle.text_printer.specs.Printing.{printed_text}
-use Rattle.edicheck_core.specs.declared.status.Status.{Status}
-use Rattle.edicheck_core.specs.declared.status.Status.TheVariants.{Done, Found, Memory, ReadFault}
-use Rattle.edicheck_core.specs.declared.status.Status.TheVariants as status
-use Rattle.edicheck_core.specs.Outcome.{Outcome, done, memory_refused, read_failed, too_large}
+use Rattle.script_answers.specs.Outcome.{Outcome, done, memory_refused, read_failed, too_large}
+use Rattle.script_answers.specs.declared.status.Status.TheVariants as status
+use Rattle.script_answers.specs.declared.status.Status.TheVariants.{Done, Found, Memory, ReadFault}
+use Rattle.script_answers.specs.declared.status.Status.{Status}
 use Rattle.edicheck_core.specs.Answer.{IsOneOf}
 use Rattle.edicheck_core.specs.Begun.{IsLoaded, IsUnloaded}
 use Rattle.contrl_writer.specs.declared.answer.Contrl.{Contrl}
@@ -30,14 +30,6 @@ use Rattle.edicheck_core.specs.Refusal.{refusal, unread}
 use Rattle.error_ledger.specs.declared.error.ErrorLine.{ErrorLine}
 use Rattle.edi_engine.specs.Errors.{errors_of}
 use Rattle.edi_engine.specs.Summary.{contrl_to}
-
--- a part was put whole, and then a proper prefix of the next one
-pub cut-after : (before between now : Option (List ℕ)) (head rest : List ℕ) → IfSome before (λ held. between ≡ Some (held ++ head)) → IsCut between now rest → IsCut before now (head ++ rest)
-cut-after None between now head rest put cut = tt
-cut-after (Some held) between now head rest put cut =
-    let c = subst (λ (o : Option (List ℕ)). IsCut o now rest) put cut in
-    let within = c.1 in
-    (length head + c.0, omega (arith, length-append head rest), c.2 ∙ ap Some (append_assoc held head (take c.0 rest) ∙ ap (λ (xs : List ℕ). held ++ xs) (sym (take-append-add head rest c.0))))
 
 -- there are texts of every length
 long_text : (n : ℕ) → (text : List ℕ) × (length text ≡ n)
@@ -106,10 +98,6 @@ pub printed-steady : {E : Type 0} (printed : Result (List ℕ) E) (due : Outcome
     → MatchResult printed (λ lines. due ≡ record { status = Done; output = lines }) (λ _. due ≡ memory_refused) → due.status ≡ ReadFault → ⊥
 printed-steady (Ok lines) due made failed = let is = sym (ap (λ (o : Outcome). o.status) made) ∙ failed in absurd (done_fails is)
 printed-steady (Err e) due made failed = let is = sym (ap (λ (o : Outcome). o.status) made) ∙ failed in absurd (memory_fails is)
-
--- a count that rose after another that didn't fall
-pub risen_later : (before between now : ℕ) → before ≤ between → HasRisen between now → HasRisen before now
-risen_later before between now grew risen = omega (arith, grew, risen)
 
 found_fails : Found ≡ ReadFault → ⊥
 found_fails is = cc

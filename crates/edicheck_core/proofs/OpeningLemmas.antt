@@ -9,13 +9,13 @@ use Rattle.edi_ports.specs.declared.named.Unread.TheVariants.{Absent}
 use Rattle.dir_compile.specs.declared.parts.Parts.{Parts}
 use Rattle.dir_load.specs.declared.stop.Refusal.{Refusal}
 use Rattle.dir_load.specs.Load.{load_of}
+use Rattle.script_answers.specs.Outcome.{Outcome, memory_refused, read_failed}
 use Rattle.edicheck_core.specs.declared.opening.Opening.{Opening}
 use Rattle.edicheck_core.specs.Answer.{IsOneOf}
 use Rattle.edicheck_core.specs.Begun.{IsLoaded, IsText, IsUnloaded, IsUnreadText}
 use Rattle.edicheck_core.specs.Form.{Question}
 use Rattle.edicheck_core.specs.Made.{asked_about, told_of}
 use Rattle.edicheck_core.specs.Opening.{IsOpening, IsUnopened, Opened, opened, opened_by}
-use Rattle.edicheck_core.specs.Outcome.{Outcome, memory_refused, read_failed}
 use Rattle.edicheck_core.specs.Refusal.{refusal, unread}
 
 -- a directory and a text were read

@@ -5,7 +5,7 @@ use Rattle.std.specs.Fmt.{digits}
 use Rattle.edi_octets.specs.declared.fault.DirKind.TheVariants.{CloseWithoutOpen}
 use Rattle.dir_load.specs.declared.stop.FileFault.TheVariants.{Grammar}
 use Rattle.dir_load.specs.declared.stop.Refusal.TheVariants.{File, Store}
-use Rattle.edicheck_core.specs.declared.status.Status.TheVariants.{BadDirectory}
+use Rattle.script_answers.specs.declared.status.Status.TheVariants.{BadDirectory}
 use Rattle.edicheck_core.specs.Refusal.{refusal}
 
 -- a file that breaks a rule of its grammar

@@ -1,17 +1,19 @@
 -- What a run may come to, and how it ends.
 use Rattle.std.specs.Prelude.{◌≡◌, ◌⊎◌, ◌<◌, ◌≤◌, ◌++◌, ℕ, true, List, [], Option, Some, IfSome, Ok}
 use Rattle.edi_ports.specs.Faults.{HasRisen}
-use Rattle.edi_ports.specs.Sink.{IsCut}
 use Rattle.edi_ports.specs.Read.{TakesFront}
-use Rattle.edicheck_core.specs.declared.status.Status.{Status}
-use Rattle.edicheck_core.specs.declared.status.Status.TheVariants.{Done, WriteFault, TooLarge}
+use Rattle.dir_compile.specs.declared.parts.Parts.{Parts}
 use Rattle.edi_engine.specs.Placed.{AreMessagesPlaced}
-use Rattle.edicheck_core.specs.Edit.{IsScriptRun}
+use Rattle.script_answers.specs.Finish.{IsFinish}
+use Rattle.script_answers.specs.Held.{Held}
+use Rattle.script_answers.specs.Outcome.{Outcome, memory_refused, read_failed}
+use Rattle.script_answers.specs.Script.{IsScriptAnswered}
+use Rattle.script_answers.specs.declared.status.Status.TheVariants.{Done, TooLarge}
+use Rattle.script_answers.specs.declared.status.Status.{Status}
 use Rattle.edicheck_core.specs.Form.{Asked, Edit, Text, needs_of}
-use Rattle.edicheck_core.specs.Inputs.{Inputs, Held}
+use Rattle.edicheck_core.specs.Inputs.{Inputs}
 use Rattle.edicheck_core.specs.Made.{IsPossible, made_by}
 use Rattle.edicheck_core.specs.Opening.{IsOpening, IsUnopened, Opened}
-use Rattle.edicheck_core.specs.Outcome.{Outcome, memory_refused, read_failed}
 
 -- an object that the words need has failed in this run
 abbrev pub HasFailed : Option Asked → Inputs → Inputs → Type 0
@@ -45,21 +47,16 @@ abbrev pub Takes : Option Asked → Status → Option (List ℕ) → Option (Lis
 Takes (Some (Text detail)) status before now = TakesText status before now
 Takes asked status before now = now ≡ before
 
--- a sink grew by these octets
-abbrev pub Grew : Option (List ℕ) → Option (List ℕ) → List ℕ → Type 0
-Grew before now octets = IfSome before (λ held. now ≡ Some (held ++ octets))
-
--- how it ends: as was due, with the whole output in the sink, or the sink failed and a proper prefix of it is there
-abbrev pub IsFinish : Outcome → Held → Held → Status → Type 0
-IsFinish due before now status =
-    ((status ≡ due.status) × Grew before.octets now.octets due.output)
-    ⊎ ((status ≡ WriteFault) × HasRisen before.faults now.faults × IsCut before.octets now.octets due.output)
-
 -- what a status says of a run that makes its whole output before it puts the first octet
 abbrev pub IsSettled : Option Asked → Inputs → Inputs → Held → Held → Status → Type 0
 IsSettled asked before now held held' status =
     (due : Outcome) × IsDue asked before now due × Takes asked due.status before.rest now.rest
     × IsFinish due held held' status
+
+-- a script was read from the input of a run, and answered, as its row says
+abbrev pub IsScriptRun : Parts → List ℕ → Inputs → Inputs → Held → Held → Status → Type 0
+IsScriptRun dir text before now held held' status =
+    IsScriptAnswered dir text before.rest now.rest (HasRisen before.input_faults now.input_faults) held held' status
 
 -- what a status says of an edit: nothing was taken from the input, and a refusal was put; or a script was answered on
 -- the directory and the text that were opened, and in trees by this directory each segment is placed first, and a

@@ -8,11 +8,11 @@ use Rattle.dir_compile.specs.declared.parts.Parts.{Parts}
 use Rattle.dir_load.specs.declared.stop.Refusal.{Refusal}
 use Rattle.dir_load.specs.Load.{load_of}
 use Rattle.edi_engine.specs.Placed.{AreMessagesPlaced}
-use Rattle.edicheck_core.specs.declared.status.Status.{Status}
-use Rattle.edicheck_core.specs.Answer.{IsFinish}
-use Rattle.edicheck_core.specs.Edit.{IsScriptAnswered}
-use Rattle.edicheck_core.specs.Inputs.{Held}
-use Rattle.edicheck_core.specs.Outcome.{Outcome, memory_refused, read_failed}
+use Rattle.script_answers.specs.Finish.{IsFinish}
+use Rattle.script_answers.specs.Held.{Held}
+use Rattle.script_answers.specs.Outcome.{Outcome, memory_refused, read_failed}
+use Rattle.script_answers.specs.Script.{IsScriptAnswered}
+use Rattle.script_answers.specs.declared.status.Status.{Status}
 use Rattle.edicheck_core.specs.Refusal.{refusal, unread}
 
 -- what is loaded by a manifest, where the files are told

@@ -1,9 +1,8 @@
--- What a run reads, and what it puts to.
+-- What a run reads.
 use Rattle.std.specs.Prelude.{ℕ, List, Option}
 use Rattle.edi_ports.specs.declared.shelf.ShelfFile.{ShelfFile}
 use Rattle.edi_ports.specs.declared.shelf.Shelf as shelf
 use Rattle.edi_ports.specs.declared.source.Source as source
-use Rattle.edi_ports.specs.declared.sink.Sink as sink
 
 -- the files of a shelf and the rest of an input, where these are told, and the counts of their faults
 pub record Inputs : Type 0 where
@@ -11,11 +10,6 @@ pub record Inputs : Type 0 where
   pub shelf_faults : ℕ
   pub rest : Option (List ℕ)
   pub input_faults : ℕ
-
--- the octets that a sink holds, where it tells them, and the count of its faults
-pub record Held : Type 0 where
-  pub octets : Option (List ℕ)
-  pub faults : ℕ
 
 -- what is seen of a shelf and an input
 abbrev pub inputs_of : {S I : Type 0} → shelf.Ghosts S → S → source.Ghosts I → I → Inputs
@@ -25,7 +19,3 @@ inputs_of shelf s input i = record {
   rest = input.rest i;
   input_faults = input.faults i;
 }
-
--- what is seen of a sink
-abbrev pub held_of : {O : Type 0} → sink.Ghosts O → O → Held
-held_of sink o = record { octets = sink.held o; faults = sink.faults o }

@@ -1,15 +1,9 @@
 pub mod Answer
 pub mod Begun
-pub mod Edit
 pub mod Form
 pub mod Inputs
 pub mod Lawful
 pub mod Made
 pub mod Opening
-pub mod Outcome
 pub mod Output
-pub mod Put
 pub mod Refusal
-pub mod Replied
-pub mod Reply
-pub mod Status

@@ -6,7 +6,7 @@ use Rattle.edi_ports.specs.declared.shelf.ShelfFile.{ShelfFile}
 use Rattle.dir_compile.specs.declared.parts.Parts.{Parts}
 use Rattle.dir_load.specs.declared.stop.Refusal.{Refusal}
 use Rattle.dir_load.specs.Load.{load_of}
-use Rattle.edicheck_core.specs.Outcome.{Outcome, memory_refused, read_failed}
+use Rattle.script_answers.specs.Outcome.{Outcome, memory_refused, read_failed}
 use Rattle.edicheck_core.specs.Refusal.{refusal, unread}
 
 -- a directory and a text

@@ -10,8 +10,8 @@ use Rattle.dir_load.specs.declared.stop.FileFault.{FileFault}
 use Rattle.dir_load.specs.declared.stop.FileFault.TheVariants as fault
 use Rattle.dir_load.specs.declared.stop.Refusal.{Refusal}
 use Rattle.dir_load.specs.declared.stop.Refusal.TheVariants.{File, Parts, Store}
-use Rattle.edicheck_core.specs.declared.status.Status.TheVariants as status
-use Rattle.edicheck_core.specs.Outcome.{Outcome, refused, too_large}
+use Rattle.script_answers.specs.Outcome.{Outcome, refused, too_large}
+use Rattle.script_answers.specs.declared.status.Status.TheVariants as status
 
 -- there are no octets under a name
 abbrev pub unread : List ℕ → Unread → Outcome

@@ -9,11 +9,11 @@ ghost use Rattle.dir_load.specs.declared.stop.Refusal.{Refusal};
 ghost use Rattle.dir_load.specs.Load.{load_of};
 ghost use Rattle.contrl_writer.specs.Stamp.{IsStamp, is_reference_of};
 ghost use Rattle.edi_engine.specs.Summary.{contrl_to};
+ghost use Rattle.script_answers.specs.Outcome.{memory_refused};
 ghost use Rattle.edicheck_core.specs.Answer.{IsOneOf};
 ghost use Rattle.edicheck_core.specs.Form.{question_shown};
 ghost use Rattle.edicheck_core.specs.Lawful.{IsLawfulQuestion};
 ghost use Rattle.edicheck_core.specs.Made.{answered, asked_about, checked_text, found_if, told_of};
-ghost use Rattle.edicheck_core.specs.Outcome.{memory_refused};
 
 use crate::Status;
 use crate::form::Question;

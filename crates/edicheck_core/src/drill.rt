@@ -1,8 +1,8 @@
 //! What a drill comes to.
 ghost use Rattle.std.specs.Prelude.{◌≡◌, ◌≢◌, Some};
 ghost use Rattle.drill_printer.specs.Drill.{drill_text, IsDrill};
+ghost use Rattle.script_answers.specs.Outcome.{done};
 ghost use Rattle.edicheck_core.specs.Answer.{IsOneOf};
-ghost use Rattle.edicheck_core.specs.Outcome.{done};
 
 use crate::Status;
 use crate::outcome::Made;

@@ -1,23 +1,24 @@
 //! What an edit comes to.
 ghost use Rattle.std.specs.Prelude.{◌≡◌, ◌≢◌, ◌⊎◌, ◌<◌, ◌≤◌, ℕ, Some, length};
 ghost use Rattle.edi_ports.specs.Faults.{HasRisen};
+ghost use Rattle.script_answers.specs.Held.{held_of};
+ghost use Rattle.script_answers.specs.Outcome.{Outcome};
+ghost use Rattle.script_answers.specs.Script.{IsAnsweredWhole};
 ghost use Rattle.edicheck_core.specs.Answer.{HasFailed, IsEdited};
 ghost use Rattle.edicheck_core.specs.Begun.{IsScriptBegun};
-ghost use Rattle.edicheck_core.specs.Edit.{IsAnsweredWhole};
 ghost use Rattle.edicheck_core.specs.Form.{Edit};
-ghost use Rattle.edicheck_core.specs.Inputs.{inputs_of, held_of};
+ghost use Rattle.edicheck_core.specs.Inputs.{inputs_of};
 ghost use Rattle.edicheck_core.specs.Made.{made_by};
 ghost use Rattle.edicheck_core.specs.Opening.{IsToldOpening, Opened};
-ghost use Rattle.edicheck_core.specs.Outcome.{Outcome};
 
 use crate::Status;
 use crate::finish::finish;
 use crate::opening::open_both;
 use crate::outcome::Made;
-use crate::script::answer_script;
 use dir_compile::Directory;
 use edi_engine::Engine;
 use edi_ports::{Shelf, Sink, Source};
+use script_answers::answer_script;
 use std::alloc::Global;
 use std::marker::Brand;
 use std::sync::ledger::{Blank, Ledger};

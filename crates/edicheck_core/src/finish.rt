@@ -1,12 +1,12 @@
 //! Putting what a run came to.
 ghost use Rattle.std.specs.Prelude.{◌≡◌, ◌≤◌, ℕ, length};
-ghost use Rattle.edicheck_core.specs.Inputs.{held_of};
-ghost use Rattle.edicheck_core.specs.Answer.{IsFinish};
+ghost use Rattle.script_answers.specs.Finish.{IsFinish};
+ghost use Rattle.script_answers.specs.Held.{held_of};
 
 use crate::Status;
 use crate::outcome::Made;
-use crate::put::put_pair;
 use edi_ports::Sink;
+use script_answers::put_pair;
 
 /// Puts the whole output, and answers its status where the sink took it.
 pub fn finish<O: Sink>(out: &mut O, made: &Made) -> Status

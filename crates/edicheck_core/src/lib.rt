@@ -11,14 +11,10 @@ mod help;
 mod opening;
 mod outcome;
 mod program;
-mod put;
 mod refusal;
-mod reply;
-mod script;
-mod status;
 mod text;
 
 pub use form::{Form, Question, read_form};
 pub use program::{refuse_memory, run};
-pub use status::Status;
+pub use script_answers::Status;
 pub use text_printer::Detail;

@@ -1,6 +1,6 @@
 //! What a run comes to before its first octet is put.
 ghost use Rattle.std.specs.Prelude.{◌≡◌, ◌++◌, MatchResult};
-ghost use Rattle.edicheck_core.specs.Outcome.{done, memory_refused, no_form, read_failed};
+ghost use Rattle.script_answers.specs.Outcome.{done, memory_refused, no_form, read_failed};
 ghost use Rattle.edicheck_core.specs.Output.{octets_of};
 
 use crate::Status;
@@ -38,7 +38,7 @@ pub struct Made {
 }
 
 impl Model for Made {
-    ghost use Rattle.edicheck_core.specs.Outcome.{Outcome};
+    ghost use Rattle.script_answers.specs.Outcome.{Outcome};
     ghost use Rattle.edicheck_core.specs.Output.{octets_of};
 
     ghost Value = { Outcome };

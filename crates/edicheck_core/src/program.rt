@@ -2,11 +2,13 @@
 ghost use Rattle.std.specs.Prelude.{◌≡◌, ◌≢◌, ◌⊎◌, ◌≤◌, ℕ, List, Option, false, true, length, Some, IfSome};
 ghost use Rattle.std.specs.Option.{option_map};
 ghost use Rattle.edi_ports.specs.Faults.{HasRisen};
-ghost use Rattle.edicheck_core.specs.Outcome.{Outcome, memory_refused};
+ghost use Rattle.script_answers.specs.Finish.{IsFinish};
+ghost use Rattle.script_answers.specs.Held.{held_of};
+ghost use Rattle.script_answers.specs.Outcome.{Outcome, memory_refused};
+ghost use Rattle.script_answers.specs.Script.{IsAnsweredWhole};
 ghost use Rattle.edicheck_core.specs.Form.{Asked, Edit, form_of, form_shown, needs_of};
-ghost use Rattle.edicheck_core.specs.Inputs.{inputs_of, held_of};
-ghost use Rattle.edicheck_core.specs.Answer.{HasFailed, IsAnswer, IsDue, IsFinish, IsSettled, Takes};
-ghost use Rattle.edicheck_core.specs.Edit.{IsAnsweredWhole};
+ghost use Rattle.edicheck_core.specs.Inputs.{inputs_of};
+ghost use Rattle.edicheck_core.specs.Answer.{HasFailed, IsAnswer, IsDue, IsSettled, Takes};
 ghost use Rattle.edicheck_core.specs.Lawful.{IsLawful, IsPlain};
 ghost use Rattle.edicheck_core.specs.Made.{made_by};
 ghost use Rattle.edicheck_core.specs.Opening.{IsToldOpening, Opened};

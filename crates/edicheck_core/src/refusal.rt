@@ -2,7 +2,7 @@
 ghost use Rattle.std.specs.Prelude.{◌≡◌, ◌⊎◌, ◌++◌, [], ◌∷◌, IfOk, codes, decimal};
 ghost use Rattle.edi_octets.specs.DirKind.{word_of as rule_word};
 ghost use Rattle.dir_compile.specs.CompileKind.{word_of as parts_word};
-ghost use Rattle.edicheck_core.specs.Outcome.{memory_refused};
+ghost use Rattle.script_answers.specs.Outcome.{memory_refused};
 ghost use Rattle.edicheck_core.specs.Refusal.{file_refused, refusal, unread};
 
 use crate::Status;

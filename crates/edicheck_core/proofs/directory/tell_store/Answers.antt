@@ -1,6 +1,6 @@
 use Rattle.std.proofs.Common.{Ok}
 use Rattle.dir_store.specs.Spelling.{store_text}
-use Rattle.edicheck_core.specs.Outcome.{done}
+use Rattle.script_answers.specs.Outcome.{done}
 use Rattle.edicheck_core.proofs.AnswerLemmas.{after_loaded, after_unloaded, printed-steady, printed_or_refused}
 use Rattle.edicheck_core.proofs.directory.tell_store.Goals as goal
 

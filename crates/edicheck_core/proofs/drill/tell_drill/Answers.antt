@@ -1,5 +1,5 @@
 use Rattle.drill_printer.specs.Drill.{drill_text}
-use Rattle.edicheck_core.specs.Outcome.{done}
+use Rattle.script_answers.specs.Outcome.{done}
 use Rattle.edicheck_core.proofs.AnswerLemmas.{made_or_refused, printed-steady, printed_or_refused}
 use Rattle.edicheck_core.proofs.drill.tell_drill.Goals as goal
 

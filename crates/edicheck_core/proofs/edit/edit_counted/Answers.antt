@@ -1,4 +1,4 @@
-use Rattle.edicheck_core.specs.Inputs.{held_of}
+use Rattle.script_answers.specs.Held.{held_of}
 use Rattle.edicheck_core.proofs.EditLemmas.{script_begun}
 use Rattle.edicheck_core.proofs.edit.edit_counted.Goals as goal
 

@@ -1,4 +1,4 @@
-use Rattle.edicheck_core.proofs.AnswerLemmas.{risen_later}
+use Rattle.script_answers.proofs.PutLemmas.{risen_later}
 use Rattle.edicheck_core.proofs.OpeningLemmas.{opened_no_directory, opening_met}
 use Rattle.edicheck_core.proofs.opening.open_both.Goals as goal
 

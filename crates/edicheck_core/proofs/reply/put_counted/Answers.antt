@@ -1,9 +1,0 @@
-use Rattle.std.proofs.Common.{◌++◌, true, false, length, decimal}
-use Rattle.edicheck_core.proofs.PutLemmas.{counted_put, put_at}
-use Rattle.edicheck_core.proofs.reply.put_counted.Goals as goal
-
-pub returns-then-put_numbered-clause-put : goal.returns-then-put_numbered-clause-put
-returns-then-put_numbered-clause-put g c =
-    counted_put (g.O.Sink.held c.args.out.now) (g.O.Sink.held c.put_numbered.new.out) (g.O.Sink.held c.put_pair.new.out) (c.args.head.now ++ decimal (length c.args.octets.now)) c.args.octets.now c.put_pair.result
-    (put_at _ _ _ c.put_numbered.result true c.if-put_numbered.true c.put_numbered.ensures.put)
-    c.put_pair.ensures.put

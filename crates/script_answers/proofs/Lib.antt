@@ -1,0 +1,4 @@
+mod AnsweredLemmas
+mod EndedLemmas
+pub mod PutLemmas
+mod RunLemmas

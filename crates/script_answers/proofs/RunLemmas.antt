@@ -1,0 +1,221 @@
+-- A script that is read and answered, command by command.
+use Rattle.std.proofs.Common.{◌≡◌, ◌⊎◌, ⊎_elim, ◌+◌, ◌++◌, ◌<◌, ◌≤◌, ℕ, Bool, true, false, List, [], ◌∷◌, length, take, Option, Some, None, Result, Ok, Err, IfSome, decimal, refl, sym, ap, ◌∙◌, subst, inl, inr, arith, length-append}
+use Rattle.std.proofs.lemmas.List.{append_assoc, append-nil}
+use Rattle.std.specs.Prelude.{codes}
+use Rattle.edi_ports.specs.Faults.{HasRisen}
+use Rattle.edi_ports.specs.Read.{HasTaken}
+use Rattle.edi_ports.specs.Sink.{IsCut}
+use Rattle.dir_compile.specs.declared.parts.Parts.{Parts}
+use Rattle.edit_script.specs.Command.{command_text}
+use Rattle.edit_script.specs.Next.{IsAnswer, IsAtEnd, IsNext, Reader}
+use Rattle.edit_script.specs.Script.{AreCommands, script_text}
+use Rattle.edit_script.specs.declared.command.Command.{Command}
+use Rattle.edit_script.specs.declared.command.Command.TheVariants.{End}
+use Rattle.edit_script.specs.declared.stop.ScriptStop.{ScriptStop}
+use Rattle.edit_script.specs.declared.stop.ScriptStop.TheVariants as stop
+use Rattle.edit_script.proofs.ReadingLemmas.{taken_left}
+use Rattle.edit_script.proofs.ScriptLemmas.{are_more, script_more}
+use Rattle.script_answers.specs.declared.status.Status.{Status}
+use Rattle.script_answers.specs.declared.status.Status.TheVariants.{Done, WriteFault}
+use Rattle.script_answers.specs.Finish.{Grew, IsFinish}
+use Rattle.script_answers.specs.Script.{IsOpen, IsRest, IsRow, IsStopped, longest_script, stopped_by}
+use Rattle.script_answers.specs.Held.{Held}
+use Rattle.script_answers.specs.Put.{IsPutOut}
+use Rattle.script_answers.specs.Replied.{IsAnswered}
+use Rattle.script_answers.proofs.AnsweredLemmas.{AnswersTo, answers_cut, answers_forget, answers_more, ended_more, open_more, open_or_ended}
+
+-- ---- the line that tells why a script was stopped
+
+-- the line of a stop is that of the same stop
+pub stop_put : (why is : ScriptStop) (before now : Option (List ℕ)) (whole : Bool) → why ≡ is → IsPutOut before now (stopped_by is).output whole → IsPutOut before now (stopped_by why).output whole
+stop_put why is before now whole same put = subst (λ (w : ScriptStop). IsPutOut before now (stopped_by w).output whole) (sym same) put
+
+-- a number with words before and after it, and LF
+pub numbered_put : (n number : ℕ) (tail : List ℕ) (before now : Option (List ℕ)) (whole : Bool) → n ≡ number → IsPutOut before now (codes "fault script " ++ decimal n ++ (tail ++ 10 ∷ [])) whole → IsPutOut before now (codes "fault script " ++ decimal number ++ tail ++ 10 ∷ []) whole
+numbered_put n number tail before now whole same put =
+    subst (λ (m : ℕ). IsPutOut before now (codes "fault script " ++ decimal m ++ tail ++ 10 ∷ []) whole) same
+    (subst (λ (xs : List ℕ). IsPutOut before now xs whole) (sym (append_assoc (codes "fault script " ++ decimal n) tail (10 ∷ []))) put)
+
+-- ---- how far a script is answered
+
+-- the commands that were taken of a whole script and answered, what is left of it, and what was put: so the text is now that one, and the reader there
+pub record Progress (dir : Parts) (text end : List ℕ) (reader : Reader) (whole octets : List ℕ) (now held : Option (List ℕ)) : Type 0 where
+  pub commands : List Command
+  pub left : List ℕ
+  pub out : List ℕ
+  pub lawful : AreCommands commands
+  pub are_open : IsOpen commands
+  pub whole_is : whole ≡ script_text commands ++ left
+  pub now_is : now ≡ Some left
+  pub held_is : held ≡ Some (octets ++ out)
+  pub answers : AnswersTo dir text commands out end
+  pub numbered : reader.number ≡ length commands + 1
+  pub allowed : reader.left + length (script_text commands) ≡ longest_script
+
+-- where input and sink tell what they hold
+abbrev pub IsProgress : Parts → List ℕ → List ℕ → Reader → Option (List ℕ) → Option (List ℕ) → Option (List ℕ) → Option (List ℕ) → Type 0
+IsProgress dir text end reader before now held held' =
+    IfSome before (λ whole. IfSome held (λ octets. Progress dir text end reader whole octets now held'))
+
+-- what a run comes to, where input and sink tell what they hold
+abbrev pub IsRun : Parts → List ℕ → Status → Option (List ℕ) → Option (List ℕ) → Option (List ℕ) → Option (List ℕ) → Type 0
+IsRun dir text status before now held held' =
+    IfSome before (λ whole. IfSome held (λ octets.
+    (script : List ℕ) × (left : List ℕ) × (put : List ℕ)
+    × (whole ≡ script ++ left) × (now ≡ Some left) × (held' ≡ Some (octets ++ put)) × IsRow dir text status script left put))
+
+-- what the next call took of what was left
+pub record Took (left taken after : List ℕ) (now : Option (List ℕ)) : Type 0 where
+  pub left_is : left ≡ taken ++ after
+  pub now_is : now ≡ Some after
+
+pub took_of : {result : Result Command ScriptStop} (left : List ℕ) (mid now : Option (List ℕ)) (reader after : Reader) → mid ≡ Some left → (next : IsNext mid now reader after result) → (rest : List ℕ) × Took left next.taken rest now
+took_of left mid now reader after same next =
+    let has = taken_left left now next.taken (subst (λ (o : Option (List ℕ)). HasTaken o next.taken now) same next.from_front) in
+    (has.0, record { left_is = has.1; now_is = has.2 })
+
+-- a reply was put after what was put
+put_whole : (octets out reply : List ℕ) (held held' : Option (List ℕ)) → held ≡ Some (octets ++ out) → IsPutOut held held' reply true → held' ≡ Some (octets ++ (out ++ reply))
+put_whole octets out reply held held' same put =
+    subst (λ (o : Option (List ℕ)). IsPutOut o held' reply true) same put ∙ ap Some (append_assoc octets out reply)
+
+put_part : (octets out reply : List ℕ) (held held' : Option (List ℕ)) → held ≡ Some (octets ++ out) → IsPutOut held held' reply false → (n : ℕ) × (n < length reply) × (held' ≡ Some (octets ++ (out ++ take n reply)))
+put_part octets out reply held held' same put =
+    let cut = subst (λ (o : Option (List ℕ)). IsPutOut o held' reply false) same put in
+    (cut.0, cut.1, cut.2 ∙ ap Some (append_assoc octets out (take cut.0 reply)))
+
+-- a script with one command more
+script_grown : (cs : List Command) (c : Command) (whole left taken rest : List ℕ) → whole ≡ script_text cs ++ left → left ≡ taken ++ rest → taken ≡ command_text c → whole ≡ script_text (cs ++ c ∷ []) ++ rest
+script_grown cs c whole left taken rest whole_is left_is is =
+    whole_is
+    ∙ ap (λ (xs : List ℕ). script_text cs ++ xs) (left_is ∙ ap (λ (xs : List ℕ). xs ++ rest) is)
+    ∙ sym (append_assoc (script_text cs) (command_text c) rest)
+    ∙ ap (λ (xs : List ℕ). xs ++ rest) (sym (script_more cs c))
+
+script_length : (cs : List Command) (c : Command) (taken : List ℕ) → taken ≡ command_text c → length (script_text (cs ++ c ∷ [])) ≡ length (script_text cs) + length taken
+script_length cs c taken is =
+    ap length (script_more cs c) ∙ length-append (script_text cs) (command_text c) ∙ ap (λ (xs : List ℕ). length (script_text cs) + length xs) (sym is)
+
+-- a command that isn't `end` was taken and answered
+pub progress_more : (dir : Parts) (text end next : List ℕ) (reader after : Reader) (before mid now held put held' : Option (List ℕ)) (c : Command) → IsProgress dir text end reader before mid held put → IsNext mid now reader after (Ok c) → IsAnswered dir end c next put held' true → (c ≡ End → ⊥) → IsProgress dir text next after before now held held'
+progress_more dir text end next reader after None mid now held put held' c p taken answered not = tt
+progress_more dir text end next reader after (Some whole) mid now None put held' c p taken answered not = tt
+progress_more dir text end next reader after (Some whole) mid now (Some octets) put held' c p taken answered not =
+    let took = took_of p.left mid now reader after p.now_is taken in
+    let is : taken.taken ≡ command_text c = taken.answer.1 in
+    let longer = script_length p.commands c taken.taken is in
+    record {
+      commands = p.commands ++ c ∷ [];
+      left = took.0;
+      out = p.out ++ answered.0;
+      lawful = are_more p.commands c p.lawful taken.answer.0;
+      are_open = open_more p.commands c p.are_open not;
+      whole_is = script_grown p.commands c whole p.left taken.taken took.0 p.whole_is took.1.left_is is;
+      now_is = took.1.now_is;
+      held_is = put_whole octets p.out answered.0 put held' p.held_is answered.2;
+      answers = answers_more dir text p.commands p.out end c answered.0 next p.answers answered.1;
+      numbered = omega (arith, taken.number, p.numbered, length-append p.commands (c ∷ []));
+      allowed = omega (arith, taken.left, p.allowed, longer);
+    }
+
+-- `end` was taken and answered
+pub run_done : (dir : Parts) (text end next : List ℕ) (reader after : Reader) (before mid now held put held' : Option (List ℕ)) (c : Command) → IsProgress dir text end reader before mid held put → IsNext mid now reader after (Ok c) → IsAnswered dir end c next put held' true → c ≡ End → IsRun dir text Done before now held held'
+run_done dir text end next reader after None mid now held put held' c p taken answered is_end = tt
+run_done dir text end next reader after (Some whole) mid now None put held' c p taken answered is_end = tt
+run_done dir text end next reader after (Some whole) mid now (Some octets) put held' c p taken answered is_end =
+    let took = took_of p.left mid now reader after p.now_is taken in
+    let is : taken.taken ≡ command_text c = taken.answer.1 in
+    let longer = script_length p.commands c taken.taken is in (
+      script_text (p.commands ++ c ∷ []),
+      took.0,
+      p.out ++ answered.0,
+      script_grown p.commands c whole p.left taken.taken took.0 p.whole_is took.1.left_is is,
+      took.1.now_is,
+      put_whole octets p.out answered.0 put held' p.held_is answered.2,
+      (
+        p.commands ++ c ∷ [],
+        are_more p.commands c p.lawful taken.answer.0,
+        ended_more p.commands c p.are_open is_end,
+        refl,
+        omega (arith, taken.left, p.allowed, longer),
+        answers_forget dir text (p.commands ++ c ∷ []) (p.out ++ answered.0) next (answers_more dir text p.commands p.out end c answered.0 next p.answers answered.1),
+      ),
+    )
+
+-- a command was taken, and the sink failed in its reply
+pub run_cut : (dir : Parts) (text end next : List ℕ) (reader after : Reader) (before mid now held put held' : Option (List ℕ)) (c : Command) → IsProgress dir text end reader before mid held put → IsNext mid now reader after (Ok c) → IsAnswered dir end c next put held' false → IsRun dir text WriteFault before now held held'
+run_cut dir text end next reader after None mid now held put held' c p taken answered = tt
+run_cut dir text end next reader after (Some whole) mid now None put held' c p taken answered = tt
+run_cut dir text end next reader after (Some whole) mid now (Some octets) put held' c p taken answered =
+    let took = took_of p.left mid now reader after p.now_is taken in
+    let is : taken.taken ≡ command_text c = taken.answer.1 in
+    let cut = put_part octets p.out answered.0 put held' p.held_is answered.2 in (
+      script_text (p.commands ++ c ∷ []),
+      took.0,
+      p.out ++ take cut.0 answered.0,
+      script_grown p.commands c whole p.left taken.taken took.0 p.whole_is took.1.left_is is,
+      took.1.now_is,
+      cut.2,
+      inl (
+        p.commands ++ c ∷ [],
+        are_more p.commands c p.lawful taken.answer.0,
+        open_or_ended p.commands c p.are_open,
+        refl,
+        answers_cut dir text p.commands p.out end c answered.0 next cut.0 p.answers answered.1 cut.1,
+      ),
+    )
+
+-- what was taken before a stop is its rest
+rest_of : (why : ScriptStop) (commands script taken left : List ℕ) (count : ℕ) (mid now : Option (List ℕ)) (reader : Reader) → mid ≡ Some commands → now ≡ Some left → reader.number ≡ count + 1 → reader.left + length script ≡ longest_script → IsAnswer reader taken (IsAtEnd mid now) (Err why) → IsRest why count taken (length script + length taken) left
+rest_of (stop.BadLine number) commands script taken left count mid now reader same is numbered allowed answer = (answer.0 ∙ numbered, answer.1)
+rest_of (stop.CutShort number) commands script taken left count mid now reader same is numbered allowed answer =
+    let none : now ≡ Some [] = subst (λ (o : Option (List ℕ)). IsAtEnd o now) same answer.3 in
+    let within = answer.2 in
+    (answer.0 ∙ numbered, answer.1, omega (arith, within, allowed), cc)
+rest_of stop.TooLong commands script taken left count mid now reader same is numbered allowed answer = (answer.0, omega (arith, answer.1, allowed))
+rest_of stop.Fault commands script taken left count mid now reader same is numbered allowed answer = (answer.0, omega (arith, answer.1, allowed))
+rest_of stop.Memory commands script taken left count mid now reader same is numbered allowed answer = inl answer
+
+-- the row of a stop whose line was put whole
+stopped_row : (dir : Parts) (text : List ℕ) (why : ScriptStop) (status : Status) (script left out put : List ℕ) → status ≡ (stopped_by why).status → IsStopped dir text why script left out → put ≡ out ++ (stopped_by why).output → IsRow dir text status script left put
+stopped_row dir text why status script left out put is stopped put_is =
+    subst (λ (s : Status). IsRow dir text s script left put) (sym is) (row_of why stopped put_is)
+  where
+    row_of : (why : ScriptStop) → IsStopped dir text why script left out → put ≡ out ++ (stopped_by why).output → IsRow dir text (stopped_by why).status script left put
+    row_of (stop.BadLine number) stopped put_is = (stop.BadLine number, out, refl, stopped, put_is)
+    row_of (stop.CutShort number) stopped put_is = (stop.CutShort number, out, refl, stopped, put_is)
+    row_of stop.TooLong stopped put_is = (stop.TooLong, out, refl, stopped, put_is)
+    row_of stop.Fault stopped put_is = (stop.Fault, out, refl, stopped, put_is)
+    row_of stop.Memory stopped put_is = (stop.Memory, out, refl, stopped, put_is)
+
+-- no command was taken, and why was told, or the sink failed there
+pub run_stopped : (dir : Parts) (text end : List ℕ) (reader after : Reader) (before mid now held : Option (List ℕ)) (put held' : Held) (why : ScriptStop) (status : Status) → IsProgress dir text end reader before mid held put.octets → IsNext mid now reader after (Err why) → IsFinish (stopped_by why) put held' status → IsRun dir text status before now held held'.octets
+run_stopped dir text end reader after None mid now held put held' why status p next finish = tt
+run_stopped dir text end reader after (Some whole) mid now None put held' why status p next finish = tt
+run_stopped dir text end reader after (Some whole) mid now (Some octets) put held' why status p next finish =
+    let took = took_of p.left mid now reader after p.now_is next in
+    let script : List ℕ = script_text p.commands ++ next.taken in
+    let stopped : IsStopped dir text why script took.0 p.out = (
+      p.commands,
+      next.taken,
+      p.lawful,
+      p.are_open,
+      refl,
+      subst (λ (n : ℕ). IsRest why (length p.commands) next.taken n took.0) (sym (length-append (script_text p.commands) next.taken))
+          (rest_of why p.left (script_text p.commands) next.taken took.0 (length p.commands) mid now reader p.now_is took.1.now_is p.numbered p.allowed next.answer),
+      answers_forget dir text p.commands p.out end p.answers,
+    ) in
+    let whole_is : whole ≡ script ++ took.0 = p.whole_is ∙ ap (λ (xs : List ℕ). script_text p.commands ++ xs) took.1.left_is ∙ sym (append_assoc (script_text p.commands) next.taken took.0) in
+    ⊎_elim
+    (λ (put_whole_line : (status ≡ (stopped_by why).status) × Grew put.octets held'.octets (stopped_by why).output).
+    (script, took.0, p.out ++ (stopped_by why).output, whole_is, took.1.now_is, put_whole octets p.out (stopped_by why).output put.octets held'.octets p.held_is put_whole_line.1, stopped_row dir text why status script took.0 p.out (p.out ++ (stopped_by why).output) put_whole_line.0 stopped refl))
+    (λ (put_cut : (status ≡ WriteFault) × HasRisen put.faults held'.faults × IsCut put.octets held'.octets (stopped_by why).output).
+    let cut = put_part octets p.out (stopped_by why).output put.octets held'.octets p.held_is put_cut.2 in
+    (script, took.0, p.out ++ take cut.0 (stopped_by why).output, whole_is, took.1.now_is, cut.2, subst (λ (s : Status). IsRow dir text s script took.0 (p.out ++ take cut.0 (stopped_by why).output)) (sym put_cut.0) (inr (why, p.out, cut.0, stopped, cut.1, refl))))
+    finish
+
+-- an answer by the directory that a run began with
+pub answered_at : (dir begun : Parts) (text : List ℕ) (c : Command) (next : List ℕ) (held held' : Option (List ℕ)) (whole told : Bool) → dir ≡ begun → whole ≡ told → IsAnswered dir text c next held held' whole → IsAnswered begun text c next held held' told
+answered_at dir begun text c next held held' whole told same is answered =
+    subst (λ (d : Parts). IsAnswered d text c next held held' told) same
+    (subst (λ (b : Bool). IsAnswered dir text c next held held' b) is answered)

@@ -1,0 +1,68 @@
+use Rattle.std.proofs.Common.{◌≡◌, ◌∙◌, ap, sym, true, false, Err, arith}
+use Rattle.std.proofs.lemmas.Bool.{false≢true}
+use Rattle.edit_script.specs.declared.command.Command.TheVariants.{End}
+use Rattle.script_answers.specs.Held.{held_of}
+use Rattle.script_answers.proofs.PutLemmas.{risen_later}
+use Rattle.script_answers.proofs.EndedLemmas.{left_more, left_refused, stop_caused}
+use Rattle.script_answers.proofs.RunLemmas.{answered_at, progress_more, run_cut, run_done, run_stopped}
+use Rattle.script_answers.proofs.script.answer_script.Goals as goal
+
+pub returns-in-Err-clause-run : goal.returns-in-Err-clause-run
+returns-in-Err-clause-run g c = (
+  stop_caused _ _ c.in-Err.stop (held_of g.O.Sink c.commands.out) (held_of g.O.Sink c.tell_stop.new.out) c.tell_stop.result
+      (λ fault. risen_later _ _ _ c.commands.invariant.input (c.in-Err.ensures.cause (ap Err fault)))
+      (λ risen. risen_later _ _ _ c.commands.invariant.sink risen)
+      c.tell_stop.ensures,
+  run_stopped c.args.engine.now.directory c.args.engine.now.text c.commands.engine.text c.commands.reader c.next_command.new.self
+      (g.I.Source.rest c.args.input.now) (g.I.Source.rest c.commands.input) (g.I.Source.rest c.next_command.new.input) (g.O.Sink.held c.args.out.now)
+      (held_of g.O.Sink c.commands.out) (held_of g.O.Sink c.tell_stop.new.out) c.in-Err.stop c.tell_stop.result
+      c.commands.invariant.progress c.in-Err.ensures.next c.tell_stop.ensures,
+)
+
+pub returns-in-Err-clause-complete : goal.returns-in-Err-clause-complete
+returns-in-Err-clause-complete g c =
+    left_refused (g.I.Source.rest c.args.input.now) (g.I.Source.rest c.commands.input) (g.I.Source.rest c.next_command.new.input) c.commands.reader c.next_command.new.self c.in-Err.stop _ _
+    (held_of g.O.Sink c.commands.out) (held_of g.O.Sink c.tell_stop.new.out) c.tell_stop.result
+    c.commands.invariant.still c.in-Err.ensures.next
+    (λ fault. risen_later _ _ _ c.commands.invariant.input (c.in-Err.ensures.cause (ap Err fault)))
+    (λ risen. risen_later _ _ _ c.commands.invariant.sink risen)
+    c.tell_stop.ensures
+
+pub returns-then-not-answer_command-clause-run : goal.returns-then-not-answer_command-clause-run
+returns-then-not-answer_command-clause-run g c = (
+  risen_later _ _ _ c.commands.invariant.sink c.if-not-answer_command.ensures.cause,
+  run_cut c.args.engine.now.directory c.args.engine.now.text c.commands.engine.text c.answer_command.new.engine.text c.commands.reader c.next_command.new.self
+      (g.I.Source.rest c.args.input.now) (g.I.Source.rest c.commands.input) (g.I.Source.rest c.next_command.new.input)
+      (g.O.Sink.held c.args.out.now) (g.O.Sink.held c.commands.out) (g.O.Sink.held c.answer_command.new.out) c.in-Ok.command
+      c.commands.invariant.progress c.in-Ok.ensures.next
+      (answered_at _ _ _ _ _ _ _ c.answer_command.result false c.commands.invariant.directory c.if-not-answer_command.true c.answer_command.ensures.answered),
+)
+
+pub returns-then-is_end-clause-run : goal.returns-then-is_end-clause-run
+returns-then-is_end-clause-run g c = (
+  tt,
+  run_done c.args.engine.now.directory c.args.engine.now.text c.commands.engine.text c.answer_command.new.engine.text c.commands.reader c.next_command.new.self
+      (g.I.Source.rest c.args.input.now) (g.I.Source.rest c.commands.input) (g.I.Source.rest c.next_command.new.input)
+      (g.O.Sink.held c.args.out.now) (g.O.Sink.held c.commands.out) (g.O.Sink.held c.answer_command.new.out) c.in-Ok.command
+      c.commands.invariant.progress c.in-Ok.ensures.next
+      (answered_at _ _ _ _ _ _ _ c.answer_command.result true c.commands.invariant.directory c.if-not-answer_command.false c.answer_command.ensures.answered)
+      (c.is_end.ensures.0 c.if-is_end.true),
+)
+
+pub commands-preserved : goal.commands-preserved
+commands-preserved g c =
+    let not_end : c.in-Ok.command ≡ End → ⊥ = λ is. absurd (false≢true (sym c.if-is_end.false ∙ c.is_end.ensures.1 is)) in
+    record {
+      directory = c.answer_command.ensures.directory ∙ c.commands.invariant.directory;
+      progress = progress_more c.args.engine.now.directory c.args.engine.now.text c.commands.engine.text c.answer_command.new.engine.text c.commands.reader c.next_command.new.self
+          (g.I.Source.rest c.args.input.now) (g.I.Source.rest c.commands.input) (g.I.Source.rest c.next_command.new.input)
+          (g.O.Sink.held c.args.out.now) (g.O.Sink.held c.commands.out) (g.O.Sink.held c.answer_command.new.out) c.in-Ok.command
+          c.commands.invariant.progress c.in-Ok.ensures.next
+          (answered_at _ _ _ _ _ _ _ c.answer_command.result true c.commands.invariant.directory c.if-not-answer_command.false c.answer_command.ensures.answered)
+          not_end;
+      input = omega (arith, c.commands.invariant.input, c.next_command.ensures.counted);
+      sink = omega (arith, c.commands.invariant.sink, c.answer_command.ensures.counted);
+      steady = λ steady. (c.next_command.ensures.steady (c.commands.invariant.steady steady)).1;
+      still = left_more (g.I.Source.rest c.args.input.now) (g.I.Source.rest c.commands.input) (g.I.Source.rest c.next_command.new.input) c.commands.reader c.next_command.new.self c.in-Ok.command
+          c.commands.invariant.still c.in-Ok.ensures.next not_end;
+    }

@@ -1,0 +1,109 @@
+//! The answers to a script.
+ghost use Rattle.std.specs.Prelude.{◌≡◌, ◌≢◌, ◌↔◌, IsTrue};
+ghost use Rattle.std.specs.Bool.{OnFalse};
+ghost use Rattle.edi_ports.specs.Faults.{HasRisen};
+ghost use Rattle.script_answers.specs.Finish.{IsFinish};
+ghost use Rattle.script_answers.specs.Script.{IsAnsweredWhole, IsScriptAnswered, stopped_by};
+ghost use Rattle.script_answers.specs.Held.{held_of};
+ghost use Rattle.script_answers.specs.Put.{IsPutOut};
+
+use crate::Status;
+use crate::put::{put_numbered, put_pair};
+use crate::reply::answer_command;
+use edi_engine::Engine;
+use edi_ports::{Sink, Source};
+use edit_script::{Command, ScriptReader, ScriptStop};
+use std::alloc::Global;
+use std::sync::ledger::Ledger;
+use step_counter::Steps;
+
+/// The most octets of a script.
+const LONGEST_SCRIPT: u64 = 1_073_741_824;
+
+/// Answers the script on the input, command by command, on the text of an engine. It ends after the reply to `end`, and
+/// takes nothing after it; where the script stops before, with the line that tells why; or where the sink fails.
+pub fn answer_script<L: Ledger, M: Ledger, I: Source, O: Sink>(
+    alloc: Global,
+    engine: &mut Engine<'_>,
+    lexed: &mut Steps<L>,
+    placed: &mut Steps<M>,
+    input: &mut I,
+    out: &mut O,
+) -> Status
+    ensures run { IsScriptAnswered engine.old.directory engine.old.text
+        (I.rest input.old) (I.rest input.new) (HasRisen (I.faults input.old) (I.faults input.new))
+        (held_of O.Sink out.old) (held_of O.Sink out.new) result }
+    ensures steady { I.is_steady input.old → result ≢ Status.ReadFault }
+    ensures complete { IsAnsweredWhole (I.rest input.old)
+        (HasRisen (I.faults input.old) (I.faults input.new))
+        (HasRisen (O.faults out.old) (O.faults out.new)) result }
+{
+    let mut reader = ScriptReader::new(LONGEST_SCRIPT);
+    'commands: loop {
+        let command = match reader.next_command(alloc, input) {
+            Ok(command) => command,
+            Err(stop) => return tell_stop(out, stop),
+        };
+        if !answer_command(alloc, engine, &command, lexed, placed, out) {
+            return Status::WriteFault;
+        }
+        if is_end(command) {
+            return Status::Done;
+        }
+    }
+}
+
+// Whether no command is answered after this one, which was answered and isn't needed any more.
+fn is_end(command: Command) -> bool
+    ensures { IsTrue result ↔ (command ≡ Command.End) }
+{
+    match command {
+        Command::End => true,
+        _ => false,
+    }
+}
+
+// Puts the line that tells why a script was stopped.
+fn tell_stop<O: Sink>(out: &mut O, why: ScriptStop) -> Status
+    ensures { IsFinish (stopped_by why) (held_of O.Sink out.old) (held_of O.Sink out.new) result }
+{
+    if put_stop(out, why) {
+        status_of(why)
+    } else {
+        Status::WriteFault
+    }
+}
+
+fn put_stop<O: Sink>(out: &mut O, why: ScriptStop) -> bool
+    ensures put { IsPutOut (O.held out.old) (O.held out.new) (stopped_by why).output result }
+    ensures cause { OnFalse result (HasRisen (O.faults out.old) (O.faults out.new)) }
+{
+    match why {
+        ScriptStop::BadLine { number } => put_numbered(
+            out,
+            b"fault script ",
+            u64::from(number),
+            b" line\n",
+        ),
+        ScriptStop::CutShort { number } => put_numbered(
+            out,
+            b"fault script ",
+            u64::from(number),
+            b" cut\n",
+        ),
+        ScriptStop::TooLong => put_pair(out, b"fault large -\n", b""),
+        ScriptStop::Fault => put_pair(out, b"fault read\n", b""),
+        ScriptStop::Memory => put_pair(out, b"fault memory\n", b""),
+    }
+}
+
+fn status_of(why: ScriptStop) -> Status
+    ensures { result ≡ (stopped_by why).status }
+{
+    match why {
+        ScriptStop::BadLine { .. } | ScriptStop::CutShort { .. } => Status::BadScript,
+        ScriptStop::TooLong => Status::TooLarge,
+        ScriptStop::Fault => Status::ReadFault,
+        ScriptStop::Memory => Status::Memory,
+    }
+}

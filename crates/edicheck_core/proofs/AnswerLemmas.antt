@@ -1,14 +1,10 @@
 -- What a run comes to, and how it ends.
-use Rattle.std.proofs.Common.{◌≡◌, ◌⊎◌, ◌+◌, ◌++◌, ◌<◌, ◌≤◌, ℕ, zero, suc, Bool, true, false, cond, ltb, List, [], ◌∷◌, length, take, Option, Some, None, Result, Ok, Err, IfOk, MatchResult, IfSome, refl, sym, ap, ◌∙◌, subst, inl, inr, add-one, arith, length-append}
+use Rattle.std.proofs.Common.{◌≡◌, ◌⊎◌, ◌+◌, ◌++◌, ◌<◌, ◌≤◌, ℕ, zero, suc, Bool, true, false, cond, ltb, List, [], ◌∷◌, length, Option, Some, None, Result, Ok, Err, IfOk, MatchResult, IfSome, refl, sym, ap, ◌∙◌, subst, inl, inr, add-one, arith, length-append}
 use Rattle.std.proofs.lemmas.Bool.{lt-ltb, cond-true}
-use Rattle.std.proofs.lemmas.List.{append_assoc}
-use Rattle.std.proofs.Math.Seq.{take-append-add}
 use Rattle.std.specs.Prelude.{codes}
 use Rattle.std.specs.Option.{option_map}
 use Rattle.edi_ports.specs.declared.shelf.ShelfFile.{ShelfFile}
-use Rattle.edi_ports.specs.Faults.{HasRisen}
 use Rattle.edi_ports.specs.Read.{TakesFront}
-use Rattle.edi_ports.specs.Sink.{IsCut}
 use Rattle.edi_ports.specs.declared.named.Unread.{Unread}
 use Rattle.edi_ports.specs.declared.named.Unread.TheVariants.{Absent, TooLarge}
 use Rattle.dir_compile.specs.declared.parts.Parts.{Parts}

@@ -1,5 +1,5 @@
 -- What a run may come to, and how it ends.
-use Rattle.std.specs.Prelude.{◌≡◌, ◌⊎◌, ◌<◌, ◌≤◌, ◌++◌, ℕ, true, List, [], Option, Some, IfSome, Ok}
+use Rattle.std.specs.Prelude.{◌≡◌, ◌⊎◌, ◌<◌, ◌≤◌, ℕ, true, List, [], Option, Some, IfSome, Ok}
 use Rattle.edi_ports.specs.Faults.{HasRisen}
 use Rattle.edi_ports.specs.Read.{TakesFront}
 use Rattle.dir_compile.specs.declared.parts.Parts.{Parts}

@@ -32,6 +32,10 @@ put_after (Some held) between now head rest true put next =
     subst (λ (o : Option (List ℕ)). IsPutOut o now rest true) put next ∙ ap Some (append_assoc held head rest)
 put_after (Some held) between now head rest false put next = cut-after (Some held) between now head rest put next
 
+-- a sink with room for octets takes all, and has so much less room then
+abbrev pub TakesAll : (ℕ → Type 0) → (ℕ → Type 0) → Bool → List ℕ → Type 0
+TakesAll before now whole octets = (n : ℕ) → before n → length octets ≤ n → (whole ≡ true) × now (n - length octets)
+
 -- a sink with room for two parts takes the first one, and then the next one
 pub room_both : (before between now : ℕ → Type 0) (First Next : Type 0) (head rest : List ℕ)
     → ((n : ℕ) → before n → length head ≤ n → First × between (n - length head))
@@ -52,3 +56,12 @@ pub counted_put : (before between now : Option (List ℕ)) (words octets : List 
 counted_put before between now words octets whole put next =
     subst (λ (xs : List ℕ). IsPutOut before now xs whole) (append_assoc words (10 ∷ []) (octets ++ 10 ∷ []))
     (put_after before between now (words ++ 10 ∷ []) (octets ++ 10 ∷ []) whole put next)
+
+-- a sink with room for all of these takes the line, and then the octets
+pub counted_room : (before between now : ℕ → Type 0) (First Next : Type 0) (words octets : List ℕ)
+    → ((n : ℕ) → before n → length (words ++ 10 ∷ []) ≤ n → First × between (n - length (words ++ 10 ∷ [])))
+    → ((n : ℕ) → between n → length (octets ++ 10 ∷ []) ≤ n → Next × now (n - length (octets ++ 10 ∷ [])))
+    → (n : ℕ) → before n → length (words ++ 10 ∷ (octets ++ 10 ∷ [])) ≤ n → Next × now (n - length (words ++ 10 ∷ (octets ++ 10 ∷ [])))
+counted_room before between now First Next words octets first next =
+    subst (λ (xs : List ℕ). (n : ℕ) → before n → length xs ≤ n → Next × now (n - length xs)) (append_assoc words (10 ∷ []) (octets ++ 10 ∷ []))
+    (room_both before between now First Next (words ++ 10 ∷ []) (octets ++ 10 ∷ []) first next)

@@ -26,15 +26,15 @@ use Rattle.script_answers.proofs.AnsweredLemmas.{AnswersTo, answers_cut, answers
 
 -- ---- the line that tells why a script was stopped
 
--- the line of a stop is that of the same stop
-pub stop_put : (why is : ScriptStop) (before now : Option (List ℕ)) (whole : Bool) → why ≡ is → IsPutOut before now (stopped_by is).output whole → IsPutOut before now (stopped_by why).output whole
-stop_put why is before now whole same put = subst (λ (w : ScriptStop). IsPutOut before now (stopped_by w).output whole) (sym same) put
+-- what holds of the line of a stop holds of that of the same stop
+pub stop_at : (P : List ℕ → Type 0) (why is : ScriptStop) → why ≡ is → P (stopped_by is).output → P (stopped_by why).output
+stop_at P why is same put = subst (λ (w : ScriptStop). P (stopped_by w).output) (sym same) put
 
 -- a number with words before and after it, and LF
-pub numbered_put : (n number : ℕ) (tail : List ℕ) (before now : Option (List ℕ)) (whole : Bool) → n ≡ number → IsPutOut before now (codes "fault script " ++ decimal n ++ (tail ++ 10 ∷ [])) whole → IsPutOut before now (codes "fault script " ++ decimal number ++ tail ++ 10 ∷ []) whole
-numbered_put n number tail before now whole same put =
-    subst (λ (m : ℕ). IsPutOut before now (codes "fault script " ++ decimal m ++ tail ++ 10 ∷ []) whole) same
-    (subst (λ (xs : List ℕ). IsPutOut before now xs whole) (sym (append_assoc (codes "fault script " ++ decimal n) tail (10 ∷ []))) put)
+pub numbered_at : (P : List ℕ → Type 0) (n number : ℕ) (tail : List ℕ) → n ≡ number → P (codes "fault script " ++ decimal n ++ (tail ++ 10 ∷ [])) → P (codes "fault script " ++ decimal number ++ tail ++ 10 ∷ [])
+numbered_at P n number tail same put =
+    subst (λ (m : ℕ). P (codes "fault script " ++ decimal m ++ tail ++ 10 ∷ [])) same
+    (subst P (sym (append_assoc (codes "fault script " ++ decimal n) tail (10 ∷ []))) put)
 
 -- ---- how far a script is answered
 

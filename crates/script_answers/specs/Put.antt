@@ -1,4 +1,4 @@
--- For bodies: octets that are put one after the other.
+-- Octets that were put one after the other.
 use Rattle.std.specs.Prelude.{◌≡◌, ◌++◌, ℕ, Bool, true, false, List, Option, Some, IfSome}
 use Rattle.edi_ports.specs.Sink.{IsCut}
 

@@ -7,6 +7,5 @@ mod script;
 mod status;
 
 pub use put::{put_numbered, put_pair};
-pub use reply::answer_command;
 pub use script::answer_script;
 pub use status::Status;

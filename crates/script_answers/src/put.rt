@@ -25,7 +25,8 @@ pub fn put_numbered<O: Sink>(out: &mut O, head: &[u8], n: u64, rest: &[u8]) -> b
     ensures counted { O.faults out.old ≤ O.faults out.new }
     ensures cause { OnFalse result (HasRisen (O.faults out.old) (O.faults out.new)) }
     ensures room { (room : ℕ) → O.has_room out.old room
-        → length (head.now ++ decimal n ++ rest.now) ≤ room → IsTrue result }
+        → length (head.now ++ decimal n ++ rest.now) ≤ room
+        → IsTrue result × O.has_room out.new (room - length (head.now ++ decimal n ++ rest.now)) }
 {
     let mut buffer = Buffer::new();
     put_pair(out, head, buffer.format(n).as_bytes()) && put_all(out, rest)

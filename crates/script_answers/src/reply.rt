@@ -1,5 +1,5 @@
 //! The replies to the commands of a script.
-ghost use Rattle.std.specs.Prelude.{◌≡◌, ◌≤◌, [], ◌∷◌, ◌++◌, length, IsTrue, IfOk, MatchResult, codes, decimal};
+ghost use Rattle.std.specs.Prelude.{◌≡◌, ◌≤◌, ◌-◌, ℕ, [], ◌∷◌, ◌++◌, length, IsTrue, IfOk, MatchResult, codes, decimal};
 ghost use Rattle.std.specs.Bool.{OnFalse};
 ghost use Rattle.edi_ports.specs.Faults.{HasRisen};
 ghost use Rattle.error_ledger.specs.Printing.{errors_text, tree_text};
@@ -11,7 +11,7 @@ ghost use Rattle.edi_engine.specs.Summary.{contrl_to};
 ghost use Rattle.edi_engine.specs.Tree.{tree_of};
 ghost use Rattle.script_answers.specs.Put.{IsPutOut};
 ghost use Rattle.script_answers.specs.Replied.{IsAnswered, octets_of};
-ghost use Rattle.script_answers.specs.Reply.{IsStep, contrl_reply, counted, no_memory};
+ghost use Rattle.script_answers.specs.Reply.{IsStep, contrl_reply, counted, no_memory, reply_to};
 
 use crate::put::{put_numbered, put_pair};
 use contrl_writer::{Contrl, Stamp};
@@ -50,6 +50,9 @@ pub fn answer_command<L: Ledger, M: Ledger, O: Sink>(
     ensures directory { engine.new.directory ≡ engine.old.directory }
     ensures counted { O.faults out.old ≤ O.faults out.new }
     ensures cause { OnFalse result (HasRisen (O.faults out.old) (O.faults out.new)) }
+    ensures room { (n : ℕ) → O.has_room out.old n
+        → length (reply_to engine.old.directory engine.old.text command.now) ≤ n
+        → length no_memory ≤ n → IsTrue result }
 {
     let reply = reply_to(alloc, engine, command, lexed, placed);
     put_reply(out, &reply)
@@ -166,6 +169,8 @@ fn put_reply<O: Sink>(out: &mut O, reply: &Reply) -> bool
     ensures put { IsPutOut (O.held out.old) (O.held out.new) (octets_of reply.now) result }
     ensures counted { O.faults out.old ≤ O.faults out.new }
     ensures cause { OnFalse result (HasRisen (O.faults out.old) (O.faults out.new)) }
+    ensures room { (n : ℕ) → O.has_room out.old n → length (octets_of reply.now) ≤ n
+        → IsTrue result × O.has_room out.new (n - length (octets_of reply.now)) }
 {
     match reply {
         Reply::Fixed(octets) => put_pair(out, octets, b""),
@@ -181,6 +186,10 @@ fn put_counted<O: Sink>(out: &mut O, head: &[u8], octets: &[u8]) -> bool
         (head.now ++ decimal (length octets.now) ++ 10 ∷ (octets.now ++ 10 ∷ [])) result }
     ensures counted { O.faults out.old ≤ O.faults out.new }
     ensures cause { OnFalse result (HasRisen (O.faults out.old) (O.faults out.new)) }
+    ensures room { (n : ℕ) → O.has_room out.old n
+        → length (head.now ++ decimal (length octets.now) ++ 10 ∷ (octets.now ++ 10 ∷ [])) ≤ n
+        → IsTrue result × O.has_room out.new
+        (n - length (head.now ++ decimal (length octets.now) ++ 10 ∷ (octets.now ++ 10 ∷ []))) }
 {
     put_numbered(out, head, octets.len() as u64, b"\n") && put_pair(out, octets, b"\n")
 }

@@ -1,5 +1,5 @@
 //! The answers to a script.
-ghost use Rattle.std.specs.Prelude.{◌≡◌, ◌≢◌, ◌↔◌, IsTrue};
+ghost use Rattle.std.specs.Prelude.{◌≡◌, ◌≢◌, ◌↔◌, ◌≤◌, ◌-◌, ℕ, IsTrue, length};
 ghost use Rattle.std.specs.Bool.{OnFalse};
 ghost use Rattle.edi_ports.specs.Faults.{HasRisen};
 ghost use Rattle.script_answers.specs.Finish.{IsFinish};
@@ -65,7 +65,10 @@ fn is_end(command: Command) -> bool
 
 // Puts the line that tells why a script was stopped.
 fn tell_stop<O: Sink>(out: &mut O, why: ScriptStop) -> Status
-    ensures { IsFinish (stopped_by why) (held_of O.Sink out.old) (held_of O.Sink out.new) result }
+    ensures finish { IsFinish (stopped_by why)
+        (held_of O.Sink out.old) (held_of O.Sink out.new) result }
+    ensures room { (n : ℕ) → O.has_room out.old n → length (stopped_by why).output ≤ n
+        → result ≡ (stopped_by why).status }
 {
     if put_stop(out, why) {
         status_of(why)
@@ -77,6 +80,8 @@ fn tell_stop<O: Sink>(out: &mut O, why: ScriptStop) -> Status
 fn put_stop<O: Sink>(out: &mut O, why: ScriptStop) -> bool
     ensures put { IsPutOut (O.held out.old) (O.held out.new) (stopped_by why).output result }
     ensures cause { OnFalse result (HasRisen (O.faults out.old) (O.faults out.new)) }
+    ensures room { (n : ℕ) → O.has_room out.old n → length (stopped_by why).output ≤ n
+        → IsTrue result × O.has_room out.new (n - length (stopped_by why).output) }
 {
     match why {
         ScriptStop::BadLine { number } => put_numbered(

@@ -14,9 +14,8 @@ returns-then-put_pair-clause-put g c =
 pub returns-then-put_pair-clause-room : goal.returns-then-put_pair-clause-room
 returns-then-put_pair-clause-room g c =
     let digits : c.as_bytes.result.now ≡ decimal c.args.n = c.as_bytes.ensures.value ∙ c.format.ensures.text in
-    λ n has fits.
-    (room_both (g.O.Sink.has_room c.args.out.now) (g.O.Sink.has_room c.put_pair.new.out) (g.O.Sink.has_room c.put_all.new.out) _ _
+    room_both (g.O.Sink.has_room c.args.out.now) (g.O.Sink.has_room c.put_pair.new.out) (g.O.Sink.has_room c.put_all.new.out) _ _
     (c.args.head.now ++ decimal c.args.n) c.args.rest.now
     (subst (λ (xs : List ℕ). (n : ℕ) → g.O.Sink.has_room c.args.out.now n → length (c.args.head.now ++ xs) ≤ n
     → (c.put_pair.result ≡ true) × g.O.Sink.has_room c.put_pair.new.out (n - length (c.args.head.now ++ xs))) digits c.put_pair.ensures.room)
-    c.put_all.ensures.room n has fits).0
+    c.put_all.ensures.room

@@ -12,11 +12,11 @@ returns-in-Err-clause-run g c = (
   stop_caused _ _ c.in-Err.stop (held_of g.O.Sink c.commands.out) (held_of g.O.Sink c.tell_stop.new.out) c.tell_stop.result
       (λ fault. risen_later _ _ _ c.commands.invariant.input (c.in-Err.ensures.cause (ap Err fault)))
       (λ risen. risen_later _ _ _ c.commands.invariant.sink risen)
-      c.tell_stop.ensures,
+      c.tell_stop.ensures.finish,
   run_stopped c.args.engine.now.directory c.args.engine.now.text c.commands.engine.text c.commands.reader c.next_command.new.self
       (g.I.Source.rest c.args.input.now) (g.I.Source.rest c.commands.input) (g.I.Source.rest c.next_command.new.input) (g.O.Sink.held c.args.out.now)
       (held_of g.O.Sink c.commands.out) (held_of g.O.Sink c.tell_stop.new.out) c.in-Err.stop c.tell_stop.result
-      c.commands.invariant.progress c.in-Err.ensures.next c.tell_stop.ensures,
+      c.commands.invariant.progress c.in-Err.ensures.next c.tell_stop.ensures.finish,
 )
 
 pub returns-in-Err-clause-complete : goal.returns-in-Err-clause-complete
@@ -26,7 +26,7 @@ returns-in-Err-clause-complete g c =
     c.commands.invariant.still c.in-Err.ensures.next
     (λ fault. risen_later _ _ _ c.commands.invariant.input (c.in-Err.ensures.cause (ap Err fault)))
     (λ risen. risen_later _ _ _ c.commands.invariant.sink risen)
-    c.tell_stop.ensures
+    c.tell_stop.ensures.finish
 
 pub returns-then-not-answer_command-clause-run : goal.returns-then-not-answer_command-clause-run
 returns-then-not-answer_command-clause-run g c = (

@@ -18,46 +18,24 @@ use Rattle.seg_lexer.specs.Segments.{IsSegment, boundaries_of, ends_of, segments
 use Rattle.seg_lexer.specs.Service.{service_of}
 use Rattle.seg_lexer.specs.declared.service.Service.{Service}
 use Rattle.segment_records.specs.Segments.{Segment, segments_in, value_in}
-use Rattle.edi_engine.specs.Engine.{segment_count_of}
-use Rattle.edi_engine.specs.Errors.{advice_lines, error_with, errors_found, is_unknown, levels, opening_lines, segment_lines, syntax_lines, tail_lines, versions}
-use Rattle.edi_engine.specs.Heads.{heads_of, marks_of}
-use Rattle.edi_engine.specs.Line.{opening_seen}
-use Rattle.edi_engine.specs.Look.{seen_of}
-use Rattle.edi_engine.specs.declared.seen.Seen.{Seen}
-use Rattle.edi_engine.specs.Seen.{SeenSegment, as_segment, seen_at, seen_in}
-use Rattle.edi_engine.proofs.Following.{stretch_in}
-use Rattle.edi_engine.proofs.Headed.{components_alike, place_in, starts_alike}
-use Rattle.edi_engine.proofs.Looking.{seen_is}
-use Rattle.edi_engine.proofs.Rests.{length_segments, same_count}
-use Rattle.edi_engine.proofs.Stretches.{context_service, few_segments}
-
--- the last boundary is one
-pub last_at : (s : Service) (text : List ℕ) (from : ℕ) → from ≡ get_or (boundaries_of s text) (length (ends_of s text)) 0
-    → slice_get (boundaries_of s text) (length (ends_of s text)) ≡ Some from
-unfolding boundaries_of
-last_at s text from is =
-    let all = length-map (ends_of s text) (λ (e : ℕ). e + 1) in
-    slice_get-get_or (s.body ∷ map (λ e. e + 1) (ends_of s text)) (length (ends_of s text)) 0 (omega arith) ∙ ap Some (sym is)
-
--- after it there is no segment
-pub none_past : (s : Service) (text : List ℕ) (from start end : ℕ) → IsSegment s text (length (ends_of s text)) from start end → ⊥
-none_past s text from start end it =
-    let within = slice_get_within (segments_of s text) (length (ends_of s text)) _ it.segment in
-    let count = same_count s text in
-    let ends = length_segments s text in
-    omega arith
+use Rattle.segment_walk.specs.Count.{segment_count_of}
+use Rattle.segment_walk.specs.Errors.{error_with, is_unknown, levels, segment_lines, versions}
+use Rattle.edi_engine.specs.Errors.{advice_lines, errors_found, opening_lines, syntax_lines, tail_lines}
+use Rattle.segment_walk.specs.Heads.{heads_of, marks_of}
+use Rattle.segment_walk.specs.Line.{opening_seen}
+use Rattle.segment_walk.specs.Look.{seen_of}
+use Rattle.segment_walk.specs.declared.seen.Seen.{Seen}
+use Rattle.segment_walk.specs.Seen.{SeenSegment, as_segment, seen_at, seen_in}
+use Rattle.segment_walk.proofs.Following.{stretch_in}
+use Rattle.segment_walk.proofs.Headed.{components_alike, place_in, starts_alike}
+use Rattle.segment_walk.proofs.Looking.{seen_is}
+use Rattle.segment_walk.proofs.Rests.{length_segments, same_count}
+use Rattle.segment_walk.proofs.Stretches.{context_service, few_segments}
 
 -- nothing is left where no segment comes
 pub none_left : (left rest : List SeenSegment) (next : Option Seen) → next ≡ None → YieldsFirstBy seen_of (λ (xs : List SeenSegment). xs) left next rest → left ≡ []
 none_left left rest None none step = step.0
 none_left left rest (Some seen) none step = absurd (let no : ⊥ = cc in no)
-
--- a tail begins inside the text
-pub tail_within : (s : Service) (text : List ℕ) (start : ℕ) → tail_of s text ≡ Some start → start < length text
-unfolding tail_of
-tail_within s text start is =
-    let found = cond_some _ _ _ is in
-    subst (λ (x : ℕ). x < length text) found.1 (ltb-true _ _ found.0)
 
 pub few_counted : (text : List ℕ) → segment_count_of text ≤ length text
 few_counted text =

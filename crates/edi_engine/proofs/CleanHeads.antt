@@ -18,8 +18,8 @@ use Rattle.contrl_laws.proofs.Each.{Each}
 use Rattle.contrl_laws.proofs.Runs.{HaveTags}
 use Rattle.contrl_laws.proofs.Walk.{Accepts, Go, Spot, grouped_after, spot_after}
 use Rattle.contrl_laws.proofs.Walk.Go.{to_message, to_segment, to_element, to_group}
-use Rattle.edi_engine.specs.Heads.{head_at, head_of, heads_of, marks_of, name_in, tabled_in}
-use Rattle.edi_engine.proofs.Headed.{fits_are}
+use Rattle.segment_walk.specs.Heads.{head_at, head_of, heads_of, marks_of, name_in, tabled_in}
+use Rattle.segment_walk.proofs.Headed.{fits_are}
 
 abbrev tag_with : List ℕ → Option Tag
 tag_with octets = Some (record { octets = octets })

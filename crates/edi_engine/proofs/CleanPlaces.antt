@@ -28,8 +28,9 @@ use Rattle.segment_records.specs.Segments.{Segment, segments_in, value_in}
 use Rattle.contrl_laws.proofs.Each.{Each, each-all, each-append, each-flat, each-map}
 use Rattle.contrl_laws.proofs.Lawful.{IsPlaced}
 use Rattle.contrl_laws.proofs.Places.{NamesElement, local_names}
-use Rattle.edi_engine.specs.Errors.{advice_lines, error_of, errors_found, errors_in, errors_of, fault_line, is_unknown, levels, local_line, nodes_in, opening_lines, segment_lines, structure_lines, syntax_lines, tail_lines, versions}
-use Rattle.edi_engine.specs.Heads.{heads_of, marks_of}
+use Rattle.segment_walk.specs.Errors.{error_of, fault_line, is_unknown, levels, local_line, nodes_in, segment_lines, structure_lines, versions}
+use Rattle.edi_engine.specs.Errors.{advice_lines, errors_found, errors_in, errors_of, opening_lines, syntax_lines, tail_lines}
+use Rattle.segment_walk.specs.Heads.{heads_of, marks_of}
 
 each-when : (b : Bool) (e : ErrorLine) → IsPlaced e → Each IsPlaced (when b e)
 each-when true e placed = (placed, tt)

@@ -14,12 +14,12 @@ use Rattle.segment_records.specs.Segments.{Segment, segments_in}
 use Rattle.segment_records.specs.declared.mode.Mode.{Mode}
 use Rattle.segment_records.specs.declared.mode.Mode.TheVariants.{Outside}
 use Rattle.segment_records.proofs.ModeLaws.{kept_is, length_kept, steps_are_modes}
-use Rattle.edi_engine.specs.Engine.{segment_count_of}
+use Rattle.segment_walk.specs.Count.{segment_count_of}
 use Rattle.edi_engine.specs.declared.engine.Engine.TheInside.{Inside}
 use Rattle.edi_engine.specs.Reading.{IsReading}
-use Rattle.edi_engine.specs.Seen.{AreStretches, kept_in, seen_from, seen_in}
-use Rattle.edi_engine.proofs.Rests.{same_count}
-use Rattle.edi_engine.proofs.Stretches.{context_service, few_segments, kept_stretches, last_boundary, octets_in}
+use Rattle.segment_walk.specs.Seen.{AreStretches, kept_in, seen_from, seen_in}
+use Rattle.segment_walk.proofs.Rests.{same_count}
+use Rattle.segment_walk.proofs.Stretches.{context_service, few_segments, kept_stretches, last_boundary, octets_in}
 
 abbrev as_no_segment : Segment
 as_no_segment = record { from = 0; start = 0; end = 0; components = []; tag = None }

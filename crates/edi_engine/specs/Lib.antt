@@ -2,15 +2,7 @@ pub mod Clean
 pub mod Edit
 pub mod Engine
 pub mod Errors
-pub mod Groups
-pub mod Heads
-pub mod Line
-pub mod Look
 pub mod Placed
 pub mod Reading
-pub mod Seen
-pub mod Spans
 pub mod Summary
-pub mod Told
 pub mod Tree
-pub mod Walked

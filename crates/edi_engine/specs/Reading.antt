@@ -4,7 +4,7 @@ use Rattle.dir_compile.specs.Directory.{IsDirectory}
 use Rattle.seg_lexer.specs.Context.{context_of}
 use Rattle.segment_records.specs.declared.mode.Mode.TheVariants.{Outside}
 use Rattle.edi_engine.specs.Engine.{Reading}
-use Rattle.edi_engine.specs.Seen.{kept_in}
+use Rattle.segment_walk.specs.Seen.{kept_in}
 use Rattle.edi_engine.specs.declared.engine.Engine.TheInside.{Inside}
 
 abbrev pub reading : Inside → Reading

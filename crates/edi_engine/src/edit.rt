@@ -1,7 +1,7 @@
 //! Edits of the text of an engine.
 ghost use Rattle.std.specs.Prelude.{◌≡◌, ◌+◌, ◌≤◌, ◌⊎◌, None};
+ghost use Rattle.segment_walk.specs.Count.{segment_count_of};
 ghost use Rattle.edi_engine.specs.Edit.{IsEdit, stop_by, stop_of, text_with};
-ghost use Rattle.edi_engine.specs.Engine.{segment_count_of};
 
 use crate::Engine;
 use std::alloc::{AllocError, Global};

@@ -6,17 +6,14 @@ ghost use Rattle.error_ledger.specs.Order.{IsAscending};
 ghost use Rattle.envelope_check.specs.Envelope.{envelope_errors_of};
 ghost use Rattle.seg_lexer.specs.Context.{context_of};
 ghost use Rattle.segment_records.specs.Segments.{segments_in};
-ghost use Rattle.edi_engine.specs.Errors.{error_with, errors_found, errors_of, segment_lines};
-ghost use Rattle.edi_engine.specs.Heads.{heads_of, marks_of};
-ghost use Rattle.edi_engine.specs.Line.{local_seen, seen_error};
-ghost use Rattle.edi_engine.specs.Look.{seen_of};
+ghost use Rattle.segment_walk.specs.Errors.{segment_lines};
+ghost use Rattle.segment_walk.specs.Heads.{heads_of, marks_of};
+ghost use Rattle.edi_engine.specs.Errors.{errors_found, errors_of};
 
 use crate::engine::Engine;
-use crate::seen::Seen;
-use crate::structure::put_structure;
-use edi_tables::Tag;
 use envelope_check::envelope_errors;
-use error_ledger::{ErrorLine, Kind, order_errors};
+use error_ledger::{ErrorLine, order_errors};
+use segment_walk::{put_local, put_structure};
 use std::alloc::{AllocError, Global};
 
 impl Engine<'_> {
@@ -74,54 +71,5 @@ impl Engine<'_> {
             put_local(&seen, list)?;
         }
         Ok(())
-    }
-}
-
-// Puts the local errors of a segment.
-fn put_local(seen: &Seen<'_>, list: &mut Vec<ErrorLine>) -> Result<(), AllocError>
-    ensures { OnOk result (list.new.items ≡ list.old.items ++ local_seen (seen_of seen.now)) }
-{
-    for error in seen.record.local() {
-        list.push(seen.error(error.element, error.component, error.kind))?;
-    }
-    Ok(())
-}
-
-/// An error of segment `k` at a component of an element: 0 is the whole segment, or the whole element.
-pub(crate) fn error_with(
-    k: u32,
-    start: u32,
-    tag: Option<Tag>,
-    element: u32,
-    component: u32,
-    kind: Kind,
-) -> ErrorLine
-    ensures { result ≡ error_with k start tag element component kind }
-{
-    ErrorLine {
-        segment: k,
-        start,
-        tag,
-        element,
-        component,
-        kind,
-        node: 0,
-        missing: None,
-    }
-}
-
-impl Seen<'_> {
-    /// An error of the segment at a component of an element.
-    pub(crate) fn error(&self, element: u32, component: u32, kind: Kind) -> ErrorLine
-        ensures { result ≡ seen_error (seen_of self.now) element component kind }
-    {
-        error_with(
-            self.number,
-            self.start(),
-            self.record.tag(),
-            element,
-            component,
-            kind,
-        )
     }
 }

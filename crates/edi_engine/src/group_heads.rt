@@ -1,21 +1,12 @@
 //! The functional groups of a text.
-ghost use Rattle.std.specs.Prelude.{◌≡◌, ◌+◌, ◌++◌, ◌<◌, ◌≤◌, IfOk, None, OnOk, Some, codes, if◌then◌else◌, length};
-ghost use Rattle.edi_tables.specs.Rows.{has_name};
-ghost use Rattle.seg_lexer.specs.Service.{IsUsable};
-ghost use Rattle.seg_lexer.specs.declared.TheConstants.{LONGEST_TEXT};
+ghost use Rattle.std.specs.Prelude.{◌≡◌, IfOk};
 ghost use Rattle.segment_records.specs.Segments.{segments_in};
-ghost use Rattle.edi_engine.specs.Look.{seen_of};
-ghost use Rattle.edi_engine.specs.Spans.{ended_by, group_ended, group_seen, last_by as last_by_of, stops_group as stops_group_of};
 ghost use Rattle.edi_engine.specs.Summary.{groups_in};
 
 use crate::engine::Engine;
-use crate::seen::Seen;
-use crate::values::copy_party;
 use contrl_writer::GroupHead;
-use edi_octets::Octets;
-use edi_tables::{Chunk, Tag};
-use seg_lexer::Service;
-use segment_records::{copy_value, is_named, is_no_part};
+use segment_records::is_named;
+use segment_walk::{last_by, open_group, put_group, stops_group};
 use std::alloc::{AllocError, Global};
 
 impl Engine<'_> {
@@ -39,81 +30,4 @@ impl Engine<'_> {
         put_group(current, count, &mut groups)?;
         Ok(groups)
     }
-}
-
-// Puts an open group that ends with this segment.
-fn put_group(
-    current: Option<GroupHead>,
-    last: u32,
-    groups: &mut Vec<GroupHead>,
-) -> Result<(), AllocError>
-    ensures { OnOk result (groups.new.items
-        ≡ groups.old.items ++ ended_by group_ended current last) }
-{
-    if let Some(mut head) = current {
-        head.last = last;
-        groups.push(head)?;
-    }
-    Ok(())
-}
-
-// The group that a segment opens, if it is a UNG.
-fn open_group<O: Octets>(
-    alloc: Global,
-    text: &O,
-    service: &Service,
-    seen: &Seen<'_>,
-) -> Result<Option<GroupHead>, AllocError>
-    requires usable { IsUsable service.now (O.octets text.now) }
-    requires short { length (O.octets text.now) ≤ LONGEST_TEXT }
-    requires within { seen.now.from + seen.now.record.now.octets ≤ length (O.octets text.now) }
-    ensures { IfOk result (λ opened. opened ≡ (if has_name (codes "UNG") seen.now.record.now.tag
-        then Some (group_seen service.now (O.octets text.now) (seen_of seen.now)) else None)) }
-{
-    if is_named(b"UNG", seen.record.tag()) {
-        Ok(Some(read_group(alloc, text, service, seen)?))
-    } else {
-        Ok(None)
-    }
-}
-
-// The group that a UNG opens.
-fn read_group<O: Octets>(
-    alloc: Global,
-    text: &O,
-    service: &Service,
-    seen: &Seen<'_>,
-) -> Result<GroupHead, AllocError>
-    requires usable { IsUsable service.now (O.octets text.now) }
-    requires short { length (O.octets text.now) ≤ LONGEST_TEXT }
-    requires within { seen.now.from + seen.now.record.now.octets ≤ length (O.octets text.now) }
-    ensures { IfOk result (λ head. head
-        ≡ group_seen service.now (O.octets text.now) (seen_of seen.now)) }
-{
-    let components = seen.components(text, service);
-    let reference = copy_value(alloc, components, 5, 1)?;
-    let sender = copy_party(alloc, components, 2, Chunk::empty(alloc))?;
-    let recipient = copy_party(alloc, components, 3, Chunk::empty(alloc))?;
-    Ok(GroupHead {
-        first: seen.number,
-        last: seen.number,
-        reference,
-        sender,
-        recipient,
-    })
-}
-
-/// The last segment of what stops at this one: this one itself, if it closes.
-pub(crate) fn last_by(closes: bool, number: u32) -> u32
-    requires { 0 < number }
-    ensures { result ≡ last_by_of closes number }
-{
-    if closes { number } else { number - 1 }
-}
-
-/// Whether a segment with this tag stops a group.
-pub(crate) fn stops_group(tag: Option<Tag>) -> bool
-    ensures { result ≡ stops_group_of tag }
-{
-    is_no_part(tag)
 }

@@ -8,13 +8,9 @@ mod group_heads;
 mod heads;
 mod message_heads;
 mod opening;
-mod read;
-mod seen;
-mod structure;
 mod summary;
 mod tree;
-mod values;
 
 pub use edit::EditStop;
 pub use engine::Engine;
-pub use read::read_records;
+pub use segment_walk::read_records;

@@ -1,25 +1,17 @@
 //! What an acknowledgement tells of the text of an engine.
-ghost use Rattle.std.specs.Prelude.{◌≡◌, ◌+◌, ◌≤◌, IfOk, IsTrue, length, slice_get};
+ghost use Rattle.std.specs.Prelude.{◌≡◌, IfOk, IsTrue, slice_get};
 ghost use Rattle.contrl_writer.specs.Stamp.{IsStamp, is_reference_of};
 ghost use Rattle.dir_compile.specs.Directory.{IsDirectory};
 ghost use Rattle.seg_lexer.specs.Context.{context_of};
-ghost use Rattle.seg_lexer.specs.Left.{components_left};
-ghost use Rattle.seg_lexer.specs.Service.{IsUsable};
-ghost use Rattle.seg_lexer.specs.declared.TheConstants.{LONGEST_TEXT};
 ghost use Rattle.segment_records.specs.Segments.{segments_in};
 ghost use Rattle.edi_engine.specs.Clean.{IsCleanAnswer};
-ghost use Rattle.edi_engine.specs.Look.{seen_of};
-ghost use Rattle.edi_engine.specs.Summary.{contrl_to, interchange_party_in, opening_by, opening_in, summary_of};
-ghost use Rattle.edi_engine.specs.Told.{components_seen};
+ghost use Rattle.edi_engine.specs.Summary.{contrl_to, opening_in, summary_of};
 
 use crate::Engine;
-use crate::seen::Seen;
-use crate::values::copy_party;
-use contrl_writer::{Contrl, Opening, Party, Stamp, Summary, write_contrl};
-use edi_octets::Octets;
+use contrl_writer::{Contrl, Opening, Stamp, Summary, write_contrl};
 use edi_tables::List;
-use seg_lexer::{Context, Fields};
-use segment_records::{copy_value, is_named};
+use segment_records::is_named;
+use segment_walk::read_opening;
 use std::alloc::{AllocError, Global};
 
 impl<'d> Engine<'d> {
@@ -76,47 +68,4 @@ impl<'d> Engine<'d> {
             _ => Ok(Opening::NoUnb),
         }
     }
-}
-
-// What a UNB tells, if it has no local error.
-fn read_opening<O: Octets>(
-    alloc: Global,
-    text: &O,
-    context: &Context,
-    first: &Seen<'_>,
-) -> Result<Opening, AllocError>
-    requires usable { IsUsable context.now.service (O.octets text.now) }
-    requires short { length (O.octets text.now) ≤ LONGEST_TEXT }
-    requires within { first.now.from + first.now.record.now.octets ≤ length (O.octets text.now) }
-    ensures { IfOk result (λ opening. opening ≡ opening_by context.now
-        (components_seen context.now.service (O.octets text.now) (seen_of first.now))
-        first.now.record.now.local) }
-{
-    if !first.record.local().is_empty() {
-        return Ok(Opening::BadUnb);
-    }
-    let components = first.components(text, &context.service);
-    let sender = copy_routed(alloc, components, 2)?;
-    let recipient = copy_routed(alloc, components, 3)?;
-    let reference = copy_value(alloc, components, 5, 1)?;
-    Ok(Opening::Good {
-        level: context.level,
-        version: context.version,
-        sender,
-        recipient,
-        reference,
-    })
-}
-
-// A party of an interchange, in an element of its UNB.
-fn copy_routed<O: Octets>(
-    alloc: Global,
-    components: Fields<'_, O>,
-    element: u32,
-) -> Result<Party, AllocError>
-    ensures { IfOk result (λ party. party
-        ≡ interchange_party_in (components_left components.entry) element) }
-{
-    let route = copy_value(alloc, components, element, 3)?;
-    copy_party(alloc, components, element, route)
 }

@@ -1,6 +1,6 @@
 use Rattle.std.proofs.Common.{◌≡◌, ◌≤◌, ◌+◌, ◌-◌, ◌∙◌, length, ap, arith}
 use Rattle.edi_engine.specs.Engine.{Reading}
-use Rattle.edi_engine.proofs.Begun.{few_kept}
+use Rattle.segment_walk.proofs.Begun.{few_kept}
 use Rattle.edi_engine.proofs.Edits.{length_with}
 use Rattle.edi_engine.proofs.engine.Engine.edited.Goals as goal
 

@@ -3,10 +3,10 @@ use Rattle.std.specs.List.{filter_map}
 use Rattle.std.specs.Option.{option_map}
 use Rattle.envelope_check.specs.Heads.{kind_of}
 use Rattle.seg_lexer.specs.declared.service.Service.{Service}
-use Rattle.edi_engine.specs.Look.{seen_of}
-use Rattle.edi_engine.specs.Seen.{LiesIn, seen_in}
-use Rattle.edi_engine.specs.Told.{head_seen, head_when, mark_seen}
-use Rattle.edi_engine.proofs.Headed.{heads_are, mark_is, marks_are}
+use Rattle.segment_walk.specs.Look.{seen_of}
+use Rattle.segment_walk.specs.Seen.{LiesIn, seen_in}
+use Rattle.segment_walk.specs.Told.{head_seen, head_when, mark_seen}
+use Rattle.segment_walk.proofs.Headed.{heads_are, mark_is, marks_are}
 use Rattle.edi_engine.proofs.Passing.{filter_done, filter_left, filter_past, map_done, map_left, rest_all}
 use Rattle.edi_engine.proofs.engine.Engine.envelopes.Goals as goal
 

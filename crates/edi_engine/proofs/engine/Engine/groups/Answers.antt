@@ -2,11 +2,11 @@ use Rattle.std.proofs.Common.{◌∙◌, ◌++◌, List, ℕ, None, sym, ap, sub
 use Rattle.std.specs.Prelude.{All, codes}
 use Rattle.edi_tables.specs.Rows.{has_name}
 use Rattle.contrl_writer.specs.declared.summary.GroupHead.{GroupHead}
-use Rattle.edi_engine.specs.Look.{seen_of}
-use Rattle.edi_engine.specs.Seen.{LiesIn}
-use Rattle.edi_engine.specs.Spans.{IsNumbered, group_spans, heads_from, last_by, stops_group}
+use Rattle.segment_walk.specs.Look.{seen_of}
+use Rattle.segment_walk.specs.Seen.{LiesIn}
+use Rattle.segment_walk.specs.Spans.{IsNumbered, group_spans, heads_from, last_by, stops_group}
 use Rattle.edi_engine.proofs.Passing.{first_all, rest_all}
-use Rattle.edi_engine.proofs.Spanned.{heads_done, heads_on, heads_stop}
+use Rattle.segment_walk.proofs.Spanned.{heads_done, heads_on, heads_stop}
 use Rattle.edi_engine.proofs.Summed.{groups_told, numbered_in}
 use Rattle.edi_engine.proofs.engine.Engine.groups.Goals as goal
 

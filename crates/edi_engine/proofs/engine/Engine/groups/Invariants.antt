@@ -1,7 +1,7 @@
 use Rattle.std.proofs.Common.{◌≡◌, ◌++◌, None}
 use Rattle.std.specs.Prelude.{All}
-use Rattle.edi_engine.specs.Seen.{LiesIn}
-use Rattle.edi_engine.specs.Spans.{IsNumbered, group_spans, heads_from}
+use Rattle.segment_walk.specs.Seen.{LiesIn}
+use Rattle.segment_walk.specs.Spans.{IsNumbered, group_spans, heads_from}
 use Rattle.edi_engine.proofs.engine.Engine.groups.Given as goal
 
 -- the groups of the segments to come are left to be put, and the one that is open

@@ -1,7 +1,7 @@
 use Rattle.std.proofs.Common.{◌≡◌, ◌+◌, ◌≤◌, ◌++◌, None, length}
 use Rattle.std.specs.Prelude.{All}
-use Rattle.edi_engine.specs.Seen.{LiesIn}
-use Rattle.edi_engine.specs.Spans.{IsNumbered, grouped, heads_from, message_spans}
+use Rattle.segment_walk.specs.Seen.{LiesIn}
+use Rattle.segment_walk.specs.Spans.{IsNumbered, grouped, heads_from, message_spans}
 use Rattle.edi_engine.proofs.engine.Engine.messages.Given as goal
 
 -- the messages of the segments to come are left to be put, and the one that is open

@@ -1,5 +1,5 @@
 use Rattle.std.proofs.Common.{length, ap, arith}
-use Rattle.edi_engine.proofs.Begun.{few_kept}
+use Rattle.segment_walk.proofs.Begun.{few_kept}
 use Rattle.edi_engine.proofs.engine.Engine.open.Goals as goal
 
 pub of_items-requires : goal.of_items-requires

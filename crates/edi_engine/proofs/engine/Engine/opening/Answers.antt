@@ -4,7 +4,7 @@ use Rattle.std.proofs.lemmas.Result.{IfOk-weaker}
 use Rattle.edi_tables.specs.Rows.{has_name}
 use Rattle.seg_lexer.specs.Context.{context_of}
 use Rattle.segment_records.specs.Segments.{segments_in}
-use Rattle.edi_engine.specs.Look.{seen_of}
+use Rattle.segment_walk.specs.Look.{seen_of}
 use Rattle.edi_engine.specs.Summary.{opening_in}
 use Rattle.edi_engine.proofs.Bounds.{none_left}
 use Rattle.edi_engine.proofs.Summed.{opening_none, opening_other, opening_read}

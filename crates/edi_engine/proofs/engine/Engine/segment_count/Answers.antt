@@ -1,5 +1,6 @@
 use Rattle.std.proofs.Common.{◌∙◌, ap, arith}
-use Rattle.edi_engine.specs.Engine.{Reading, segment_count_of}
+use Rattle.segment_walk.specs.Count.{segment_count_of}
+use Rattle.edi_engine.specs.Engine.{Reading}
 use Rattle.edi_engine.proofs.Readings.{count_is, few_records}
 use Rattle.edi_engine.proofs.engine.Engine.segment_count.Goals as goal
 

@@ -2,8 +2,8 @@ use Rattle.std.proofs.Common.{◌∙◌, length, sym, ap, subst, arith}
 use Rattle.std.specs.Prelude.{All}
 use Rattle.dir_compile.specs.Directory.{IsDirectory}
 use Rattle.edi_engine.specs.Engine.{Reading}
-use Rattle.edi_engine.specs.Seen.{Follows, LiesIn, seen_in}
-use Rattle.edi_engine.proofs.Following.{few_seen, follows_all, lies_all}
+use Rattle.segment_walk.specs.Seen.{Follows, LiesIn, seen_in}
+use Rattle.segment_walk.proofs.Following.{few_seen, follows_all, lies_all}
 use Rattle.edi_engine.proofs.Readings.{body_within, segments_are, stretches}
 use Rattle.edi_engine.proofs.engine.Engine.segments.Goals as goal
 

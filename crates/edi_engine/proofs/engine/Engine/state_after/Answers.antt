@@ -2,8 +2,9 @@ use Rattle.std.proofs.Common.{◌≡◌, ◌+◌, ◌-◌, ◌≤◌, [], ◌∷
 use Rattle.segment_records.specs.Messages.{mode_after}
 use Rattle.segment_records.specs.Segments.{segments_in}
 use Rattle.segment_records.proofs.Held.{mode_first}
-use Rattle.edi_engine.specs.Engine.{Reading, segment_count_of}
-use Rattle.edi_engine.proofs.Looking.{first_left}
+use Rattle.segment_walk.specs.Count.{segment_count_of}
+use Rattle.edi_engine.specs.Engine.{Reading}
+use Rattle.segment_walk.proofs.Looking.{first_left}
 use Rattle.edi_engine.proofs.Readings.{count_is, record_mode}
 use Rattle.edi_engine.proofs.engine.Engine.state_after.Goals as goal
 

@@ -2,11 +2,12 @@ use Rattle.std.proofs.Common.{◌∙◌, map, sym, ap, subst}
 use Rattle.std.specs.Prelude.{All}
 use Rattle.error_ledger.specs.Printing.{IsWellPlaced}
 use Rattle.dir_compile.specs.declared.parts.Parts.{Parts}
-use Rattle.edi_engine.specs.Look.{seen_of}
-use Rattle.edi_engine.specs.Seen.{Follows, seen_in}
-use Rattle.edi_engine.specs.Told.{line_in_tree}
+use Rattle.segment_walk.specs.Look.{seen_of}
+use Rattle.segment_walk.specs.Seen.{Follows, seen_in}
+use Rattle.segment_walk.specs.Told.{line_in_tree}
 use Rattle.edi_engine.proofs.Passing.{map_done, map_left, rest_all}
-use Rattle.edi_engine.proofs.Treed.{line_is, tree_is, well_all}
+use Rattle.segment_walk.proofs.TreePlaces.{line_is, well_all}
+use Rattle.edi_engine.proofs.Treed.{tree_is}
 use Rattle.edi_engine.proofs.engine.Engine.tree.Goals as goal
 
 pub loop-seen-preserved : goal.loop-seen-preserved

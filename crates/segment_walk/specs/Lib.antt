@@ -1,0 +1,11 @@
+pub mod Count
+pub mod Errors
+pub mod Groups
+pub mod Heads
+pub mod Line
+pub mod Look
+pub mod Openers
+pub mod Seen
+pub mod Spans
+pub mod Told
+pub mod Walked

@@ -1,0 +1,13 @@
+-- For bodies: the segment that an item of the walk over records is.
+use Rattle.std.specs.Option.{option_copied}
+use Rattle.segment_walk.specs.declared.seen.Seen.{Seen}
+use Rattle.segment_walk.specs.Seen.{SeenSegment}
+
+abbrev pub seen_of : Seen → SeenSegment
+seen_of s = record {
+  number = s.number;
+  from = s.from;
+  before = s.before.now;
+  kept = s.record.now;
+  next = option_copied s.next;
+}

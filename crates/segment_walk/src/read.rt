@@ -1,0 +1,103 @@
+//! The records of a text, from a boundary on.
+ghost use Rattle.std.specs.Prelude.{◌≡◌, ◌+◌, ◌-◌, ◌≤◌, ℕ, List, drop, length, IfOk};
+ghost use Rattle.std.specs.List.{slice_get};
+ghost use Rattle.std.specs.Option.{option_map_or};
+ghost use Rattle.seg_lexer.specs.Context.{context_of};
+ghost use Rattle.seg_lexer.specs.Segments.{IsBoundary};
+ghost use Rattle.seg_lexer.specs.Service.{IsUsable};
+ghost use Rattle.seg_lexer.specs.Whole.{at_start};
+ghost use Rattle.seg_lexer.specs.declared.TheConstants.{LONGEST_TEXT};
+ghost use Rattle.segment_records.specs.Laws.{ForgetsBefore, WholeThenMore};
+ghost use Rattle.segment_records.specs.Records.{IsModeOf, records_from};
+ghost use Rattle.segment_records.specs.Segments.{Segment, segments_by};
+ghost use Rattle.segment_walk.specs.Count.{segment_count_of};
+ghost use Rattle.segment_walk.specs.Seen.{kept_in};
+
+use dir_compile::Directory;
+use edi_octets::{Flat, Octets};
+use seg_lexer::{Context, Lexed, next_segment, read_context};
+use segment_records::{Mode, Place, Record};
+use std::alloc::{AllocError, Global};
+use std::sync::ledger::Ledger;
+use step_counter::Steps;
+
+// Most segments have more octets: room for records is made by it before the first is read.
+const SHORT_SEGMENT: usize = 16;
+
+/// The records of the octets after the boundary `from` of a text, in order, after a mode. Each call of the lexer and of the
+/// walk is counted. Only want of memory is an error.
+#[tactic(auto, using(segment_records::proofs::BodyLaws::whole_then_more, segment_records::proofs::Forgets::forgets_before))]
+pub fn read_records<O: Octets, L: Ledger, M: Ledger>(
+    alloc: Global,
+    directory: &Directory,
+    context: &Context,
+    before: &Mode,
+    text: &O,
+    from: usize,
+    lexed: &mut Steps<L>,
+    placed: &mut Steps<M>,
+) -> Result<Vec<Record>, AllocError>
+    requires usable { IsUsable context.now.service (O.octets text.now) }
+    requires short { length (O.octets text.now) ≤ LONGEST_TEXT }
+    requires boundary { IsBoundary context.now.service (O.octets text.now) from }
+    // No node was counted more often than there are octets before.
+    requires mode { IsModeOf directory.now from before.now }
+    ensures records { IfOk result (λ records. records.items
+        ≡ records_from directory.now context.now before.now (drop from (O.octets text.now))) }
+    // Octets after whole segments are read by themselves, and a segment that bounds an extent forgets the mode before it.
+    ensures apart { (front back : List ℕ)
+        → WholeThenMore directory.now context.now before.now front back }
+    ensures forgets { (segment : Segment) → ForgetsBefore directory.now segment }
+    ensures lexed { lexed.new ≤ lexed.old
+        + (length (segments_by (at_start context.now.service) (drop from (O.octets text.now))) + 1) }
+    ensures placed { placed.new ≤ placed.old
+        + length (segments_by (at_start context.now.service) (drop from (O.octets text.now))) }
+{
+    let room = text.len().saturating_sub(from) / SHORT_SEGMENT;
+    let mut records = Vec::with_capacity(alloc, room)?;
+    let mut from = from;
+    while let Lexed::Ended { start, end } = next_segment(text, &context.service, from, lexed) {
+        let place = Place { from, start, end };
+        let mode = mode_after(before, &records);
+        let record = Record::read(alloc, directory, context, mode, text, place, placed)?;
+        records.push(record)?;
+        from = end + 1;
+    }
+    Ok(records)
+}
+
+// The mode after the last of these records, or where there is none, the one before.
+fn mode_after<'a>(before: &'a Mode, records: &'a [Record]) -> &'a Mode
+    ensures { result.now ≡ option_map_or (λ kept. kept.step.after)
+        (slice_get records.now (length records.now - 1)) before.now }
+{
+    match records.last() {
+        Some(record) => record.mode(),
+        None => before,
+    }
+}
+
+/// The context of a text, and the records of all its segments. Each call of the lexer and of the walk is counted. Only want of
+/// memory is an error.
+pub fn read_text<L: Ledger, M: Ledger>(
+    alloc: Global,
+    directory: &Directory,
+    octets: &[u8],
+    lexed: &mut Steps<L>,
+    placed: &mut Steps<M>,
+) -> Result<(Context, Vec<Record>), AllocError>
+    requires { length octets.now ≤ LONGEST_TEXT }
+    ensures context { IfOk result (λ read. read.0 ≡ context_of octets.now) }
+    ensures records { IfOk result (λ read. read.1.items ≡ kept_in directory.now octets.now) }
+    ensures lexed { lexed.new ≤ lexed.old + (segment_count_of octets.now + 2) }
+    ensures placed { placed.new ≤ placed.old + segment_count_of octets.now }
+{
+    let text = Flat { octets };
+    let context = read_context(&text, lexed);
+    let body = context.service.body;
+    let before = Mode::Outside;
+    let records = read_records(
+        alloc, directory, &context, &before, &text, body, lexed, placed,
+    )?;
+    Ok((context, records))
+}

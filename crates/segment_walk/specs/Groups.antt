@@ -1,4 +1,4 @@
--- For bodies: the numbers of the groups of a table, for each node.
+-- The numbers of the groups of a table, for each node.
 use Rattle.std.specs.Prelude.{ℕ, List, length, map}
 use Rattle.std.specs.List.{range_with_len}
 use Rattle.edi_tables.specs.declared.table.Node.{Node}

@@ -1,4 +1,4 @@
--- For bodies: the errors of a segment by what is seen of it.
+-- The errors of a segment, by what is seen of it.
 use Rattle.std.specs.Prelude.{ℕ, Bool, true, List, [], ◌++◌, map, Option, Some, None, if◌then◌else◌}
 use Rattle.edi_tables.specs.declared.table.Node.{Node}
 use Rattle.edi_tables.specs.Rows.{when}

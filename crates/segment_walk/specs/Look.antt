@@ -1,4 +1,4 @@
--- For bodies: the segment that an item of the walk over records is.
+-- The segment that an item of the walk over records is.
 use Rattle.std.specs.Option.{option_copied}
 use Rattle.segment_walk.specs.declared.seen.Seen.{Seen}
 use Rattle.segment_walk.specs.Seen.{SeenSegment}

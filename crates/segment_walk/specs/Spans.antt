@@ -1,4 +1,4 @@
--- For bodies: the functional groups and messages of segments that are seen one after the other.
+-- The functional groups and messages of segments that are seen one after the other.
 use Rattle.std.specs.Prelude.{◌<◌, ℕ, ◌+◌, ◌-◌, Bool, false, List, [], ◌∷◌, ◌++◌, Option, Some, None, codes, if◌then◌else◌}
 use Rattle.std.specs.List.{list_any}
 use Rattle.edi_tables.specs.declared.tag.Tag.{Tag}

@@ -1,4 +1,4 @@
--- For bodies: the head, the mark and the place in the tree of a segment, by what is seen of it.
+-- The head, the mark and the place in the tree of a segment, by what is seen of it.
 use Rattle.std.specs.Prelude.{ℕ, Bool, false, List, Option, is_some}
 use Rattle.std.specs.Option.{option_map}
 use Rattle.envelope_check.specs.Heads.{kind_of}

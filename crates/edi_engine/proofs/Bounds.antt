@@ -1,11 +1,9 @@
 -- The first segment of a text, and what is after its last.
-use Rattle.std.proofs.Common.{◌≡◌, ℕ, ◌+◌, ◌<◌, ◌≤◌, Bool, true, false, List, [], ◌∷◌, ◌++◌, length, get_or, Option, Some, None, refl, sym, ap, ◌∙◌, subst, arith}
+use Rattle.std.proofs.Common.{◌≡◌, ℕ, ◌+◌, ◌≤◌, Bool, true, false, List, [], ◌∷◌, ◌++◌, length, Option, Some, None, refl, sym, ap, ◌∙◌, arith}
 use Rattle.std.specs.Prelude.{map, codes, if◌then◌else◌}
 use Rattle.std.specs.Iterator.{YieldsFirstBy}
 use Rattle.std.specs.List.{slice_get, enumerate_from, flat_map}
-use Rattle.std.proofs.lemmas.Bool.{ltb-true}
-use Rattle.std.proofs.lemmas.List.{append-nil, length-map}
-use Rattle.std.proofs.lemmas.Option.{cond_some, slice_get-get_or, slice_get_within}
+use Rattle.std.proofs.lemmas.List.{append-nil}
 use Rattle.edi_tables.specs.Rows.{has_name, when}
 use Rattle.dir_compile.specs.declared.parts.Parts.{Parts}
 use Rattle.dir_compile.specs.Directory.{IsDirectory}
@@ -14,7 +12,7 @@ use Rattle.error_ledger.specs.declared.error.ErrorLine.{ErrorLine}
 use Rattle.error_ledger.specs.declared.kind.Kind.TheVariants as kind
 use Rattle.seg_lexer.specs.Context.{context_of}
 use Rattle.seg_lexer.specs.Fields.{Component}
-use Rattle.seg_lexer.specs.Segments.{IsSegment, boundaries_of, ends_of, segments_of, tail_of}
+use Rattle.seg_lexer.specs.Segments.{tail_of}
 use Rattle.seg_lexer.specs.Service.{service_of}
 use Rattle.seg_lexer.specs.declared.service.Service.{Service}
 use Rattle.segment_records.specs.Segments.{Segment, segments_in, value_in}
@@ -29,7 +27,7 @@ use Rattle.segment_walk.specs.Seen.{SeenSegment, as_segment, seen_at, seen_in}
 use Rattle.segment_walk.proofs.Following.{stretch_in}
 use Rattle.segment_walk.proofs.Headed.{components_alike, place_in, starts_alike}
 use Rattle.segment_walk.proofs.Looking.{seen_is}
-use Rattle.segment_walk.proofs.Rests.{length_segments, same_count}
+use Rattle.segment_walk.proofs.Rests.{same_count}
 use Rattle.segment_walk.proofs.Stretches.{context_service, few_segments}
 
 -- nothing is left where no segment comes

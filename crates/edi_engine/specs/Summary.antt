@@ -1,5 +1,5 @@
 -- What an acknowledgement tells of a text: its opening, its functional groups and messages, and its errors.
-use Rattle.std.specs.Prelude.{ℕ, ◌-◌, List, [], ◌∷◌, map, find, slice_get, Option, Some, None, codes, if◌then◌else◌}
+use Rattle.std.specs.Prelude.{ℕ, ◌-◌, List, [], map, find, slice_get, Option, Some, None, codes, if◌then◌else◌}
 use Rattle.std.specs.List.{enumerate_from}
 use Rattle.std.specs.Option.{option_map}
 use Rattle.edi_tables.specs.Extents.{Extent, group_extents, lies_in, message_extents}

@@ -1,7 +1,6 @@
 -- Where a segment is in the tree by its record, and that it lies in what it opens.
 use Rattle.std.proofs.Common.{◌≡◌, ℕ, ◌+◌, ◌-◌, ◌<◌, ◌≤◌, Bool, true, false, List, [], length, Option, Some, None, refl, sym, ap, ◌∙◌, subst, arith}
 use Rattle.std.specs.Prelude.{map, All, IfSome, codes, ◌||◌, if◌then◌else◌}
-use Rattle.std.specs.List.{enumerate_from}
 use Rattle.std.proofs.lemmas.List.Elements.{All-map, All-weaker}
 use Rattle.edi_tables.specs.declared.tag.Tag.{Tag}
 use Rattle.edi_tables.specs.declared.table.Node.{Node}
@@ -16,21 +15,18 @@ use Rattle.error_ledger.specs.declared.tree.TreePlace.{TreePlace}
 use Rattle.error_ledger.specs.declared.tree.TreePlace.TheVariants as place
 use Rattle.error_ledger.specs.declared.tree.GroupMark.{GroupMark}
 use Rattle.error_ledger.specs.Printing.{IsWellPlaced, LiesInWhatItOpens}
-use Rattle.seg_lexer.specs.Context.{context_of}
 use Rattle.segment_records.specs.Messages.{nodes_at}
 use Rattle.segment_records.specs.Places.{group_number, inner_place, opened_by, opening_place, place_by, place_with}
 use Rattle.segment_records.specs.Records.{IsModeOf}
-use Rattle.segment_records.specs.Segments.{Segment, segments_in}
+use Rattle.segment_records.specs.Segments.{Segment}
 use Rattle.segment_records.specs.Steps.{Step, inner_step, is_named, is_no_part}
 use Rattle.segment_records.specs.Taken.{read_as}
 use Rattle.segment_records.specs.declared.mode.Mode.{Mode}
 use Rattle.segment_records.specs.declared.mode.Mode.TheVariants.{Outside, Untabled, Within}
-use Rattle.segment_records.proofs.PlaceLaws.{steps_tell_places}
 use Rattle.segment_records.proofs.Tables.{table_is}
 use Rattle.table_walk.specs.Steps.{IsShaped, member_in}
-use Rattle.segment_walk.specs.Seen.{Follows, SeenSegment, as_segment, bounds_message, seen_at, seen_in}
+use Rattle.segment_walk.specs.Seen.{Follows, SeenSegment, as_segment, bounds_message}
 use Rattle.segment_walk.specs.Told.{line_in_tree}
-use Rattle.segment_walk.proofs.Looking.{all_enumerated, map_alike, seen_is}
 use Rattle.segment_walk.proofs.Nodes.{member_within}
 
 -- the cases of a place, as code tells them apart

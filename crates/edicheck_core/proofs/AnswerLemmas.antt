@@ -5,24 +5,21 @@ use Rattle.std.specs.Prelude.{codes}
 use Rattle.std.specs.Option.{option_map}
 use Rattle.edi_ports.specs.declared.shelf.ShelfFile.{ShelfFile}
 use Rattle.edi_ports.specs.Read.{TakesFront}
-use Rattle.edi_ports.specs.declared.named.Unread.{Unread}
-use Rattle.edi_ports.specs.declared.named.Unread.TheVariants.{Absent, TooLarge}
 use Rattle.dir_compile.specs.declared.parts.Parts.{Parts}
 use Rattle.dir_load.specs.declared.stop.Refusal.{Refusal}
 use Rattle.dir_load.specs.Load.{load_of}
 use Rattle.text_printer.specs.declared.text.Detail.{Detail}
 use Rattle.text_printer.specs.Printing.{printed_text}
-use Rattle.script_answers.specs.Outcome.{Outcome, done, memory_refused, read_failed, too_large}
+use Rattle.script_answers.specs.Outcome.{Outcome, done, memory_refused, too_large}
 use Rattle.script_answers.specs.declared.status.Status.TheVariants as status
 use Rattle.script_answers.specs.declared.status.Status.TheVariants.{Done, Found, Memory, ReadFault}
 use Rattle.script_answers.specs.declared.status.Status.{Status}
+use Rattle.run_opening.specs.Begun.{IsLoaded, IsUnloaded}
 use Rattle.edicheck_core.specs.Answer.{IsOneOf}
-use Rattle.edicheck_core.specs.Begun.{IsLoaded, IsUnloaded}
 use Rattle.contrl_writer.specs.declared.answer.Contrl.{Contrl}
 use Rattle.contrl_writer.specs.declared.answer.Contrl.TheVariants.{Octets, NoUnb, BadUnb}
 use Rattle.edicheck_core.specs.Form.{Question, Errors, Answer}
 use Rattle.edicheck_core.specs.Made.{after_loading, answered, found_if, listed, told_of}
-use Rattle.edicheck_core.specs.Refusal.{refusal, unread}
 use Rattle.error_ledger.specs.declared.error.ErrorLine.{ErrorLine}
 use Rattle.edi_engine.specs.Errors.{errors_of}
 use Rattle.edi_engine.specs.Summary.{contrl_to}
@@ -57,12 +54,6 @@ after_loaded next name None loaded Failed due loads (inl made) = inl ((loaded, m
 after_loaded next name (Some told) loaded Failed due loads (inl made) =
     inl ((loaded, made), made ∙ sym (ap (after_loading next) (loads told refl)))
 after_loaded next name files loaded Failed due loads (inr refused) = inr (inr (refused, tt))
-
--- files that give no directory, unless memory was refused
-pub unloaded : (manifest : List ℕ) (files : Option (List ShelfFile)) (why : Refusal) (Failed : Type 0) (due : Outcome)
-    → IsLoaded manifest files (Err why) → (due ≡ refusal why) ⊎ (due ≡ memory_refused) → IsUnloaded manifest files Failed due
-unloaded manifest files why Failed due loads (inl made) = inl (why, loads, made)
-unloaded manifest files why Failed due loads (inr refused) = inr (inr refused)
 
 -- what comes in place of a directory, whatever would come next with it
 pub after_unloaded : (next : Parts → Outcome) (name : List ℕ) (files : Option (List ShelfFile)) (Failed : Type 0) (due : Outcome) → IsUnloaded name files Failed due

@@ -8,11 +8,11 @@ use Rattle.script_answers.specs.Held.{Held}
 use Rattle.script_answers.specs.Outcome.{memory_refused}
 use Rattle.script_answers.specs.Script.{IsScriptAnswered}
 use Rattle.script_answers.specs.declared.status.Status.{Status}
+use Rattle.run_opening.specs.Opening.{IsOpening, IsToldOpening, Opened}
 use Rattle.edicheck_core.specs.Answer.{HasFailed, IsEdited}
 use Rattle.edicheck_core.specs.Begun.{IsScriptBegun}
 use Rattle.edicheck_core.specs.Form.{Asked, Edit}
 use Rattle.edicheck_core.specs.Inputs.{Inputs}
-use Rattle.edicheck_core.specs.Opening.{IsOpening, IsToldOpening, Opened}
 
 -- a script was answered, or memory was refused before it
 pub edited_opened : (manifest name : List ℕ) (before now : Inputs) (held held' : Held) (status : Status) (begun : Opened)

@@ -1,4 +1,3 @@
 mod AnswerLemmas
 mod EditLemmas
 mod OpeningLemmas
-mod Worked

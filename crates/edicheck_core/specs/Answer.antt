@@ -10,10 +10,10 @@ use Rattle.script_answers.specs.Outcome.{Outcome, memory_refused, read_failed}
 use Rattle.script_answers.specs.Script.{IsScriptAnswered}
 use Rattle.script_answers.specs.declared.status.Status.TheVariants.{Done, TooLarge}
 use Rattle.script_answers.specs.declared.status.Status.{Status}
+use Rattle.run_opening.specs.Opening.{IsOpening, IsUnopened, Opened}
 use Rattle.edicheck_core.specs.Form.{Asked, Edit, Text, needs_of}
 use Rattle.edicheck_core.specs.Inputs.{Inputs}
 use Rattle.edicheck_core.specs.Made.{IsPossible, made_by}
-use Rattle.edicheck_core.specs.Opening.{IsOpening, IsUnopened, Opened}
 
 -- an object that the words need has failed in this run
 abbrev pub HasFailed : Option Asked → Inputs → Inputs → Type 0

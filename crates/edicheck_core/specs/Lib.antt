@@ -4,6 +4,3 @@ pub mod Form
 pub mod Inputs
 pub mod Lawful
 pub mod Made
-pub mod Opening
-pub mod Output
-pub mod Refusal

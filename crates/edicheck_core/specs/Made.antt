@@ -19,11 +19,11 @@ use Rattle.edi_engine.specs.Tree.{tree_of}
 use Rattle.contrl_writer.specs.declared.answer.Contrl.{Contrl}
 use Rattle.contrl_writer.specs.declared.answer.Contrl.TheVariants.{Octets, NoUnb, BadUnb}
 use Rattle.script_answers.specs.Outcome.{Outcome, done, found, no_form, too_large}
+use Rattle.run_opening.specs.Opening.{Opened, opened, opened_by}
+use Rattle.run_opening.specs.Refusal.{refusal, unread}
 use Rattle.edicheck_core.specs.declared.help.TheConstants.{HELP, VERSION}
 use Rattle.edicheck_core.specs.Form.{Asked, Help, Version, Text, Tables, Compile, About, Edit, Drill, Question, Errors, Answer}
 use Rattle.edicheck_core.specs.Inputs.{Inputs}
-use Rattle.edicheck_core.specs.Opening.{Opened, opened, opened_by}
-use Rattle.edicheck_core.specs.Refusal.{refusal, unread}
 
 -- for a text in some detail: its listing, unless it has over 4,194,304 octets
 abbrev pub listed : Detail → List ℕ → Outcome

@@ -17,14 +17,13 @@ ghost use Rattle.edicheck_core.specs.Made.{answered, asked_about, checked_text, 
 
 use crate::Status;
 use crate::form::Question;
-use crate::opening::open_both;
-use crate::outcome::Made;
 use contrl_writer::{Contrl, Stamp};
 use dir_compile::Directory;
 use edi_engine::Engine;
 use edi_ports::Shelf;
 use edi_tables::Chunk;
 use error_ledger::{ErrorLine, print_errors, print_tree};
+use run_opening::{Made, open_both};
 use std::alloc::{AllocError, Global};
 use std::marker::Brand;
 use std::sync::ledger::{Blank, Ledger};

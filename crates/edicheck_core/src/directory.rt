@@ -1,46 +1,19 @@
 //! What the directory of a manifest comes to: its tables, or its store.
-ghost use Rattle.std.specs.Prelude.{◌≡◌, ◌≢◌, ◌≤◌, Ok, IfErr, MatchResult, Result};
+ghost use Rattle.std.specs.Prelude.{◌≡◌, ◌≢◌, Result};
 ghost use Rattle.std.specs.Option.{option_map as map_told};
 ghost use Rattle.edi_ports.specs.Faults.{HasRisen};
 ghost use Rattle.dir_compile.specs.declared.parts.Parts.{Parts};
 ghost use Rattle.dir_load.specs.declared.stop.Refusal.{Refusal};
 ghost use Rattle.dir_load.specs.Load.{load_of};
 ghost use Rattle.edicheck_core.specs.Answer.{IsOneOf};
-ghost use Rattle.edicheck_core.specs.Begun.{IsLoaded, IsUnloaded};
 ghost use Rattle.edicheck_core.specs.Made.{compiled, tabled};
 
 use crate::Status;
-use crate::outcome::Made;
-use crate::refusal::refuse;
-use dir_compile::Directory;
-use dir_load::{LoadStop, load};
 use dir_store::write_store;
 use edi_ports::Shelf;
+use run_opening::{Made, load_directory};
 use std::alloc::Global;
 use table_printer::print_tables;
-
-/// The directory of that manifest; or what a run comes to without it.
-pub fn load_directory<S: Shelf>(
-    alloc: Global,
-    manifest: &[u8],
-    shelf: &mut S,
-) -> Result<Directory, Made>
-    ensures loads { MatchResult result
-        (λ directory. IsLoaded manifest.now (S.files shelf.old) (Ok directory))
-        (λ due. IsUnloaded manifest.now (S.files shelf.old)
-        (HasRisen (S.faults shelf.old) (S.faults shelf.new)) due) }
-    ensures files { S.files shelf.new ≡ S.files shelf.old }
-    ensures counted { S.faults shelf.old ≤ S.faults shelf.new }
-    ensures steady { S.is_steady shelf.old
-        → IfErr result (λ due. due.status ≢ Status.ReadFault) × S.is_steady shelf.new }
-{
-    match load(alloc, shelf, manifest) {
-        Ok(directory) => Ok(directory),
-        Err(LoadStop::Refused(why)) => Err(refuse(alloc, &why)),
-        Err(LoadStop::Fault) => Err(Made::read_failed()),
-        Err(LoadStop::Memory) => Err(Made::memory_refused()),
-    }
-}
 
 /// What the tables of the directory of that manifest come to.
 pub fn tell_tables<S: Shelf>(alloc: Global, manifest: &[u8], shelf: &mut S) -> Made

@@ -5,8 +5,8 @@ ghost use Rattle.script_answers.specs.Outcome.{done};
 ghost use Rattle.edicheck_core.specs.Answer.{IsOneOf};
 
 use crate::Status;
-use crate::outcome::Made;
 use drill_printer::print_drill;
+use run_opening::Made;
 use std::alloc::Global;
 
 /// What a drill of so many messages and edits for a number comes to.

@@ -5,13 +5,9 @@ mod about;
 mod directory;
 mod drill;
 mod edit;
-mod finish;
 mod form;
 mod help;
-mod opening;
-mod outcome;
 mod program;
-mod refusal;
 mod text;
 
 pub use form::{Form, Question, read_form};

@@ -6,24 +6,23 @@ ghost use Rattle.script_answers.specs.Finish.{IsFinish};
 ghost use Rattle.script_answers.specs.Held.{held_of};
 ghost use Rattle.script_answers.specs.Outcome.{Outcome, memory_refused};
 ghost use Rattle.script_answers.specs.Script.{IsAnsweredWhole};
+ghost use Rattle.run_opening.specs.Opening.{IsToldOpening, Opened};
 ghost use Rattle.edicheck_core.specs.Form.{Asked, Edit, form_of, form_shown, needs_of};
 ghost use Rattle.edicheck_core.specs.Inputs.{inputs_of};
 ghost use Rattle.edicheck_core.specs.Answer.{HasFailed, IsAnswer, IsDue, IsSettled, Takes};
 ghost use Rattle.edicheck_core.specs.Lawful.{IsLawful, IsPlain};
 ghost use Rattle.edicheck_core.specs.Made.{made_by};
-ghost use Rattle.edicheck_core.specs.Opening.{IsToldOpening, Opened};
 
 use crate::about::tell_about;
 use crate::directory::{tell_store, tell_tables};
 use crate::drill::tell_drill;
 use crate::edit::edit_text;
-use crate::finish::finish;
 use crate::help::{HELP, VERSION};
-use crate::outcome::Made;
 use crate::text::list_text;
 use crate::{Form, Status, read_form};
 use edi_ports::{Shelf, Sink, Source};
 use edi_tables::Chunk;
+use run_opening::{Made, finish};
 use std::alloc::Global;
 
 /// Does what the words ask for, and tells how it ended.

@@ -1,18 +1,16 @@
 //! What the text on the input comes to.
-ghost use Rattle.std.specs.Prelude.{◌≡◌, ◌≢◌, List, ℕ, true};
+ghost use Rattle.std.specs.Prelude.{◌≡◌, ◌≢◌, ◌++◌, List, MatchResult, ℕ, true};
 ghost use Rattle.std.specs.Option.{option_map as map_told};
 ghost use Rattle.edi_ports.specs.Faults.{HasRisen};
+ghost use Rattle.script_answers.specs.Outcome.{done, memory_refused};
 ghost use Rattle.edicheck_core.specs.Answer.{IsOneOf, TakesText};
 ghost use Rattle.edicheck_core.specs.Made.{listed};
 
 use crate::Status;
-use crate::outcome::Made;
 use edi_ports::{ReadStop, Source, read_all};
-use std::alloc::Global;
-use text_printer::{Detail, print_text};
-
-/// The most octets of a text.
-pub const LONGEST_TEXT: usize = 4_194_304;
+use run_opening::{LONGEST_TEXT, Made};
+use std::alloc::{AllocError, Global};
+use text_printer::{Detail, PrintedText, print_text};
 
 /// What the text on the input comes to, in this detail.
 pub fn list_text<I: Source>(alloc: Global, detail: Detail, input: &mut I) -> Made
@@ -26,6 +24,17 @@ pub fn list_text<I: Source>(alloc: Global, detail: Detail, input: &mut I) -> Mad
         Err(ReadStop::Fault) => Made::read_failed(),
         Err(ReadStop::TooLong) => Made::fixed(Status::TooLarge, b"fault large -\n"),
         Err(ReadStop::Memory) => Made::memory_refused(),
-        Ok(text) => Made::text(print_text(alloc, detail, &text)),
+        Ok(text) => tell_printed(print_text(alloc, detail, &text)),
+    }
+}
+
+// That all was done, with a printed text, unless memory was refused for that.
+fn tell_printed(printed: Result<PrintedText, AllocError>) -> Made
+    ensures { MatchResult printed (λ text. result ≡ done (text.head ++ text.lines))
+        (λ _. result ≡ memory_refused) }
+{
+    match printed {
+        Ok(PrintedText { head, lines }) => Made::headed(Status::Done, head, lines),
+        Err(_) => Made::memory_refused(),
     }
 }

@@ -3,10 +3,9 @@ ghost use Rattle.std.specs.Prelude.{◌≡◌, ◌≤◌, ℕ, length};
 ghost use Rattle.script_answers.specs.Finish.{IsFinish};
 ghost use Rattle.script_answers.specs.Held.{held_of};
 
-use crate::Status;
 use crate::outcome::Made;
 use edi_ports::Sink;
-use script_answers::put_pair;
+use script_answers::{Status, put_pair};
 
 /// Puts the whole output, and answers its status where the sink took it.
 pub fn finish<O: Sink>(out: &mut O, made: &Made) -> Status

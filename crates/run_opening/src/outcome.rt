@@ -1,13 +1,12 @@
 //! What a run comes to before its first octet is put.
 ghost use Rattle.std.specs.Prelude.{◌≡◌, ◌++◌, MatchResult};
-ghost use Rattle.script_answers.specs.Outcome.{done, memory_refused, no_form, read_failed};
-ghost use Rattle.edicheck_core.specs.Output.{octets_of};
+ghost use Rattle.script_answers.specs.Outcome.{memory_refused, no_form, read_failed};
+ghost use Rattle.run_opening.specs.Output.{octets_of};
 
-use crate::Status;
 use edi_tables::Chunk;
+use script_answers::Status;
 use std::alloc::AllocError;
 use std::marker::Model;
-use text_printer::PrintedText;
 
 /// A whole output: octets of the program, which need no memory; lines; or a head and the lines after it.
 #[derive(Debug, Drop)]
@@ -39,7 +38,7 @@ pub struct Made {
 
 impl Model for Made {
     ghost use Rattle.script_answers.specs.Outcome.{Outcome};
-    ghost use Rattle.edicheck_core.specs.Output.{octets_of};
+    ghost use Rattle.run_opening.specs.Output.{octets_of};
 
     ghost Value = { Outcome };
 
@@ -113,20 +112,6 @@ impl Made {
         Made {
             status,
             output: Output::Headed { head, lines },
-        }
-    }
-
-    /// That all was done, with a printed text, unless memory was refused for that.
-    pub fn text(printed: Result<PrintedText, AllocError>) -> Made
-        ensures { MatchResult printed (λ text. result ≡ done (text.head ++ text.lines))
-            (λ _. result ≡ memory_refused) }
-    {
-        match printed {
-            Ok(PrintedText { head, lines }) => Made {
-                status: Status::Done,
-                output: Output::Headed { head, lines },
-            },
-            Err(_) => Made::memory_refused(),
         }
     }
 }

@@ -6,7 +6,7 @@ use Rattle.edi_octets.specs.declared.fault.DirKind.TheVariants.{CloseWithoutOpen
 use Rattle.dir_load.specs.declared.stop.FileFault.TheVariants.{Grammar}
 use Rattle.dir_load.specs.declared.stop.Refusal.TheVariants.{File, Store}
 use Rattle.script_answers.specs.declared.status.Status.TheVariants.{BadDirectory}
-use Rattle.edicheck_core.specs.Refusal.{refusal}
+use Rattle.run_opening.specs.Refusal.{refusal}
 
 -- a file that breaks a rule of its grammar
 grammar_shown : refusal (File (codes "tstord") (Grammar (record { line = 15; kind = CloseWithoutOpen }))) ≡ record { status = BadDirectory; output = codes "fault directory tstord 15 close-without-open" ++ 10 ∷ [] }

@@ -1,7 +1,7 @@
 -- For bodies: the octets of an output.
 use Rattle.std.specs.Prelude.{ℕ, List, ◌++◌}
-use Rattle.edicheck_core.specs.declared.outcome.Output.{Output}
-use Rattle.edicheck_core.specs.declared.outcome.Output.TheVariants.{Fixed, Lines, Headed}
+use Rattle.run_opening.specs.declared.outcome.Output.{Output}
+use Rattle.run_opening.specs.declared.outcome.Output.TheVariants.{Fixed, Lines, Headed}
 
 -- all octets of an output, in the order in which they are put
 abbrev pub octets_of : Output → List ℕ

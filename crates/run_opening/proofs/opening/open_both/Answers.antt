@@ -1,6 +1,6 @@
 use Rattle.script_answers.proofs.PutLemmas.{risen_later}
-use Rattle.edicheck_core.proofs.OpeningLemmas.{opened_no_directory, opening_met}
-use Rattle.edicheck_core.proofs.opening.open_both.Goals as goal
+use Rattle.run_opening.proofs.OpeningLemmas.{opened_no_directory, opening_met}
+use Rattle.run_opening.proofs.opening.open_both.Goals as goal
 
 pub returns-in-Ok-clause-opening : goal.returns-in-Ok-clause-opening
 returns-in-Ok-clause-opening g c =

@@ -1,5 +1,5 @@
-use Rattle.edicheck_core.proofs.AnswerLemmas.{unloaded}
-use Rattle.edicheck_core.proofs.directory.load_directory.Goals as goal
+use Rattle.run_opening.proofs.OpeningLemmas.{unloaded}
+use Rattle.run_opening.proofs.directory.load_directory.Goals as goal
 
 pub returns-in-Err-Refused-clause-loads : goal.returns-in-Err-Refused-clause-loads
 returns-in-Err-Refused-clause-loads g c =

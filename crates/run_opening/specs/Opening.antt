@@ -1,5 +1,5 @@
 -- What a run on a named text begins with, and what comes in its place.
-use Rattle.std.specs.Prelude.{◌≡◌, ◌⊎◌, ℕ, List, Option, Some, None, IfSome, Result, Ok, Err}
+use Rattle.std.specs.Prelude.{◌≡◌, ◌⊎◌, ℕ, List, Option, Some, IfSome, Result, Ok, Err}
 use Rattle.edi_ports.specs.Named.{octets_named}
 use Rattle.edi_ports.specs.declared.named.Unread.{Unread}
 use Rattle.edi_ports.specs.declared.shelf.ShelfFile.{ShelfFile}
@@ -7,7 +7,7 @@ use Rattle.dir_compile.specs.declared.parts.Parts.{Parts}
 use Rattle.dir_load.specs.declared.stop.Refusal.{Refusal}
 use Rattle.dir_load.specs.Load.{load_of}
 use Rattle.script_answers.specs.Outcome.{Outcome, memory_refused, read_failed}
-use Rattle.edicheck_core.specs.Refusal.{refusal, unread}
+use Rattle.run_opening.specs.Refusal.{refusal, unread}
 
 -- a directory and a text
 pub record Opened : Type 0 where

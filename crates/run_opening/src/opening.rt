@@ -1,17 +1,19 @@
 //! What a run on a named text begins with.
 ghost use Rattle.std.specs.Prelude.{◌≡◌, ◌≢◌, ◌≤◌, Ok, length, IfErr, IfOk, MatchResult};
 ghost use Rattle.edi_ports.specs.Faults.{HasRisen};
-ghost use Rattle.edicheck_core.specs.Begun.{IsText, IsUnreadText};
-ghost use Rattle.edicheck_core.specs.Opening.{IsOpening, IsUnopened};
+ghost use Rattle.run_opening.specs.Begun.{IsText, IsUnreadText};
+ghost use Rattle.run_opening.specs.Opening.{IsOpening, IsUnopened};
 
-use crate::Status;
 use crate::directory::load_directory;
 use crate::outcome::Made;
 use crate::refusal::refuse_unread;
-use crate::text::LONGEST_TEXT;
 use dir_compile::Directory;
 use edi_ports::{NamedStop, Shelf, read_named};
+use script_answers::Status;
 use std::alloc::Global;
+
+/// The most octets of a text.
+pub const LONGEST_TEXT: usize = 4_194_304;
 
 /// A directory, and the octets of a text.
 #[derive(Drop)]

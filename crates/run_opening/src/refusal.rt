@@ -3,15 +3,15 @@ ghost use Rattle.std.specs.Prelude.{◌≡◌, ◌⊎◌, ◌++◌, [], ◌∷�
 ghost use Rattle.edi_octets.specs.DirKind.{word_of as rule_word};
 ghost use Rattle.dir_compile.specs.CompileKind.{word_of as parts_word};
 ghost use Rattle.script_answers.specs.Outcome.{memory_refused};
-ghost use Rattle.edicheck_core.specs.Refusal.{file_refused, refusal, unread};
+ghost use Rattle.run_opening.specs.Refusal.{file_refused, refusal, unread};
 
-use crate::Status;
 use crate::outcome::Made;
 use dir_compile::CompileKind;
 use dir_load::{FileFault, Refusal};
 use edi_octets::{DirFault, put_decimal};
 use edi_ports::Unread;
 use edi_tables::Chunk;
+use script_answers::Status;
 use std::alloc::{AllocError, Global};
 
 /// What files that give no directory come to, unless memory was refused for its line.

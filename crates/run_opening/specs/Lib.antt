@@ -1,0 +1,4 @@
+pub mod Begun
+pub mod Opening
+pub mod Output
+pub mod Refusal

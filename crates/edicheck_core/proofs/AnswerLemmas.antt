@@ -1,5 +1,5 @@
 -- What a run comes to, and how it ends.
-use Rattle.std.proofs.Common.{◌≡◌, ◌⊎◌, ◌+◌, ◌++◌, ◌<◌, ◌≤◌, ℕ, zero, suc, Bool, true, false, cond, ltb, List, [], ◌∷◌, length, Option, Some, None, Result, Ok, Err, IfOk, MatchResult, IfSome, refl, sym, ap, ◌∙◌, subst, inl, inr, add-one, arith, length-append}
+use Rattle.std.proofs.Common.{◌≡◌, ◌⊎◌, ◌<◌, ℕ, zero, suc, true, cond, ltb, List, [], ◌∷◌, length, Option, Some, None, Result, Ok, Err, IfOk, MatchResult, refl, sym, ap, ◌∙◌, inl, inr, arith}
 use Rattle.std.proofs.lemmas.Bool.{lt-ltb, cond-true}
 use Rattle.std.specs.Prelude.{codes}
 use Rattle.std.specs.Option.{option_map}
@@ -11,9 +11,7 @@ use Rattle.dir_load.specs.Load.{load_of}
 use Rattle.text_printer.specs.declared.text.Detail.{Detail}
 use Rattle.text_printer.specs.Printing.{printed_text}
 use Rattle.script_answers.specs.Outcome.{Outcome, done, memory_refused, too_large}
-use Rattle.script_answers.specs.declared.status.Status.TheVariants as status
 use Rattle.script_answers.specs.declared.status.Status.TheVariants.{Done, Found, Memory, ReadFault}
-use Rattle.script_answers.specs.declared.status.Status.{Status}
 use Rattle.run_opening.specs.Begun.{IsLoaded, IsUnloaded}
 use Rattle.edicheck_core.specs.Answer.{IsOneOf}
 use Rattle.contrl_writer.specs.declared.answer.Contrl.{Contrl}

@@ -1,16 +1,11 @@
 -- What an edit comes to.
-use Rattle.std.proofs.Common.{◌≡◌, ◌⊎◌, ℕ, List, Option, Some, Ok, refl, ◌∙◌, subst, inl, inr}
-use Rattle.edi_ports.specs.Faults.{HasRisen}
-use Rattle.dir_compile.specs.declared.parts.Parts.{Parts}
-use Rattle.edi_engine.specs.Engine.{Reading}
-use Rattle.edi_engine.specs.Placed.{AreMessagesPlaced}
+use Rattle.std.proofs.Common.{◌≡◌, ℕ, List, Option, Some, Ok, refl, ◌∙◌, subst, inl, inr}
 use Rattle.script_answers.specs.Held.{Held}
 use Rattle.script_answers.specs.Outcome.{memory_refused}
-use Rattle.script_answers.specs.Script.{IsScriptAnswered}
 use Rattle.script_answers.specs.declared.status.Status.{Status}
+use Rattle.run_opening.specs.Begun.{IsScriptBegun}
 use Rattle.run_opening.specs.Opening.{IsOpening, IsToldOpening, Opened}
 use Rattle.edicheck_core.specs.Answer.{HasFailed, IsEdited}
-use Rattle.edicheck_core.specs.Begun.{IsScriptBegun}
 use Rattle.edicheck_core.specs.Form.{Asked, Edit}
 use Rattle.edicheck_core.specs.Inputs.{Inputs}
 
@@ -34,14 +29,3 @@ told_words manifest name manifest' name' asked before now begun P read words tol
     answer
     (subst (λ (m : List ℕ). IsToldOpening m name before.files begun) same_manifest (subst (λ (n : List ℕ). IsToldOpening manifest' n before.files begun) same_name told))
     (λ failed. unfailed (subst (λ (a : Option Asked). HasFailed a before now) read failed))
-
--- a script was answered on an engine that was opened with these
-pub script_begun : (engine : Reading) (directory : Parts) (octets : List ℕ) (before now : Option (List ℕ)) (faults faults' : ℕ) (held held' : Held) (status : Status)
-    → engine ≡ record { directory = directory; text = octets } → ((text : List ℕ) → AreMessagesPlaced engine.directory text)
-    → IsScriptAnswered engine.directory engine.text before now (HasRisen faults faults') held held' status
-    → IsScriptBegun directory octets before now faults faults' held held' status
-script_begun engine directory octets before now faults faults' held held' status is placed answered =
-    inr (
-      subst (λ (r : Reading). (text : List ℕ) → AreMessagesPlaced r.directory text) is placed,
-      subst (λ (r : Reading). IsScriptAnswered r.directory r.text before now (HasRisen faults faults') held held' status) is answered,
-    )

@@ -1,5 +1,4 @@
 pub mod Answer
-pub mod Begun
 pub mod Form
 pub mod Inputs
 pub mod Lawful

@@ -1,2 +1,3 @@
 mod OpeningLemmas
+mod ScriptLemmas
 mod Worked

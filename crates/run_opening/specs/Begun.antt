@@ -1,12 +1,18 @@
 -- For bodies: what a run on a directory begins with, one thing after the other, and what comes in the place of each.
 use Rattle.std.specs.Prelude.{◌≡◌, ◌⊎◌, ℕ, List, Option, Some, IfSome, Result, Err}
+use Rattle.edi_ports.specs.Faults.{HasRisen}
 use Rattle.edi_ports.specs.Named.{octets_named}
 use Rattle.edi_ports.specs.declared.named.Unread.{Unread}
 use Rattle.edi_ports.specs.declared.shelf.ShelfFile.{ShelfFile}
 use Rattle.dir_compile.specs.declared.parts.Parts.{Parts}
 use Rattle.dir_load.specs.declared.stop.Refusal.{Refusal}
 use Rattle.dir_load.specs.Load.{load_of}
+use Rattle.edi_engine.specs.Placed.{AreMessagesPlaced}
+use Rattle.script_answers.specs.Finish.{IsFinish}
+use Rattle.script_answers.specs.Held.{Held}
 use Rattle.script_answers.specs.Outcome.{Outcome, memory_refused, read_failed}
+use Rattle.script_answers.specs.Script.{IsScriptAnswered}
+use Rattle.script_answers.specs.declared.status.Status.{Status}
 use Rattle.run_opening.specs.Refusal.{refusal, unread}
 
 -- what is loaded by a manifest, where the files are told
@@ -28,3 +34,12 @@ abbrev pub IsUnreadText : List ℕ → Option (List ShelfFile) → Type 0 → Ou
 IsUnreadText name files Failed due =
     ((why : Unread) × IsText name files (Err why) × (due ≡ unread name why))
     ⊎ ((due ≡ read_failed) × Failed) ⊎ (due ≡ memory_refused)
+
+-- what a status says of a script on a text that was opened: memory was refused before it, and nothing was taken; or it
+-- was answered
+abbrev pub IsScriptBegun :
+    Parts → List ℕ → Option (List ℕ) → Option (List ℕ) → ℕ → ℕ → Held → Held → Status → Type 0
+IsScriptBegun dir text before now faults faults' held held' status =
+    (IsFinish memory_refused held held' status × (now ≡ before) × (faults' ≡ faults))
+    ⊎ (((text : List ℕ) → AreMessagesPlaced dir text)
+    × IsScriptAnswered dir text before now (HasRisen faults faults') held held' status)

@@ -6,8 +6,10 @@ mod opening;
 mod outcome;
 mod put;
 mod refusal;
+mod script;
 
 pub use directory::load_directory;
 pub use opening::{LONGEST_TEXT, Opening, open_both};
 pub use outcome::Made;
 pub use put::finish;
+pub use script::edit_opened;

@@ -1,6 +1,6 @@
 use Rattle.script_answers.specs.Held.{held_of}
-use Rattle.edicheck_core.proofs.EditLemmas.{script_begun}
-use Rattle.edicheck_core.proofs.edit.edit_counted.Goals as goal
+use Rattle.run_opening.proofs.ScriptLemmas.{script_begun}
+use Rattle.run_opening.proofs.script.edit_counted.Goals as goal
 
 pub returns-in-Ok-clause-run : goal.returns-in-Ok-clause-run
 returns-in-Ok-clause-run g c =

@@ -1,4 +1,4 @@
-use Rattle.edicheck_core.proofs.edit.edit_opened.Given as goal
+use Rattle.run_opening.proofs.script.edit_opened.Given as goal
 
 abbrev pub ghosts-edit_counted-L-Ledger : goal.ghosts-edit_counted-L-Ledger
 ghosts-edit_counted-L-Ledger g a = record { name = a.lexing.name; parts = a.lexing.parts }

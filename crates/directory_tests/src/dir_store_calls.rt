@@ -1,20 +1,8 @@
-//! Octets without the first line of a store, which no command reads as one.
+//! Octets that are a part of a store's first line, which no command reads as a store.
 use dir_store::{StoreStop, read_store};
 
 #[test]
-fn faults_of_the_first_line_are_told(rt: HostRuntime) {
-    let alloc = rt.alloc();
-    assert!(rt; matches!(read_store(alloc, b""), Err(StoreStop::Fault { at: 0 })));
-    assert!(rt;
-        matches!(
-            read_store(alloc, b"EDIDIR1"),
-            Err(StoreStop::Fault { at: 7 })
-        )
-    );
-    assert!(rt;
-        matches!(
-            read_store(alloc, b"EDIDIR2\n"),
-            Err(StoreStop::Fault { at: 0 })
-        )
-    );
+fn the_line_feed_of_the_first_line_is_asked_for(rt: HostRuntime) {
+    let read = read_store(rt.alloc(), b"EDIDIR1");
+    assert!(rt; matches!(read, Err(StoreStop::Fault { at: 7 })));
 }

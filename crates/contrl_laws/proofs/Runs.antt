@@ -11,7 +11,7 @@ use Rattle.edi_tables.specs.Pairs.{pairs_of}
 use Rattle.edi_tables.specs.Placement.{entry_count, group_count}
 use Rattle.edi_tables.specs.Rows.{has_name, parent_of, end_of}
 use Rattle.edi_tables.specs.Walk.{candidates_of, groups_round, later_nodes, later_siblings, missing_between}
-use Rattle.dir_compile.specs.declared.parts.Parts.{Parts}
+use Rattle.dir_parts.specs.declared.parts.Parts.{Parts}
 use Rattle.dir_compile.specs.Directory.{IsDirectory}
 use Rattle.table_walk.specs.Errors.{Fault, StructureError}
 use Rattle.table_walk.specs.Errors.Fault.{Missing, Over}

@@ -14,7 +14,7 @@ use Rattle.edi_tables.specs.declared.segment.ItemDef.TheVariants.{Alone, Composi
 use Rattle.edi_tables.specs.declared.tag.Tag.{Tag}
 use Rattle.error_ledger.specs.declared.kind.Kind.{Kind}
 use Rattle.error_ledger.specs.declared.kind.Kind.TheVariants.{Missing}
-use Rattle.dir_compile.specs.declared.parts.Parts.{Parts}
+use Rattle.dir_parts.specs.declared.parts.Parts.{Parts}
 use Rattle.service_tables.specs.ServiceTables.{service_items_of, service_parts_of}
 use Rattle.seg_lexer.specs.Fields.{Component, components_of, separators_of}
 use Rattle.seg_lexer.specs.Segments.{boundaries_of, ends_of}

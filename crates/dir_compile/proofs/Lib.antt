@@ -1,14 +1,3 @@
-pub mod Faults
-pub mod Twice
-pub mod Seen
-pub mod Named
-pub mod AscendingLemmas
-pub mod Apart
-pub mod Members
-pub mod Groups
-pub mod Lawful
-pub mod Orders
-pub mod Formed
-pub mod Making
-pub mod Kept
-pub mod TableNames
+mod Making
+mod Kept
+mod TableNames

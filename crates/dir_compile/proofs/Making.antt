@@ -1,25 +1,25 @@
 -- What is answered of parts as a whole.
-use Rattle.std.proofs.Common.{◌≡◌, ℕ, suc, List, [], ◌∷◌, length, ◌<◌, All, Some, None, slice_get, Result, Ok, Err, sym, ap, ◌∙◌, refl, subst, if◌then◌else◌, Bool, true, false}
+use Rattle.std.proofs.Common.{◌≡◌, ℕ, suc, List, [], ◌∷◌, length, ◌<◌, All, Some, slice_get, Result, Ok, Err, sym, ap, ◌∙◌, refl, subst, if◌then◌else◌, Bool, true, false}
 use Rattle.std.proofs.lemmas.Option.{same_Some}
 use Rattle.edi_tables.specs.Rows.{table_faults}
-use Rattle.dir_compile.specs.declared.parts.Parts.{Parts}
-use Rattle.dir_compile.specs.declared.stop.CompileStop.{CompileStop}
-use Rattle.dir_compile.specs.declared.stop.CompileStop.TheVariants.{Fault, Memory}
+use Rattle.dir_parts.specs.declared.parts.Parts.{Parts}
+use Rattle.dir_parts.specs.declared.stop.CompileStop.{CompileStop}
+use Rattle.dir_parts.specs.declared.stop.CompileStop.TheVariants.{Fault, Memory}
 use Rattle.edi_tables.specs.Ascending.{is_before}
-use Rattle.dir_compile.specs.InOrder.{put_in_order, ascending_by, ordered_parts}
-use Rattle.dir_compile.specs.Ordered.{IsOrdered}
-use Rattle.dir_compile.specs.Forms.{HasForms}
-use Rattle.dir_compile.specs.Compile.{compile_faults, message_fault, message_faults, is_filled_with, message_name}
+use Rattle.dir_parts.specs.InOrder.{put_in_order, ascending_by, ordered_parts}
+use Rattle.dir_parts.specs.Ordered.{IsOrdered}
+use Rattle.dir_parts.specs.Forms.{HasForms}
+use Rattle.dir_parts.specs.Compile.{compile_faults, message_fault, message_faults, is_filled_with, message_name}
 use Rattle.dir_compile.specs.Directory.{IsDirectory, directory_of}
 use Rattle.edi_tables.specs.First.{unless_faulty, Answers}
-use Rattle.dir_compile.specs.Judges.{IsFirstFault}
-use Rattle.dir_compile.specs.Stop.{PartsFault, fault_with, fault_in}
-use Rattle.dir_compile.proofs.Faults.{nil-right, when-nil}
-use Rattle.dir_compile.proofs.Members.{none-place}
-use Rattle.dir_compile.proofs.Groups.{fault-free}
-use Rattle.dir_compile.proofs.Lawful.{ordered-faultless, ordered-in-order}
-use Rattle.dir_compile.proofs.Formed.{forms-ordered}
-use Rattle.dir_compile.proofs.Orders.{ordered_parts-ordered}
+use Rattle.dir_parts.specs.Judges.{IsFirstFault}
+use Rattle.dir_parts.specs.Stop.{PartsFault, fault_with, fault_in}
+use Rattle.dir_parts.proofs.Faults.{nil-right, when-nil}
+use Rattle.dir_parts.proofs.Members.{none-place}
+use Rattle.dir_parts.proofs.Groups.{fault-free}
+use Rattle.dir_parts.proofs.Lawful.{ordered-faultless, ordered-in-order}
+use Rattle.dir_parts.proofs.Formed.{forms-ordered}
+use Rattle.dir_parts.proofs.Orders.{ordered_parts-ordered}
 
 -- parts that a stop is told of
 unless_faulty-err : {A : Type 0} (faults : List PartsFault) (x : A) (fault : PartsFault) → slice_get faults 0 ≡ Some fault → unless_faulty faults x ≡ Err fault
@@ -80,15 +80,6 @@ not-filled (x ∷ xs) e = cc
 pub tables-free : (parts : Parts) → message_faults parts ≡ [] → All (λ m. table_faults m.rows ≡ []) parts.messages
 tables-free parts none k d lt =
     not-filled _ (when-nil _ _ (nil-right _ _ (none-place (message_fault parts) parts.messages k d lt none)))
-
--- whether there is a first fault
-pub no-first : {A : Type 0} (xs : List A) → None ≡ slice_get xs 0 → is_filled_with xs ≡ false
-no-first [] e = refl
-no-first (x ∷ xs) e = cc
-
-pub a-first : {A : Type 0} (xs : List A) (x : A) → Some x ≡ slice_get xs 0 → is_filled_with xs ≡ true
-a-first [] x e = cc
-a-first (y ∷ ys) x e = refl
 
 -- what is built where nothing is at fault
 pub built : {F A : Type 0} (faults : List F) (value found : A) → faults ≡ [] → unless_faulty faults value ≡ Ok found → found ≡ value

@@ -6,12 +6,12 @@ use Rattle.edi_tables.specs.declared.table.Node.{Node}
 use Rattle.edi_tables.specs.First.{unless_faulty}
 use Rattle.edi_tables.specs.Rows.{nodes_of}
 use Rattle.service_tables.specs.ServiceTables.{contrl_table_rows}
-use Rattle.dir_compile.specs.declared.parts.Parts.{Parts}
-use Rattle.dir_compile.specs.Stop.{PartsFault}
-use Rattle.dir_compile.specs.Forms.{HasForms}
-use Rattle.dir_compile.specs.Compile.{message_name, compile_faults}
-use Rattle.dir_compile.specs.Ordered.{IsInOrder}
-use Rattle.dir_compile.specs.InOrder.{ordered_parts}
+use Rattle.dir_parts.specs.declared.parts.Parts.{Parts}
+use Rattle.dir_parts.specs.Stop.{PartsFault}
+use Rattle.dir_parts.specs.Forms.{HasForms}
+use Rattle.dir_parts.specs.Compile.{message_name, compile_faults}
+use Rattle.dir_parts.specs.Ordered.{IsInOrder}
+use Rattle.dir_parts.specs.InOrder.{ordered_parts}
 
 -- a directory: fewer than 4,000,000,000 messages, all of good form, without fault, in ascending order of names
 pub record IsDirectory (parts : Parts) : Type 0 where

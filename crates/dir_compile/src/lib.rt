@@ -3,13 +3,7 @@
 
 mod build;
 mod directory;
-mod judge;
-mod names;
-mod order;
-mod parts;
-mod stop;
 
 pub use build::compile;
+pub use dir_parts::{CompileKind, CompileStop, Parts};
 pub use directory::Directory;
-pub use parts::Parts;
-pub use stop::{CompileKind, CompileStop};

@@ -10,7 +10,7 @@ use Rattle.edi_tables.specs.declared.element.CompositeDef.{CompositeDef}
 use Rattle.edi_tables.specs.declared.segment.SegmentDef.{SegmentDef}
 use Rattle.edi_tables.specs.declared.segment.MessageDef.{MessageDef}
 use Rattle.edi_octets.specs.declared.fault.DirStop.{DirStop}
-use Rattle.dir_compile.specs.Forms.{HasForms}
+use Rattle.dir_parts.specs.Forms.{HasForms}
 use Rattle.dir_load.specs.declared.gather.Gathered.{Gathered}
 use Rattle.dir_load.specs.declared.stop.FileStop.{FileStop}
 use Rattle.dir_load.specs.declared.manifest.Labels.{Labels}

@@ -12,11 +12,11 @@ use Rattle.edi_ports.specs.declared.named.NamedStop.{NamedStop}
 use Rattle.edi_ports.specs.declared.named.NamedStop.TheVariants as named
 use Rattle.edi_ports.specs.Named.{octets_named, octets_within, unread_in}
 use Rattle.edi_ports.specs.Shelf.{file_named}
-use Rattle.dir_compile.specs.declared.parts.Parts.{Parts}
-use Rattle.dir_compile.specs.declared.stop.CompileStop.{CompileStop}
-use Rattle.dir_compile.specs.declared.stop.CompileStop.TheVariants as compile
+use Rattle.dir_parts.specs.declared.parts.Parts.{Parts}
+use Rattle.dir_parts.specs.declared.stop.CompileStop.{CompileStop}
+use Rattle.dir_parts.specs.declared.stop.CompileStop.TheVariants as compile
 use Rattle.dir_compile.specs.Directory.{IsDirectory, directory_of}
-use Rattle.dir_compile.specs.Stop.{fault_in}
+use Rattle.dir_parts.specs.Stop.{fault_in}
 use Rattle.dir_store.specs.declared.stop.StoreStop.{StoreStop}
 use Rattle.dir_store.specs.declared.stop.StoreStop.TheVariants as store
 use Rattle.dir_store.specs.Spelling.{store_text}

@@ -17,9 +17,9 @@ use Rattle.dir_lists.specs.Codes.{codes_in}
 use Rattle.dir_segments.specs.Composites.{composites_in}
 use Rattle.dir_segments.specs.Segments.{segments_in}
 use Rattle.dir_messages.specs.Message.{message_in}
-use Rattle.dir_compile.specs.declared.parts.Parts.{Parts}
+use Rattle.dir_parts.specs.declared.parts.Parts.{Parts}
 use Rattle.dir_compile.specs.Directory.{directory_of}
-use Rattle.dir_compile.specs.Stop.{PartsFault}
+use Rattle.dir_parts.specs.Stop.{PartsFault}
 use Rattle.dir_store.specs.Spelling.{first_line, line_of}
 use Rattle.dir_store.specs.Store.{store_of}
 use Rattle.dir_load.specs.declared.manifest.FileKind.{FileKind}

@@ -4,8 +4,8 @@ use Rattle.edi_octets.specs.declared.fault.DirStop.{DirStop}
 use Rattle.edi_octets.specs.declared.fault.DirStop.TheVariants as dir
 use Rattle.edi_ports.specs.declared.named.NamedStop.{NamedStop}
 use Rattle.edi_ports.specs.declared.named.NamedStop.TheVariants as named
-use Rattle.dir_compile.specs.declared.stop.CompileStop.{CompileStop}
-use Rattle.dir_compile.specs.declared.stop.CompileStop.TheVariants as compile
+use Rattle.dir_parts.specs.declared.stop.CompileStop.{CompileStop}
+use Rattle.dir_parts.specs.declared.stop.CompileStop.TheVariants as compile
 use Rattle.dir_store.specs.declared.stop.StoreStop.{StoreStop}
 use Rattle.dir_store.specs.declared.stop.StoreStop.TheVariants as store
 use Rattle.dir_load.specs.declared.stop.FileFault.{FileFault}

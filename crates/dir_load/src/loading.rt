@@ -4,7 +4,7 @@ ghost use Rattle.edi_tables.specs.First.{Answers};
 ghost use Rattle.edi_ports.specs.declared.shelf.ShelfFile.{ShelfFile};
 ghost use Rattle.edi_ports.specs.Faults.{HasRisen};
 ghost use Rattle.edi_ports.specs.Named.{octets_named};
-ghost use Rattle.dir_compile.specs.declared.parts.Parts.{Parts};
+ghost use Rattle.dir_parts.specs.declared.parts.Parts.{Parts};
 ghost use Rattle.dir_compile.specs.Directory.{IsDirectory};
 ghost use Rattle.dir_store.specs.Spelling.{store_text};
 ghost use Rattle.dir_load.specs.Load.{is_store as is_store_of, lines_under, load_of, store_under};

@@ -18,7 +18,7 @@ use Rattle.std.proofs.lemmas.Option.{slice_get_past, slice_get_read, slice_get-g
 use Rattle.std.proofs.lemmas.Slice.Eq.{bytes_eq-Decides}
 use Rattle.edi_tables.specs.Ascending.{is_before, IsAscendingBy}
 use Rattle.edi_tables.proofs.AscendingLemmas.{differ-from-before}
-use Rattle.dir_compile.specs.Compile.{named_in}
+use Rattle.dir_parts.specs.Compile.{named_in}
 use Rattle.dir_store.proofs.LineLemmas.{some-is}
 
 less-from-before : (o : Ordering) → is_lt o ≡ true → o ≡ Less

@@ -12,13 +12,13 @@ use Rattle.edi_tables.specs.Ascending.{IsAscendingBy}
 use Rattle.edi_tables.specs.declared.element.CodeList.{CodeList}
 use Rattle.edi_tables.specs.Forms.{is_label, is_element_formed, is_list_formed, is_composite_formed, is_segment_formed, is_message_formed}
 use Rattle.edi_tables.specs.Tag.{is_tag_octet_of}
-use Rattle.dir_compile.specs.declared.parts.Parts.{Parts}
-use Rattle.dir_compile.specs.Compile.{twice_in, twice_faults, list_fault, composite_fault, segment_fault, message_fault, compile_faults, value_name, element_name, list_name, composite_name, segment_name, message_name}
+use Rattle.dir_parts.specs.declared.parts.Parts.{Parts}
+use Rattle.dir_parts.specs.Compile.{twice_in, twice_faults, list_fault, composite_fault, segment_fault, message_fault, compile_faults, value_name, element_name, list_name, composite_name, segment_name, message_name}
 use Rattle.dir_compile.specs.Directory.{IsDirectory}
-use Rattle.dir_compile.specs.Forms.{HasForms}
-use Rattle.dir_compile.specs.Ordered.{IsInOrder}
-use Rattle.dir_compile.proofs.AscendingLemmas.{IsAscending, apart-from-ascending, pairs-from-ascending}
-use Rattle.dir_compile.proofs.Apart.{none-from-apart}
+use Rattle.dir_parts.specs.Forms.{HasForms}
+use Rattle.dir_parts.specs.Ordered.{IsInOrder}
+use Rattle.dir_parts.proofs.AscendingLemmas.{IsAscending, apart-from-ascending, pairs-from-ascending}
+use Rattle.dir_parts.proofs.Apart.{none-from-apart}
 use Rattle.dir_store.specs.declared.labels.Labels.{Labels}
 use Rattle.dir_store.specs.Lines.{Reading, lined}
 use Rattle.dir_store.specs.Rules.{first_in, labels_with, labels_in}

@@ -13,8 +13,8 @@ use Rattle.edi_tables.specs.declared.element.CompositeDef.{CompositeDef}
 use Rattle.edi_tables.specs.declared.segment.SegmentDef.{SegmentDef}
 use Rattle.edi_tables.specs.declared.segment.MessageDef.{MessageDef}
 use Rattle.edi_tables.specs.Forms.{is_element_formed, is_list_formed, is_composite_formed, is_segment_formed, is_message_formed}
-use Rattle.dir_compile.specs.declared.parts.Parts.{Parts}
-use Rattle.dir_compile.specs.Compile.{twice_faults, list_fault, list_faults, composite_fault, composite_faults, segment_fault, segment_faults, message_fault, message_faults, compile_faults, value_name, element_name, list_name, composite_name, segment_name, message_name}
+use Rattle.dir_parts.specs.declared.parts.Parts.{Parts}
+use Rattle.dir_parts.specs.Compile.{twice_faults, list_fault, list_faults, composite_fault, composite_faults, segment_fault, segment_faults, message_fault, message_faults, compile_faults, value_name, element_name, list_name, composite_name, segment_name, message_name}
 use Rattle.dir_compile.specs.Directory.{IsDirectory}
 use Rattle.dir_store.specs.declared.labels.Labels.{Labels}
 use Rattle.dir_store.specs.Lines.{◌>>=◌, lined}

@@ -17,7 +17,7 @@ use Rattle.edi_tables.specs.declared.segment.TableRow.{TableRow}
 use Rattle.edi_tables.specs.declared.segment.MessageDef.{MessageDef}
 use Rattle.edi_octets.specs.Decimal.{decimal_in}
 use Rattle.edi_octets.specs.Profile.{repr_in, status_in}
-use Rattle.dir_compile.specs.Compile.{named_in, is_service_tag, element_name, list_name, composite_name, segment_name, message_name, value_name}
+use Rattle.dir_parts.specs.Compile.{named_in, is_service_tag, element_name, list_name, composite_name, segment_name, message_name, value_name}
 use Rattle.dir_store.specs.declared.labels.Labels.{Labels}
 use Rattle.dir_store.specs.Spelling.{first_line}
 use Rattle.dir_store.specs.Words.{two_in, three_in, four_in}

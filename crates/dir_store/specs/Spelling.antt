@@ -14,7 +14,7 @@ use Rattle.edi_tables.specs.declared.segment.ItemDef.TheVariants.{Alone, Composi
 use Rattle.edi_tables.specs.declared.segment.SegmentDef.{SegmentDef}
 use Rattle.edi_tables.specs.declared.segment.TableRow.{TableRow}
 use Rattle.edi_tables.specs.declared.segment.MessageDef.{MessageDef}
-use Rattle.dir_compile.specs.declared.parts.Parts.{Parts}
+use Rattle.dir_parts.specs.declared.parts.Parts.{Parts}
 
 -- a line: words separated by one space, and LF
 abbrev pub line_of : List (List ℕ) → List ℕ

@@ -10,8 +10,8 @@ use Rattle.edi_tables.specs.declared.segment.SegmentDef.{SegmentDef}
 use Rattle.edi_tables.specs.declared.segment.TableRow.{TableRow}
 use Rattle.edi_tables.specs.declared.segment.MessageDef.{MessageDef}
 use Rattle.edi_tables.specs.Rows.{table_faults}
-use Rattle.dir_compile.specs.declared.parts.Parts.{Parts}
-use Rattle.dir_compile.specs.Compile.{is_filled_with}
+use Rattle.dir_parts.specs.declared.parts.Parts.{Parts}
+use Rattle.dir_parts.specs.Compile.{is_filled_with}
 use Rattle.dir_store.specs.declared.labels.Labels.{Labels}
 use Rattle.dir_store.specs.Lines.{◌>>=◌, Reading, found_at, lined, several}
 use Rattle.dir_store.specs.Rules.{first_in, labels_in, section_in, element_in, list_in, value_in, composite_in, part_in, segment_in, item_in, message_in, row_in}

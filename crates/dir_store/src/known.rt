@@ -2,7 +2,7 @@
 ghost use Rattle.std.specs.Prelude.{◌≡◌};
 ghost use Rattle.std.specs.Option.{option_copied};
 ghost use Rattle.edi_tables.specs.Ascending.{IsAscendingBy};
-ghost use Rattle.dir_compile.specs.Compile.{
+ghost use Rattle.dir_parts.specs.Compile.{
   composite_name,
   element_name,
   segment_name,
@@ -23,7 +23,7 @@ pub struct Known<'a> {
 
 impl<'a> Known<'a> {
     ghost use Rattle.std.specs.Prelude.{is_some};
-    ghost use Rattle.dir_compile.specs.Compile.{named_in};
+    ghost use Rattle.dir_parts.specs.Compile.{named_in};
 
     /// The data element of that code, if there is one.
     pub fn element(&self, code: Code) -> Option<&'a ElementDef>

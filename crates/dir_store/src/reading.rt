@@ -1,7 +1,7 @@
 //! A directory from its store.
 ghost use Rattle.std.specs.Prelude.{◌≡◌, ◌≤◌, IfOk, length};
 ghost use Rattle.edi_tables.specs.First.{Answers};
-ghost use Rattle.dir_compile.specs.declared.parts.Parts.{Parts};
+ghost use Rattle.dir_parts.specs.declared.parts.Parts.{Parts};
 ghost use Rattle.dir_compile.specs.Directory.{IsDirectory};
 ghost use Rattle.dir_store.specs.Lines.{lined};
 ghost use Rattle.dir_store.specs.Rules.{first_in, labels_in};

@@ -2,9 +2,9 @@
 use Rattle.std.proofs.Common.{◌≡◌, ◌+◌, ◌≤◌, ℕ, zero, suc, List, length, take, drop, Result, Ok, refl, sym, ap, ◌∙◌, arith, add-one}
 use Rattle.std.proofs.lemmas.List.{length-append, length-take-le, length-drop}
 use Rattle.std.proofs.lemmas.List.FromFn.{sum_by-map-range_with_len_more}
-use Rattle.dir_compile.specs.declared.parts.Parts.{Parts}
+use Rattle.dir_parts.specs.declared.parts.Parts.{Parts}
 use Rattle.dir_compile.specs.Directory.{directory_of}
-use Rattle.dir_compile.specs.Stop.{PartsFault}
+use Rattle.dir_parts.specs.Stop.{PartsFault}
 use Rattle.drill_maker.specs.Edit.{cut_of, place_of, put_of}
 use Rattle.drill_maker.specs.Reduced.{reduced}
 use Rattle.drill_maker.proofs.EditLemmas.{place_within, put_cut}

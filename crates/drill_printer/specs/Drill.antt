@@ -1,8 +1,8 @@
 -- The drill: an interchange that is made from numbers and edited, and what is printed of it.
 use Rattle.std.specs.Prelude.{ℕ, zero, suc, ◌≤◌, List, [], ◌∷◌, ◌++◌, length, map, codes, decimal}
 use Rattle.std.specs.List.{range_with_len, sum_by}
-use Rattle.dir_compile.specs.declared.parts.Parts.{Parts}
-use Rattle.dir_compile.specs.InOrder.{ordered_parts}
+use Rattle.dir_parts.specs.declared.parts.Parts.{Parts}
+use Rattle.dir_parts.specs.InOrder.{ordered_parts}
 use Rattle.drill_maker.specs.Edit.{edit_of}
 use Rattle.drill_maker.specs.Interchange.{interchange_text}
 use Rattle.drill_maker.specs.Reduced.{reduced}

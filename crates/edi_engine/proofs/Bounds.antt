@@ -5,7 +5,7 @@ use Rattle.std.specs.Iterator.{YieldsFirstBy}
 use Rattle.std.specs.List.{slice_get, enumerate_from, flat_map}
 use Rattle.std.proofs.lemmas.List.{append-nil}
 use Rattle.edi_tables.specs.Rows.{has_name, when}
-use Rattle.dir_compile.specs.declared.parts.Parts.{Parts}
+use Rattle.dir_parts.specs.declared.parts.Parts.{Parts}
 use Rattle.dir_compile.specs.Directory.{IsDirectory}
 use Rattle.envelope_check.specs.Envelope.{envelope_errors_of}
 use Rattle.error_ledger.specs.declared.error.ErrorLine.{ErrorLine}

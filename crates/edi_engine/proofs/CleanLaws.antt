@@ -9,7 +9,7 @@ use Rattle.edi_octets.specs.Decimal.{decimal_in}
 use Rattle.edi_tables.specs.Rows.{has_name, when}
 use Rattle.edi_tables.specs.declared.tag.Tag.{Tag}
 use Rattle.dir_compile.specs.Directory.{IsDirectory, table_names}
-use Rattle.dir_compile.specs.declared.parts.Parts.{Parts}
+use Rattle.dir_parts.specs.declared.parts.Parts.{Parts}
 use Rattle.seg_lexer.specs.Context.{context_of, opening_of, version_in}
 use Rattle.seg_lexer.specs.Fields.{octets_at}
 use Rattle.seg_lexer.specs.Segments.{segments_of, tail_of}

@@ -7,7 +7,7 @@ use Rattle.std.proofs.lemmas.Option.{get_or_from_slice_get, slice_get_within}
 use Rattle.edi_tables.specs.Extents.{Extent, extent_at, extent_to, group_extents, message_extents, next_of, tag_in}
 use Rattle.edi_tables.specs.Rows.{has_name}
 use Rattle.edi_tables.specs.declared.tag.Tag.{Tag}
-use Rattle.dir_compile.specs.declared.parts.Parts.{Parts}
+use Rattle.dir_parts.specs.declared.parts.Parts.{Parts}
 use Rattle.seg_lexer.specs.Context.{context_of}
 use Rattle.seg_lexer.specs.Fields.{Component}
 use Rattle.seg_lexer.specs.Tag.{tag_of}

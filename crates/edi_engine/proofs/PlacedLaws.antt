@@ -13,7 +13,7 @@ use Rattle.edi_tables.specs.Placement.{group_count}
 use Rattle.edi_tables.specs.Rows.{IsTable}
 use Rattle.edi_tables.proofs.Openings.{AreMarks, IsClear, Opened, holder, next_stop, opened, opened_is, stretch, stretch_at, stretch_to}
 use Rattle.edi_tables.proofs.Searching.{Found, IsFirst, find_given, found}
-use Rattle.dir_compile.specs.declared.parts.Parts.{Parts}
+use Rattle.dir_parts.specs.declared.parts.Parts.{Parts}
 use Rattle.dir_compile.specs.Directory.{IsDirectory}
 use Rattle.envelope_check.proofs.Extents.{closes_message, ends_message, message_from, message_marks, message_opened, opens_message}
 use Rattle.error_ledger.specs.declared.tree.TreeLine.{TreeLine}

@@ -1,7 +1,7 @@
 -- That an acknowledgement has no error itself.
 use Rattle.std.specs.Prelude.{◌≡◌, ◌⊎◌, ℕ, IsTrue, List, [], All, codes}
 use Rattle.edi_tables.specs.Rows.{has_name}
-use Rattle.dir_compile.specs.declared.parts.Parts.{Parts}
+use Rattle.dir_parts.specs.declared.parts.Parts.{Parts}
 use Rattle.seg_lexer.specs.Context.{context_of}
 use Rattle.element_check.specs.Local.{local_errors_of}
 use Rattle.contrl_writer.specs.declared.answer.Contrl.{Contrl}

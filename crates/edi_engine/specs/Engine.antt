@@ -1,6 +1,6 @@
 -- What is seen of an engine.
 use Rattle.std.specs.Prelude.{ℕ, List}
-use Rattle.dir_compile.specs.declared.parts.Parts.{Parts}
+use Rattle.dir_parts.specs.declared.parts.Parts.{Parts}
 
 -- the directory that it checks by, and the text as it is now
 pub record Reading : Type 0 where

@@ -8,7 +8,7 @@ use Rattle.edi_tables.specs.Placement.{IsDerivation}
 use Rattle.error_ledger.specs.declared.tree.TreeLine.{TreeLine}
 use Rattle.error_ledger.specs.declared.tree.TreePlace.{TreePlace}
 use Rattle.error_ledger.specs.declared.tree.TreePlace.TheVariants.{Placed}
-use Rattle.dir_compile.specs.declared.parts.Parts.{Parts}
+use Rattle.dir_parts.specs.declared.parts.Parts.{Parts}
 use Rattle.table_walk.specs.Errors.{faults_at, structure_errors_of}
 use Rattle.table_walk.specs.Reading.{first_free, member_at}
 use Rattle.segment_records.specs.Segments.{segments_in}

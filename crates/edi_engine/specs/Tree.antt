@@ -1,7 +1,7 @@
 -- The tree of a text, by a directory.
 use Rattle.std.specs.Prelude.{ℕ, ◌+◌, List, map}
 use Rattle.std.specs.List.{enumerate_from}
-use Rattle.dir_compile.specs.declared.parts.Parts.{Parts}
+use Rattle.dir_parts.specs.declared.parts.Parts.{Parts}
 use Rattle.error_ledger.specs.declared.tree.TreeLine.{TreeLine}
 use Rattle.segment_records.specs.Segments.{Segment, segments_in}
 use Rattle.segment_records.specs.Places.{place_at}

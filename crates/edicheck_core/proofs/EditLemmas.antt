@@ -5,9 +5,10 @@ use Rattle.script_answers.specs.Outcome.{memory_refused}
 use Rattle.script_answers.specs.declared.status.Status.{Status}
 use Rattle.run_opening.specs.Begun.{IsScriptBegun}
 use Rattle.run_opening.specs.Opening.{IsOpening, IsToldOpening, Opened}
-use Rattle.edicheck_core.specs.Answer.{HasFailed, IsEdited}
-use Rattle.edicheck_core.specs.Form.{Asked, Edit}
-use Rattle.edicheck_core.specs.Inputs.{Inputs}
+use Rattle.edicheck_core.specs.Answer.{IsEdited}
+use Rattle.form_outcomes.specs.Due.{HasFailed}
+use Rattle.form_outcomes.specs.Form.{Asked, Edit}
+use Rattle.form_outcomes.specs.Inputs.{Inputs}
 
 -- a script was answered, or memory was refused before it
 pub edited_opened : (manifest name : List ℕ) (before now : Inputs) (held held' : Held) (status : Status) (begun : Opened)

@@ -1,3 +1,1 @@
-mod AnswerLemmas
 mod EditLemmas
-mod OpeningLemmas

@@ -1,5 +1,1 @@
 pub mod Answer
-pub mod Form
-pub mod Inputs
-pub mod Lawful
-pub mod Made

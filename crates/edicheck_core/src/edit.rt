@@ -5,10 +5,11 @@ ghost use Rattle.script_answers.specs.Held.{held_of};
 ghost use Rattle.script_answers.specs.Outcome.{Outcome};
 ghost use Rattle.script_answers.specs.Script.{IsAnsweredWhole};
 ghost use Rattle.run_opening.specs.Opening.{IsToldOpening, Opened};
-ghost use Rattle.edicheck_core.specs.Answer.{HasFailed, IsEdited};
-ghost use Rattle.edicheck_core.specs.Form.{Edit};
-ghost use Rattle.edicheck_core.specs.Inputs.{inputs_of};
-ghost use Rattle.edicheck_core.specs.Made.{made_by};
+ghost use Rattle.edicheck_core.specs.Answer.{IsEdited};
+ghost use Rattle.form_outcomes.specs.Due.{HasFailed};
+ghost use Rattle.form_outcomes.specs.Form.{Edit};
+ghost use Rattle.form_outcomes.specs.Inputs.{inputs_of};
+ghost use Rattle.form_outcomes.specs.Made.{made_by};
 
 use crate::Status;
 use edi_ports::{Shelf, Sink, Source};

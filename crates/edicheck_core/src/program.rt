@@ -7,21 +7,18 @@ ghost use Rattle.script_answers.specs.Held.{held_of};
 ghost use Rattle.script_answers.specs.Outcome.{Outcome, memory_refused};
 ghost use Rattle.script_answers.specs.Script.{IsAnsweredWhole};
 ghost use Rattle.run_opening.specs.Opening.{IsToldOpening, Opened};
-ghost use Rattle.edicheck_core.specs.Form.{Asked, Edit, form_of, form_shown, needs_of};
-ghost use Rattle.edicheck_core.specs.Inputs.{inputs_of};
-ghost use Rattle.edicheck_core.specs.Answer.{HasFailed, IsAnswer, IsDue, IsSettled, Takes};
-ghost use Rattle.edicheck_core.specs.Lawful.{IsLawful, IsPlain};
-ghost use Rattle.edicheck_core.specs.Made.{made_by};
+ghost use Rattle.form_outcomes.specs.Form.{Asked, Edit, form_of, form_shown, needs_of};
+ghost use Rattle.form_outcomes.specs.Inputs.{inputs_of};
+ghost use Rattle.edicheck_core.specs.Answer.{IsAnswer, IsSettled};
+ghost use Rattle.form_outcomes.specs.Due.{HasFailed};
+ghost use Rattle.form_outcomes.specs.Lawful.{IsLawful, IsPlain};
+ghost use Rattle.form_outcomes.specs.Made.{made_by};
 
-use crate::about::tell_about;
-use crate::directory::{tell_store, tell_tables};
-use crate::drill::tell_drill;
+use crate::Status;
 use crate::edit::edit_text;
-use crate::help::{HELP, VERSION};
-use crate::text::list_text;
-use crate::{Form, Status, read_form};
 use edi_ports::{Shelf, Sink, Source};
 use edi_tables::Chunk;
+use form_outcomes::{Form, decide, read_form};
 use run_opening::{Made, finish};
 use std::alloc::Global;
 
@@ -144,53 +141,4 @@ fn settle<S: Shelf, I: Source, O: Sink>(
 {
     let made = decide(alloc, form, shelf, input);
     finish(out, &made)
-}
-
-// What words come to.
-fn decide<S: Shelf, I: Source>(
-    alloc: Global,
-    form: Option<Form<'_>>,
-    shelf: &mut S,
-    input: &mut I,
-) -> Made
-    requires plain { IsPlain (option_map form_shown form) }
-    requires lawful { IfSome form (λ form. IsLawful (form_shown form)) }
-    ensures due { IsDue (option_map form_shown form.entry)
-        (inputs_of S.Shelf shelf.old I.Source input.old)
-        (inputs_of S.Shelf shelf.new I.Source input.new) result }
-    ensures takes { Takes (option_map form_shown form.entry) result.status
-        (I.rest input.old) (I.rest input.new) }
-    ensures shelf { (needs_of (option_map form_shown form.entry)).shelf ≡ false
-        → shelf.new ≡ shelf.old }
-    ensures input { (needs_of (option_map form_shown form.entry)).input ≡ false
-        → input.new ≡ input.old }
-    ensures files { S.files shelf.new ≡ S.files shelf.old }
-    ensures steady { ((needs_of (option_map form_shown form.entry)).input ≡ true
-        → I.is_steady input.old)
-        → ((needs_of (option_map form_shown form.entry)).shelf ≡ true → S.is_steady shelf.old)
-        → result.status ≢ Status.ReadFault }
-{
-    match form {
-        None => Made::no_form(),
-        Some(Form::Help) => Made::fixed(Status::Done, HELP),
-        Some(Form::Version) => Made::fixed(Status::Done, VERSION),
-        Some(Form::Text(detail)) => list_text(alloc, detail, input),
-        Some(Form::Tables(manifest)) => tell_tables(alloc, manifest, shelf),
-        Some(Form::Compile(manifest)) => tell_store(alloc, manifest, shelf),
-        Some(
-            Form::About {
-                question,
-                manifest,
-                text,
-            },
-        ) => tell_about(alloc, question, manifest, text, shelf),
-        Some(
-            Form::Drill {
-                messages,
-                edits,
-                number,
-            },
-        ) => tell_drill(alloc, messages, edits, number),
-        Some(Form::Edit { .. }) => unreachable!(),
-    }
 }

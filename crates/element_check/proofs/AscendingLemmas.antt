@@ -10,7 +10,7 @@ use Rattle.edi_tables.specs.declared.segment.ItemDef.{ItemDef}
 use Rattle.error_ledger.specs.declared.kind.Kind.{Kind}
 use Rattle.error_ledger.specs.Kinds.{number_of}
 use Rattle.error_ledger.specs.Order.{compare_keys}
-use Rattle.dir_compile.specs.declared.parts.Parts.{Parts}
+use Rattle.dir_parts.specs.declared.parts.Parts.{Parts}
 use Rattle.seg_lexer.specs.Fields.{Component}
 use Rattle.seg_lexer.specs.Tag.{tag_of}
 use Rattle.seg_lexer.specs.declared.context.Context.{Context}

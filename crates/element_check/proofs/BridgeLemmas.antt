@@ -15,7 +15,7 @@ use Rattle.seg_lexer.proofs.OrderLemmas.{IsInOrder-lower}
 use Rattle.element_check.specs.Local.{element_errors, elements_errors, error_at, errors_by, errors_tagged, is_filled, last_written, local_errors_of, values_in}
 use Rattle.seg_lexer.specs.Tag.{past_tag_field, tag_of}
 use Rattle.seg_lexer.specs.declared.context.Context.{Context}
-use Rattle.dir_compile.specs.declared.parts.Parts.{Parts}
+use Rattle.dir_parts.specs.declared.parts.Parts.{Parts}
 use Rattle.element_check.specs.Rules.{SegmentRules, rules_of}
 use Rattle.element_check.specs.Streams.{after_front, errors_past, errors_ruled, front_values, item_errors, items_errors, surplus_elements}
 use Rattle.element_check.specs.declared.error.LocalError.{LocalError}

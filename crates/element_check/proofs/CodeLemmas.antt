@@ -13,11 +13,11 @@ use Rattle.std.proofs.lemmas.List.Folds.{list_any_at, list_any_none}
 use Rattle.std.proofs.lemmas.Slice.Eq.{bytes_eq-Decides}
 use Rattle.edi_tables.specs.Ascending.{is_before, IsAscendingBy}
 use Rattle.edi_tables.specs.declared.element.CodeList.{CodeList}
-use Rattle.dir_compile.specs.Compile.{list_name, named_in, value_name}
+use Rattle.dir_parts.specs.Compile.{list_name, named_in, value_name}
 use Rattle.dir_compile.specs.Directory.{IsDirectory}
-use Rattle.dir_compile.specs.declared.parts.Parts.{Parts}
-use Rattle.dir_compile.proofs.Apart.{named-is}
-use Rattle.dir_compile.proofs.AscendingLemmas.{Contains-from-Has}
+use Rattle.dir_parts.specs.declared.parts.Parts.{Parts}
+use Rattle.dir_parts.proofs.Apart.{named-is}
+use Rattle.dir_parts.proofs.AscendingLemmas.{Contains-from-Has}
 
 less-from-before : (o : Ordering) → is_lt o ≡ true → o ≡ Less
 less-from-before Less is = refl

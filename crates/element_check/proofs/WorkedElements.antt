@@ -3,7 +3,7 @@ use Rattle.std.proofs.Common.{◌≡◌, ℕ, true, false, List, [], ◌∷◌, 
 use Rattle.std.specs.Prelude.{codes}
 use Rattle.edi_tables.specs.declared.element.Class.TheVariants.{N, An}
 use Rattle.error_ledger.specs.declared.kind.Kind.TheVariants.{BadTag, UnknownSegment, TooManyElements, TooManyComponents, Missing, Repertoire, WrongType, Decimal, TooLong, TooShort, Code}
-use Rattle.dir_compile.specs.declared.parts.Parts.{Parts}
+use Rattle.dir_parts.specs.declared.parts.Parts.{Parts}
 use Rattle.seg_lexer.specs.Fields.{components_of, fields_of, places_that, separators_of, stretches, value_of}
 use Rattle.seg_lexer.specs.Released.{is_released, run_before}
 use Rattle.seg_lexer.specs.Service.{default_service}

@@ -8,7 +8,7 @@ use Rattle.edi_tables.specs.declared.segment.ItemDef.{ItemDef}
 use Rattle.edi_tables.specs.declared.segment.ItemDef.TheVariants.{Alone, Composite}
 use Rattle.error_ledger.specs.declared.kind.Kind.{Kind}
 use Rattle.error_ledger.specs.declared.kind.Kind.TheVariants.{BadTag, UnknownSegment, TooManyElements, TooManyComponents, Missing, Repertoire, WrongType, Decimal, TooLong, TooShort, Code}
-use Rattle.dir_compile.specs.declared.parts.Parts.{Parts}
+use Rattle.dir_parts.specs.declared.parts.Parts.{Parts}
 use Rattle.seg_lexer.specs.Fields.{Component}
 use Rattle.seg_lexer.specs.Tag.{tag_of}
 use Rattle.seg_lexer.specs.declared.context.Context.{Context}

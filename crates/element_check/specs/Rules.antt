@@ -5,8 +5,8 @@ use Rattle.edi_tables.specs.declared.element.CodeList.{CodeList}
 use Rattle.edi_tables.specs.declared.element.PartDef.{PartDef}
 use Rattle.edi_tables.specs.declared.segment.ItemDef.{ItemDef}
 use Rattle.edi_tables.specs.declared.segment.SegmentDef.{SegmentDef}
-use Rattle.dir_compile.specs.Compile.{composite_name, list_name, named_in, segment_name}
-use Rattle.dir_compile.specs.declared.parts.Parts.{Parts}
+use Rattle.dir_parts.specs.Compile.{composite_name, list_name, named_in, segment_name}
+use Rattle.dir_parts.specs.declared.parts.Parts.{Parts}
 use Rattle.seg_lexer.specs.declared.context.Context.{Context}
 use Rattle.service_tables.specs.ServiceTables.{service_items_of, service_parts_of}
 

@@ -6,7 +6,7 @@ ghost use Rattle.std.specs.Option.{option_copied};
 ghost use Rattle.std.specs.Ordering.{nat_cmp};
 ghost use Rattle.std.specs.Str.{bytes_eq};
 ghost use Rattle.edi_tables.specs.Ascending.{IsAscendingBy};
-ghost use Rattle.dir_compile.specs.Compile.{value_name};
+ghost use Rattle.dir_parts.specs.Compile.{value_name};
 ghost use Rattle.seg_lexer.specs.Value.{octets_of};
 ghost use Rattle.element_check.specs.Streams.{test_results, told_errors};
 ghost use Rattle.element_check.specs.Value.{is_unlisted as is_unlisted_of};

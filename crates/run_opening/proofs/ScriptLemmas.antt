@@ -1,7 +1,7 @@
 -- How a script on a text that was opened begins.
 use Rattle.std.proofs.Common.{◌≡◌, ℕ, List, Option, subst, inr}
 use Rattle.edi_ports.specs.Faults.{HasRisen}
-use Rattle.dir_compile.specs.declared.parts.Parts.{Parts}
+use Rattle.dir_parts.specs.declared.parts.Parts.{Parts}
 use Rattle.edi_engine.specs.Engine.{Reading}
 use Rattle.edi_engine.specs.Placed.{AreMessagesPlaced}
 use Rattle.script_answers.specs.Held.{Held}

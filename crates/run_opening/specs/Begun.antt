@@ -4,7 +4,7 @@ use Rattle.edi_ports.specs.Faults.{HasRisen}
 use Rattle.edi_ports.specs.Named.{octets_named}
 use Rattle.edi_ports.specs.declared.named.Unread.{Unread}
 use Rattle.edi_ports.specs.declared.shelf.ShelfFile.{ShelfFile}
-use Rattle.dir_compile.specs.declared.parts.Parts.{Parts}
+use Rattle.dir_parts.specs.declared.parts.Parts.{Parts}
 use Rattle.dir_load.specs.declared.stop.Refusal.{Refusal}
 use Rattle.dir_load.specs.Load.{load_of}
 use Rattle.edi_engine.specs.Placed.{AreMessagesPlaced}

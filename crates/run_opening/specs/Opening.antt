@@ -3,7 +3,7 @@ use Rattle.std.specs.Prelude.{◌≡◌, ◌⊎◌, ℕ, List, Option, Some, IfS
 use Rattle.edi_ports.specs.Named.{octets_named}
 use Rattle.edi_ports.specs.declared.named.Unread.{Unread}
 use Rattle.edi_ports.specs.declared.shelf.ShelfFile.{ShelfFile}
-use Rattle.dir_compile.specs.declared.parts.Parts.{Parts}
+use Rattle.dir_parts.specs.declared.parts.Parts.{Parts}
 use Rattle.dir_load.specs.declared.stop.Refusal.{Refusal}
 use Rattle.dir_load.specs.Load.{load_of}
 use Rattle.script_answers.specs.Outcome.{Outcome, memory_refused, read_failed}

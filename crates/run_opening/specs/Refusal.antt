@@ -4,8 +4,8 @@ use Rattle.edi_octets.specs.declared.fault.DirFault.{DirFault}
 use Rattle.edi_octets.specs.DirKind as file
 use Rattle.edi_ports.specs.declared.named.Unread.{Unread}
 use Rattle.edi_ports.specs.declared.named.Unread.TheVariants.{Absent, TooLarge}
-use Rattle.dir_compile.specs.CompileKind as parts
-use Rattle.dir_compile.specs.declared.stop.CompileKind.{CompileKind}
+use Rattle.dir_parts.specs.CompileKind as parts
+use Rattle.dir_parts.specs.declared.stop.CompileKind.{CompileKind}
 use Rattle.dir_load.specs.declared.stop.FileFault.{FileFault}
 use Rattle.dir_load.specs.declared.stop.FileFault.TheVariants as fault
 use Rattle.dir_load.specs.declared.stop.Refusal.{Refusal}

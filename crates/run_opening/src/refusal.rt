@@ -1,7 +1,7 @@
 //! Files that give no directory, as outcomes.
 ghost use Rattle.std.specs.Prelude.{◌≡◌, ◌⊎◌, ◌++◌, [], ◌∷◌, IfOk, codes, decimal};
 ghost use Rattle.edi_octets.specs.DirKind.{word_of as rule_word};
-ghost use Rattle.dir_compile.specs.CompileKind.{word_of as parts_word};
+ghost use Rattle.dir_parts.specs.CompileKind.{word_of as parts_word};
 ghost use Rattle.script_answers.specs.Outcome.{memory_refused};
 ghost use Rattle.run_opening.specs.Refusal.{file_refused, refusal, unread};
 

@@ -5,7 +5,7 @@ use Rattle.std.specs.Prelude.{codes}
 use Rattle.edi_ports.specs.Faults.{HasRisen}
 use Rattle.edi_ports.specs.Read.{HasTaken}
 use Rattle.edi_ports.specs.Sink.{IsCut}
-use Rattle.dir_compile.specs.declared.parts.Parts.{Parts}
+use Rattle.dir_parts.specs.declared.parts.Parts.{Parts}
 use Rattle.edit_script.specs.Command.{command_text}
 use Rattle.edit_script.specs.Next.{IsAnswer, IsAtEnd, IsNext, Reader}
 use Rattle.edit_script.specs.Script.{AreCommands, script_text}

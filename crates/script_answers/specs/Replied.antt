@@ -1,6 +1,6 @@
 -- For bodies: the octets of a reply, and one that was put.
 use Rattle.std.specs.Prelude.{ℕ, Bool, List, [], ◌∷◌, ◌++◌, length, Option, codes, decimal}
-use Rattle.dir_compile.specs.declared.parts.Parts.{Parts}
+use Rattle.dir_parts.specs.declared.parts.Parts.{Parts}
 use Rattle.edit_script.specs.declared.command.Command.{Command}
 use Rattle.script_answers.specs.declared.reply.Reply.{Reply}
 use Rattle.script_answers.specs.declared.reply.Reply.TheVariants.{Fixed, Edited, Lines, Counted}

@@ -1,6 +1,6 @@
 -- The replies to the commands of a script: the written reading of the text as it is then.
 use Rattle.std.specs.Prelude.{◌≡◌, ◌⊎◌, ◌<◌, ⊤, ℕ, List, [], ◌∷◌, ◌++◌, length, take, Option, Some, None, codes, decimal}
-use Rattle.dir_compile.specs.declared.parts.Parts.{Parts}
+use Rattle.dir_parts.specs.declared.parts.Parts.{Parts}
 use Rattle.error_ledger.specs.Printing.{errors_text, tree_text}
 use Rattle.contrl_writer.specs.declared.answer.Contrl.{Contrl as Acknowledgement}
 use Rattle.contrl_writer.specs.declared.answer.Contrl.TheVariants.{Octets, NoUnb, BadUnb}

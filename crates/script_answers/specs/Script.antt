@@ -1,7 +1,7 @@
 -- What a run of a script on a text comes to: a table of its statuses.
 use Rattle.std.specs.Prelude.{◌≡◌, ◌⊎◌, ◌<◌, ◌≤◌, ◌+◌, ⊤, ℕ, List, [], ◌∷◌, ◌++◌, length, take, Option, Some, IfSome, codes, decimal}
 use Rattle.edi_ports.specs.Faults.{HasRisen}
-use Rattle.dir_compile.specs.declared.parts.Parts.{Parts}
+use Rattle.dir_parts.specs.declared.parts.Parts.{Parts}
 use Rattle.edit_script.specs.Command.{IsCommandText, IsPart, IsBadLine}
 use Rattle.edit_script.specs.Script.{AreCommands, script_text}
 use Rattle.edit_script.specs.declared.command.Command.{Command}

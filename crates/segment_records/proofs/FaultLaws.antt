@@ -7,7 +7,7 @@ use Rattle.edi_tables.specs.declared.tag.Tag.{Tag}
 use Rattle.edi_tables.specs.declared.table.Node.{Node}
 use Rattle.edi_tables.specs.Extents.{Extent}
 use Rattle.edi_tables.specs.Rows.{IsTable}
-use Rattle.dir_compile.specs.declared.parts.Parts.{Parts}
+use Rattle.dir_parts.specs.declared.parts.Parts.{Parts}
 use Rattle.dir_compile.specs.Directory.{IsDirectory}
 use Rattle.envelope_check.proofs.Extents.{closes_message, message_from, message_opened}
 use Rattle.table_walk.specs.Errors.{Fault, errors_of_placed, open_faults, structure_errors_of}

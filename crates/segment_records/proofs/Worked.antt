@@ -8,7 +8,7 @@ use Rattle.edi_tables.specs.Rows.{end_of, parent_of}
 use Rattle.edi_tables.specs.Walk.{later_siblings, groups_round, candidates_of, later_nodes, missing_between, missing_past}
 use Rattle.error_ledger.specs.declared.tree.TreePlace.{TreePlace}
 use Rattle.error_ledger.specs.declared.tree.TreePlace.TheVariants as place
-use Rattle.dir_compile.specs.declared.parts.Parts.{Parts}
+use Rattle.dir_parts.specs.declared.parts.Parts.{Parts}
 use Rattle.seg_lexer.specs.Fields.{Component}
 use Rattle.table_walk.specs.Errors.{Fault, structure_errors_of}
 use Rattle.table_walk.specs.Errors.Fault.{Missing, Unplaced}

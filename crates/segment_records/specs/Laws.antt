@@ -7,7 +7,7 @@ use Rattle.edi_tables.specs.Rows.{has_name}
 use Rattle.edi_tables.specs.Extents.{tag_in}
 use Rattle.edi_tables.specs.Pairs.{entry_in}
 use Rattle.edi_tables.specs.Walk.{missing_past}
-use Rattle.dir_compile.specs.declared.parts.Parts.{Parts}
+use Rattle.dir_parts.specs.declared.parts.Parts.{Parts}
 use Rattle.seg_lexer.specs.Whole.{IsWhole, at_start}
 use Rattle.seg_lexer.specs.declared.context.Context.{Context}
 use Rattle.table_walk.specs.Errors.{Fault}

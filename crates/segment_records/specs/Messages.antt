@@ -6,7 +6,7 @@ use Rattle.edi_tables.specs.declared.tag.Tag.{Tag}
 use Rattle.edi_tables.specs.declared.table.Node.{Node}
 use Rattle.edi_tables.specs.Extents.{Extent, message_at, message_closed_at}
 use Rattle.edi_tables.specs.Pairs.{pairs_of}
-use Rattle.dir_compile.specs.declared.parts.Parts.{Parts}
+use Rattle.dir_parts.specs.declared.parts.Parts.{Parts}
 use Rattle.dir_compile.specs.Directory.{table_named, tables_of}
 use Rattle.seg_lexer.specs.Fields.{Component}
 use Rattle.table_walk.specs.Reading.{reading_of}

@@ -5,7 +5,7 @@ use Rattle.edi_tables.specs.declared.table.Node.{Node}
 use Rattle.edi_tables.specs.Walk.{groups_round, is_group_at, is_trigger_at}
 use Rattle.edi_tables.specs.Pairs.{count_in}
 use Rattle.edi_tables.specs.Placement.{group_count}
-use Rattle.dir_compile.specs.declared.parts.Parts.{Parts}
+use Rattle.dir_parts.specs.declared.parts.Parts.{Parts}
 use Rattle.error_ledger.specs.declared.tree.TreePlace.{TreePlace}
 use Rattle.error_ledger.specs.declared.tree.TreePlace.TheVariants as place
 use Rattle.error_ledger.specs.declared.tree.GroupMark.{GroupMark}

@@ -2,7 +2,7 @@
 -- the mode before the segment.
 use Rattle.std.specs.Prelude.{ℕ, ◌+◌, ◌-◌, ◌<◌, ⊤, List, [], ◌∷◌, length, Option}
 use Rattle.edi_tables.specs.declared.tag.Tag.{Tag}
-use Rattle.dir_compile.specs.declared.parts.Parts.{Parts}
+use Rattle.dir_parts.specs.declared.parts.Parts.{Parts}
 use Rattle.dir_compile.specs.Directory.{tables_of}
 use Rattle.seg_lexer.specs.Whole.{at_start}
 use Rattle.seg_lexer.specs.declared.context.Context.{Context}

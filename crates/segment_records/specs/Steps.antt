@@ -5,7 +5,7 @@ use Rattle.std.specs.List.{list_any}
 use Rattle.edi_tables.specs.declared.table.Node.{Node}
 use Rattle.edi_tables.specs.Rows.{has_name}
 use Rattle.edi_tables.specs.Pairs.{pairs_of}
-use Rattle.dir_compile.specs.declared.parts.Parts.{Parts}
+use Rattle.dir_parts.specs.declared.parts.Parts.{Parts}
 use Rattle.table_walk.specs.Steps.{member_in, missing_in, is_over_in, pairs_after}
 use Rattle.segment_records.specs.Segments.{Segment}
 use Rattle.segment_records.specs.Messages.{table_for, nodes_at}

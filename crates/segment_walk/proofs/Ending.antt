@@ -4,7 +4,7 @@ use Rattle.std.specs.Prelude.{map, if◌then◌else◌}
 use Rattle.edi_tables.specs.declared.table.Node.{Node}
 use Rattle.edi_tables.specs.Pairs.{entry_in}
 use Rattle.edi_tables.specs.Walk.{missing_past}
-use Rattle.dir_compile.specs.declared.parts.Parts.{Parts}
+use Rattle.dir_parts.specs.declared.parts.Parts.{Parts}
 use Rattle.table_walk.specs.Errors.Fault.{Missing}
 use Rattle.segment_records.specs.Laws.{missing_at_end}
 use Rattle.segment_records.specs.Messages.{nodes_at}

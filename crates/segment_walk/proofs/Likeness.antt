@@ -9,7 +9,7 @@ use Rattle.std.proofs.lemmas.Option.{slice_get_within}
 use Rattle.edi_tables.specs.declared.tag.Tag.{Tag}
 use Rattle.edi_tables.specs.declared.table.Node.{Node}
 use Rattle.edi_tables.specs.Extents.{tag_in}
-use Rattle.dir_compile.specs.declared.parts.Parts.{Parts}
+use Rattle.dir_parts.specs.declared.parts.Parts.{Parts}
 use Rattle.dir_compile.specs.Directory.{IsDirectory}
 use Rattle.error_ledger.specs.declared.error.ErrorLine.{ErrorLine}
 use Rattle.element_check.specs.declared.error.LocalError.{LocalError}

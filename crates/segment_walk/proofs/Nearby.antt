@@ -8,7 +8,7 @@ use Rattle.edi_tables.specs.declared.tag.Tag.{Tag}
 use Rattle.edi_tables.specs.declared.table.Node.{Node}
 use Rattle.edi_tables.specs.Extents.{message_at, tag_in}
 use Rattle.edi_tables.specs.Rows.{has_name}
-use Rattle.dir_compile.specs.declared.parts.Parts.{Parts}
+use Rattle.dir_parts.specs.declared.parts.Parts.{Parts}
 use Rattle.envelope_check.proofs.Extents.{message_from, message_opened}
 use Rattle.segment_records.specs.Messages.{mode_after, nodes_at, position_at}
 use Rattle.segment_records.specs.Segments.{Segment, tags_in}

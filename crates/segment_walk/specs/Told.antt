@@ -6,7 +6,7 @@ use Rattle.envelope_check.specs.declared.head.Head.{Head}
 use Rattle.envelope_check.specs.declared.head.HeadKind.{HeadKind}
 use Rattle.envelope_check.specs.declared.head.HeadKind.TheVariants.{Unh}
 use Rattle.envelope_check.specs.declared.head.SegmentMark.{SegmentMark}
-use Rattle.dir_compile.specs.declared.parts.Parts.{Parts}
+use Rattle.dir_parts.specs.declared.parts.Parts.{Parts}
 use Rattle.error_ledger.specs.declared.tree.TreeLine.{TreeLine}
 use Rattle.seg_lexer.specs.Fields.{Component, components_at}
 use Rattle.seg_lexer.specs.declared.service.Service.{Service}

@@ -11,7 +11,7 @@ use Rattle.edi_tables.specs.declared.segment.TableRow.{TableRow}
 use Rattle.edi_tables.specs.declared.segment.MessageDef.{MessageDef}
 use Rattle.edi_tables.specs.Rows.{nodes_of}
 use Rattle.edi_tables.specs.Collisions.{Collision, collisions_of}
-use Rattle.dir_compile.specs.declared.parts.Parts.{Parts}
+use Rattle.dir_parts.specs.declared.parts.Parts.{Parts}
 use Rattle.dir_compile.specs.Directory.{tables_of}
 use Rattle.table_printer.specs.Tables.{gap, node_line, node_lines_from, table_text, message_text, labels_line, tables_text}
 

@@ -6,7 +6,7 @@ use Rattle.edi_tables.specs.declared.segment.TableRow.{TableRow}
 use Rattle.edi_tables.specs.Rows.{parent_of, end_of}
 use Rattle.edi_tables.specs.Walk.{later_siblings, groups_round, candidates_of, later_nodes, missing_between}
 use Rattle.edi_tables.specs.Collisions.{shared_pairs, followers_of, front_of, collisions_of}
-use Rattle.dir_compile.specs.declared.parts.Parts.{Parts}
+use Rattle.dir_parts.specs.declared.parts.Parts.{Parts}
 use Rattle.table_printer.specs.Tables.{node_line, collision_line, table_text, labels_line, tables_text}
 
 abbrev segment : List ℕ → Bool → ℕ → TableRow

@@ -6,7 +6,7 @@ use Rattle.edi_tables.specs.declared.segment.TableRow.{TableRow}
 use Rattle.edi_tables.specs.declared.segment.MessageDef.{MessageDef}
 use Rattle.edi_tables.specs.Rows.{nodes_of}
 use Rattle.edi_tables.specs.Collisions.{Collision, collisions_of}
-use Rattle.dir_compile.specs.declared.parts.Parts.{Parts}
+use Rattle.dir_parts.specs.declared.parts.Parts.{Parts}
 
 -- what a node is called: its tag, or `group`
 abbrev pub node_shown : Option Tag → List ℕ

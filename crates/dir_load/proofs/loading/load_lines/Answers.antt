@@ -1,9 +1,9 @@
 use Rattle.std.proofs.Common.{◌≡◌, Ok, Err, subst}
 use Rattle.std.proofs.lemmas.Result.{err_from_is_err_and}
 use Rattle.edi_tables.specs.First.{Answers, unless_faulty}
-use Rattle.dir_compile.specs.declared.parts.Parts.{Parts}
+use Rattle.dir_parts.specs.declared.parts.Parts.{Parts}
 use Rattle.dir_compile.specs.Directory.{directory_of}
-use Rattle.dir_compile.specs.Stop.{fault_in}
+use Rattle.dir_parts.specs.Stop.{fault_in}
 use Rattle.dir_load.specs.declared.manifest.Manifest.{Manifest}
 use Rattle.dir_load.specs.Gathered.{found_of}
 use Rattle.dir_load.specs.Load.{found_on, refusals_of}

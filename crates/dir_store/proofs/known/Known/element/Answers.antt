@@ -2,7 +2,7 @@ use Rattle.std.proofs.Common.{◌≡◌, ◌∙◌, sym, rules}
 use Rattle.std.specs.Cmp.Lexicographic.{slice_cmp}
 use Rattle.std.specs.Ordering.{nat_cmp}
 use Rattle.std.proofs.lemmas.Fn.{always_returns_same}
-use Rattle.dir_compile.specs.Compile.{element_name}
+use Rattle.dir_parts.specs.Compile.{element_name}
 use Rattle.dir_store.proofs.SearchLemmas.{named-searched, nowhere, somewhere, copied-at}
 use Rattle.dir_store.proofs.known.Known.element.Goals as goal
 

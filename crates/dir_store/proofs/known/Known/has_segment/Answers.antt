@@ -2,7 +2,7 @@ use Rattle.std.proofs.Common.{◌≡◌, ◌∙◌, ap, sym, rules, is_some}
 use Rattle.std.specs.Cmp.Lexicographic.{slice_cmp}
 use Rattle.std.specs.Ordering.{nat_cmp}
 use Rattle.std.proofs.lemmas.Fn.{always_returns_same}
-use Rattle.dir_compile.specs.Compile.{segment_name}
+use Rattle.dir_parts.specs.Compile.{segment_name}
 use Rattle.dir_store.proofs.SearchLemmas.{named-searched, searched-some}
 use Rattle.dir_store.proofs.known.Known.has_segment.Goals as goal
 

@@ -1,0 +1,11 @@
+pub mod Faults
+pub mod Twice
+pub mod Seen
+pub mod Named
+pub mod AscendingLemmas
+pub mod Apart
+pub mod Members
+pub mod Groups
+pub mod Lawful
+pub mod Orders
+pub mod Formed

@@ -1,0 +1,21 @@
+-- For bodies: what follows of what words ask for, by `form_of`.
+use Rattle.std.specs.Prelude.{⊤, IsTrue, Option, Some}
+use Rattle.contrl_writer.specs.Stamp.{IsStamp, is_reference_of}
+use Rattle.drill_printer.specs.Drill.{IsDrill}
+use Rattle.form_outcomes.specs.Form.{Asked, Question, Errors, Answer, About, Edit, Drill}
+
+-- a stamp and a reference have their form
+abbrev pub IsLawfulQuestion : Question → Type 0
+IsLawfulQuestion Errors = ⊤
+IsLawfulQuestion (Answer stamp reference) = IsStamp stamp × IsTrue (is_reference_of reference)
+
+-- so has what is asked about a text, and the numbers of a drill are in their bounds
+abbrev pub IsLawful : Asked → Type 0
+IsLawful (About question manifest text) = IsLawfulQuestion question
+IsLawful (Drill messages edits number) = IsDrill messages edits number
+IsLawful _ = ⊤
+
+-- words that ask for something that is made whole before its first octet is put: all but `edit`
+abbrev pub IsPlain : Option Asked → Type 0
+IsPlain (Some (Edit manifest text)) = ⊥
+IsPlain _ = ⊤

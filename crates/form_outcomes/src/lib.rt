@@ -1,0 +1,15 @@
+//! The forms of words, and what each comes to where it is made whole before its first octet is put.
+#![tactic(auto)]
+
+mod about;
+mod decide;
+mod directory;
+mod drill;
+mod form;
+mod help;
+mod text;
+
+pub use decide::decide;
+pub use form::{Form, Question, read_form};
+pub use script_answers::Status;
+pub use text_printer::Detail;

@@ -4,6 +4,7 @@ use Rattle.edi_tables.specs.declared.element.Class.{Class}
 use Rattle.edi_tables.specs.declared.element.Class.TheVariants.{A, N, An}
 use Rattle.edi_tables.specs.Tag.{is_digit}
 use Rattle.seg_lexer.specs.declared.context.Context.{Context}
+use Rattle.seg_lexer.specs.declared.context.Level.{Level}
 use Rattle.seg_lexer.specs.declared.service.Service.{Service}
 use Rattle.element_check.specs.Repertoire.{is_admitted}
 use Rattle.element_check.specs.Value.{is_mark}
@@ -63,19 +64,23 @@ typed_after s N t x = numbered_after t (sort_of s x)
 typed_after s An t x =
     record { refused = t.refused; foreign = t.foreign; counted = t.counted + 1; form = t.form }
 
--- what was found, after one more octet
-abbrev pub tally_after : Context → Class → Tally → ℕ → Tally
-tally_after context class t x = record {
-  refused = t.refused || not (is_admitted context.level x);
-  foreign = (typed_after context.service class t x).foreign;
-  counted = (typed_after context.service class t x).counted;
-  form = (typed_after context.service class t x).form;
+-- what was found, after one more octet, by a level and service characters
+abbrev pub tally_after : Level → Service → Class → Tally → ℕ → Tally
+tally_after level s class t x = record {
+  refused = t.refused || not (is_admitted level x);
+  foreign = (typed_after s class t x).foreign;
+  counted = (typed_after s class t x).counted;
+  form = (typed_after s class t x).form;
 }
 
--- what was found, after these octets
+-- what was found, after these octets, by a level and service characters
+abbrev pub tally_by : Level → Service → Class → Tally → List ℕ → Tally
+tally_by level s class t [] = t
+tally_by level s class t (x ∷ xs) = tally_by level s class (tally_after level s class t x) xs
+
+-- what was found, after these octets, by the level and the service characters of a context
 abbrev pub tally_over : Context → Class → Tally → List ℕ → Tally
-tally_over context class t [] = t
-tally_over context class t (x ∷ xs) = tally_over context class (tally_after context class t x) xs
+tally_over context class t xs = tally_by context.level context.service class t xs
 
 -- what was found before the first octet
 abbrev pub nothing_found : Tally

@@ -1,13 +1,13 @@
 //! What one scan of a value finds.
 ghost use Rattle.std.specs.Prelude.{◌≡◌, ◌+◌, ◌<◌, ◌^◌, ◌&&◌, not};
 ghost use Rattle.seg_lexer.specs.Value.{octets_of};
-ghost use Rattle.element_check.specs.Tally.{form_after, is_number, nothing_found, numbered_after, sort_of as sort_of_octet, tally_over, typed_after};
+ghost use Rattle.element_check.specs.Tally.{form_after, is_number, nothing_found, numbered_after, sort_of as sort_of_octet, tally_by, tally_over, typed_after};
 ghost use Rattle.element_check.specs.Value.{is_mark as is_mark_of, is_numeric, is_service_character as is_service_character_of};
 
 use crate::repertoire::admits;
 use edi_octets::Octets;
 use edi_tables::Class;
-use seg_lexer::{Context, Service, Value};
+use seg_lexer::{Context, Level, Service, Value};
 
 /// What an octet is in a number.
 #[derive(Clone, Copy)]
@@ -141,23 +141,25 @@ pub(crate) fn scan<O: Octets>(context: &Context, class: Class, value: &Value<'_,
 fn scan_slice(context: &Context, class: Class, octets: &[u8]) -> Tally
     ensures { result ≡ tally_over context.now class nothing_found octets.now }
 {
+    let level = context.level;
+    let service = &context.service;
     // Each class is scanned by a loop of its own: most values are of class an, and few tests are theirs.
     match class {
-        Class::A => scan_as(context, Class::A, octets),
-        Class::N => scan_as(context, Class::N, octets),
-        Class::An => scan_as(context, Class::An, octets),
+        Class::A => scan_as(level, service, Class::A, octets),
+        Class::N => scan_as(level, service, Class::N, octets),
+        Class::An => scan_as(level, service, Class::An, octets),
     }
 }
 
 #[inline(always)]
-fn scan_as(context: &Context, class: Class, octets: &[u8]) -> Tally
-    ensures { result ≡ tally_over context.now class nothing_found octets.now }
+fn scan_as(level: Level, service: &Service, class: Class, octets: &[u8]) -> Tally
+    ensures { result ≡ tally_by level service.now class nothing_found octets.now }
 {
     let mut found = NOTHING;
     for octet in octets {
         found = Tally {
-            refused: found.refused || !admits(context.level, *octet),
-            ..found.after(&context.service, class, *octet)
+            refused: found.refused || !admits(level, *octet),
+            ..found.after(service, class, *octet)
         };
     }
     found

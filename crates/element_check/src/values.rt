@@ -48,7 +48,15 @@ impl<'a, O: Octets> Ahead<'a, O> {
         ensures after { after_front element (components_ahead self.new)
             ≡ after_front element (components_ahead self.old) }
     {
-        let found = self.step()?;
+        if let Some(found) = &self.read {
+            if found.element != element {
+                return None;
+            }
+            let value = found.value;
+            self.read = None;
+            return Some(value);
+        }
+        let found = self.rest.next()?;
         if found.element != element {
             self.read = Some(found);
             return None;

@@ -14,11 +14,20 @@ ghost use Rattle.error_ledger.specs.Printing.{
 };
 ghost use Rattle.error_ledger.specs.TreeCount.{opens_group as opens_in_tree};
 
-use crate::put::{put_count, put_number, put_tag};
+use crate::put::{put_count, put_tag, room_for_lines};
 use crate::tree::{GroupMark, TreeLine, TreePlace};
 use edi_octets::put_decimal;
 use edi_tables::{Chunk, Tag};
 use std::alloc::{AllocError, Global};
+
+/// Room for a line of a tree: most lines have 8 to 20 octets.
+const TREE_LINE_ROOM: usize = 16;
+
+/// The most groups round a line whose indentation is put at once.
+const MOST_GROUPS: u8 = 16;
+
+/// The indentation of that many groups.
+const SPACES: [u8; 32] = [b' '; 32];
 
 /// The printed form of a tree: how many lines it has, and for each segment the line of the group that it opens, if
 /// it opens one, and its own. A segment that opens a group lies in it, so that its depth is at least 1.
@@ -27,8 +36,9 @@ pub fn print_tree(alloc: Global, list: &[TreeLine]) -> Result<Chunk, AllocError>
     requires { All IsWellPlaced list.now }
     ensures { IfOk result (λ c. c ≡ tree_text list.now) }
 {
-    let mut out = Chunk::empty(alloc);
-    put_count(&mut out, b"tree", count_lines(list))?;
+    let lines = count_lines(list);
+    let mut out = room_for_lines(alloc, lines, TREE_LINE_ROOM)?;
+    put_count(&mut out, b"tree", lines)?;
     for line in list {
         put_segment(&mut out, line)?;
     }
@@ -82,9 +92,8 @@ fn put_marked(out: &mut Chunk, mark: &[u8], number: u32, tag: Option<Tag>) -> Re
     ensures { OnOk result (out.new ≡ out.old ++ (mark.now ++ numbered number tag ++ 10 ∷ [])) }
 {
     out.add(mark)?;
-    put_number(out, number)?;
-    put_tag(out, tag)?;
-    out.add(b"\n")
+    put_decimal(out, u64::from(number))?;
+    put_tag(out, tag, b'\n')
 }
 
 // The line of a segment at its entry.
@@ -95,9 +104,8 @@ fn put_placed(out: &mut Chunk, line: &TreeLine, entry: u16, depth: u8) -> Result
 {
     put_indentation(out, depth)?;
     out.add(b"= ")?;
-    put_number(out, line.segment)?;
-    put_tag(out, line.tag)?;
-    out.add(b" ")?;
+    put_decimal(out, u64::from(line.segment))?;
+    put_tag(out, line.tag, b' ')?;
     put_decimal(out, u64::from(entry))?;
     out.add(b"\n")
 }
@@ -127,8 +135,20 @@ fn put_group(out: &mut Chunk, mark: GroupMark, depth: u8) -> Result<(), AllocErr
 }
 
 // Two spaces for each group round what follows.
-#[tactic(auto, using(crate::proofs::PrintLemmas::indentation_more))]
+#[tactic(auto, using(crate::proofs::PrintLemmas::indentation_at_once))]
 fn put_indentation(out: &mut Chunk, groups: u8) -> Result<(), AllocError>
+    ensures { OnOk result (out.new ≡ out.old ++ indentation groups) }
+{
+    if groups <= MOST_GROUPS {
+        out.add(&SPACES[..2 * usize::from(groups)])
+    } else {
+        put_deep_indentation(out, groups)
+    }
+}
+
+// The same for any number of groups.
+#[tactic(auto, using(crate::proofs::PrintLemmas::indentation_more))]
+fn put_deep_indentation(out: &mut Chunk, groups: u8) -> Result<(), AllocError>
     ensures { OnOk result (out.new ≡ out.old ++ indentation groups) }
 {
     for _group in 0..groups {

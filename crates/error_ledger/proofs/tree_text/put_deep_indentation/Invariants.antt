@@ -1,6 +1,6 @@
 use Rattle.std.proofs.Common.{◌≡◌, ◌++◌}
 use Rattle.error_ledger.specs.Printing.{indentation}
-use Rattle.error_ledger.proofs.tree_text.put_indentation.Given as goal
+use Rattle.error_ledger.proofs.tree_text.put_deep_indentation.Given as goal
 
 abbrev pub invariant-loop-group : goal.invariant-loop-group
 invariant-loop-group l = l.out ≡ l.fn.out ++ indentation l._group

@@ -1,3 +1,3 @@
-mod Making
-mod Kept
-mod TableNames
+pub mod Making
+pub mod Kept
+pub mod TableNames

@@ -1,6 +1,6 @@
 -- The errors of a segment, by the rules in terms of what is known there.
-use Rattle.std.proofs.Common.{◌≡◌, ℕ, zero, suc, ◌+◌, Bool, List, [], ◌∷◌, ◌++◌, Option, Some, refl, sym, ap, ◌∙◌, append_assoc, append-nil}
-use Rattle.std.specs.Prelude.{slice_get}
+use Rattle.std.proofs.Common.{◌≡◌, ℕ, zero, suc, ◌+◌, Bool, true, false, not, List, [], ◌∷◌, ◌++◌, ◌&&◌, Option, Some, None, refl, sym, ap, ◌∙◌, append_assoc, append-nil}
+use Rattle.std.specs.Prelude.{slice_get, is_some}
 use Rattle.std.specs.Option.{option_map_or}
 use Rattle.edi_tables.specs.Extents.{tag_in}
 use Rattle.edi_tables.specs.declared.tag.Tag.{Tag}
@@ -60,3 +60,16 @@ errors_here heads marks i known here after mark site is =
     (append_same _ _ _ _ (one _ _ 2 Reference (refers_elsewhere_is heads marks i known here after site))
     (append_same _ _ _ _ (one _ _ 2 NoTable (lacks_table_is heads marks i known here after site))
     refl))))))))))
+
+free_parts : (ended in_message : Bool) → (not ended && in_message) ≡ true → (ended ≡ false) × (in_message ≡ true)
+free_parts false true free = (refl, refl)
+free_parts false false free = cc
+free_parts true in_message free = cc
+
+-- a segment that is no head breaks no rule before the end and in an open message
+pub none_broken : (k : ℕ) (mark : SegmentMark) (known : Known) (here : Option Head) (after : List Head) → (not (is_some here) && not known.ended && is_some known.message) ≡ true → errors_by k mark (rules_by known here after) ≡ []
+unfolding errors_by rules_by
+none_broken k mark known (Some head) after free = cc
+none_broken k mark known None after free =
+    let parts = free_parts known.ended (is_some known.message) free in
+    rw (parts.0, parts.1) refl

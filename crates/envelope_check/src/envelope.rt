@@ -1,11 +1,23 @@
 //! The errors of the envelopes of a text.
-ghost use Rattle.std.specs.Prelude.{◌≡◌, ◌+◌, ◌++◌, length, not, is_some, IfOk, OnOk};
+ghost use Rattle.std.specs.Prelude.{
+  ◌≡◌,
+  ◌+◌,
+  ◌<◌,
+  ◌^◌,
+  ◌++◌,
+  length,
+  not,
+  is_some,
+  IfOk,
+  OnOk,
+};
 ghost use Rattle.std.specs.Option.{option_copied};
 ghost use Rattle.edi_tables.specs.Rows.{when};
 ghost use Rattle.envelope_check.specs.Heads.{Fits};
 ghost use Rattle.envelope_check.specs.Envelope.{envelope_errors_of, error_of_text as text_error};
 ghost use Rattle.envelope_check.specs.Known.{
   errors_by,
+  rules_by,
   first_unb as first_unb_of,
   has_kind,
   is_unz,
@@ -14,7 +26,7 @@ ghost use Rattle.envelope_check.specs.Known.{
 use crate::head::{Head, SegmentMark};
 use crate::heads::{first_unb, has_end, split_here};
 use crate::known::Known;
-use crate::rules::{Rule, rules};
+use crate::rules::{Rule, breaks_none, rules};
 use error_ledger::{ErrorLine, Kind};
 use std::alloc::{AllocError, Global};
 
@@ -43,7 +55,7 @@ pub fn envelope_errors(
         };
         let number = known.segments + 1;
         let (head, after) = split_here(rest, number);
-        push_errors(&mut errors, number, mark, rules(&known, head, after))?;
+        push_segment_errors(&mut errors, number, mark, &known, head, after)?;
         known = known.after(head);
         rest = after;
     }
@@ -80,6 +92,25 @@ fn error_of_text(kind: Kind) -> ErrorLine
         node: 0,
         missing: None,
     }
+}
+
+// Puts the errors of a segment at the end.
+fn push_segment_errors(
+    errors: &mut Vec<ErrorLine>,
+    number: u32,
+    mark: &SegmentMark,
+    known: &Known,
+    head: Option<&Head>,
+    after: &[Head],
+) -> Result<(), AllocError>
+    requires { known.now.segments + 1 < 2 ^ 32 }
+    ensures { OnOk result (errors.new.items ≡ errors.old.items
+        ++ errors_by number mark.now (rules_by known.now (option_copied head.entry) after.now)) }
+{
+    if breaks_none(known, head) {
+        return Ok(());
+    }
+    push_errors(errors, number, mark, rules(known, head, after))
 }
 
 // Puts the errors of the rules that a segment breaks at the end.

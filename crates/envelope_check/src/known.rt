@@ -1,5 +1,5 @@
 //! What is known of a text when one of its segments is looked at.
-ghost use Rattle.std.specs.Prelude.{◌≡◌, ◌+◌, ◌≤◌, ◌<◌, ◌^◌};
+ghost use Rattle.std.specs.Prelude.{◌≡◌, ◌+◌, ◌≤◌, ◌<◌, ◌^◌, None};
 
 use crate::head::{Head, HeadKind};
 use crate::heads::{first_unb, has_groups, kind_in};
@@ -57,6 +57,9 @@ impl<'a> Known<'a> {
         requires { self.now.segments + 1 < 2 ^ 32 }
         ensures { IsKnownAfter self.now (option_copied head.entry) result }
     {
+        if head.is_none() {
+            return self.after_other();
+        }
         let kind = kind_in(head);
         Known {
             has_groups: self.has_groups,
@@ -69,6 +72,25 @@ impl<'a> Known<'a> {
             segments: self.segments + 1,
             groups: self.groups + u32::from(matches!(kind, Some(HeadKind::Ung))),
             messages: self.messages + u32::from(matches!(kind, Some(HeadKind::Unh))),
+        }
+    }
+
+    // After a segment that is no head: it only adds to the segments.
+    fn after_other(&self) -> Known<'a>
+        requires { self.now.segments + 1 < 2 ^ 32 }
+        ensures { IsKnownAfter self.now None result }
+    {
+        Known {
+            has_groups: self.has_groups,
+            interchange: self.interchange,
+            ended: self.ended,
+            message: self.message,
+            message_segments: self.message_segments + 1,
+            group: self.group,
+            group_messages: self.group_messages,
+            segments: self.segments + 1,
+            groups: self.groups,
+            messages: self.messages,
         }
     }
 }

@@ -1,5 +1,5 @@
 //! The rules on envelopes, each a test of its own on one segment.
-ghost use Rattle.std.specs.Prelude.{◌≡◌, ◌+◌, ◌<◌, ◌^◌, is_some};
+ghost use Rattle.std.specs.Prelude.{◌≡◌, ◌+◌, ◌<◌, ◌^◌, ◌&&◌, not, is_some};
 ghost use Rattle.std.specs.Option.{option_copied};
 ghost use Rattle.envelope_check.specs.Envelope.{gives as gives_number};
 ghost use Rattle.envelope_check.specs.Known.{
@@ -53,6 +53,15 @@ pub(crate) fn rules(known: &Known, head: Option<&Head>, after: &[Head]) -> [Rule
         (lacks_table(head), 2, Kind::NoTable),
     ];
     rules
+}
+
+/// Whether a segment can break no rule: it is no head, before the end, and in an open message.
+pub(crate) fn breaks_none(known: &Known, head: Option<&Head>) -> bool
+    ensures { result
+        ≡ (not (is_some (option_copied head.entry)) && not known.now.ended
+        && is_some known.now.message) }
+{
+    head.is_none() && !known.ended && known.message.is_some()
 }
 
 // A UNB that isn't the first segment, and isn't after the end.

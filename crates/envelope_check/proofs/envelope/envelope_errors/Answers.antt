@@ -1,6 +1,4 @@
-use Rattle.std.proofs.Common.{Bool, ℕ, ◌+◌, List, ◌++◌, ◌∙◌, ap, arith}
-use Rattle.error_ledger.specs.declared.kind.Kind.{Kind}
-use Rattle.envelope_check.specs.Known.{errors_by}
+use Rattle.std.proofs.Common.{arith}
 use Rattle.envelope_check.proofs.Progress.{done_first, done_next, done_all, some_left}
 use Rattle.envelope_check.proofs.envelope.envelope_errors.Goals as goal
 
@@ -13,8 +11,8 @@ unreachable-requires c = some_left _ _ _ _ _ _ _ (omega (arith, c.loop-test.true
 pub overflow_add-number : goal.overflow_add-number
 overflow_add-number c = omega (arith, c.loop.invariant.so_far.segments)
 
-pub rules-requires : goal.rules-requires
-rules-requires c = omega (arith, c.loop.invariant.so_far.segments)
+pub push_segment_errors-requires : goal.push_segment_errors-requires
+push_segment_errors-requires c = omega (arith, c.loop.invariant.so_far.segments)
 
 pub after-known-requires : goal.after-known-requires
 after-known-requires c = omega (arith, c.loop.invariant.so_far.segments)
@@ -22,7 +20,7 @@ after-known-requires c = omega (arith, c.loop.invariant.so_far.segments)
 pub loop-preserved : goal.loop-preserved
 loop-preserved c =
     done_next _ _ _ _ _ _ _ _ _ _ _ _ _ (omega (arith, c.loop-test.true, c.requires.total)) c.loop.invariant c.in-Some.ensures.steps c.split_here.ensures.head c.split_here.ensures.after c.after-known.ensures
-    (c.in_ok-push_errors.ensures ∙ ap (λ (rules : List (Bool × ℕ × Kind)). c.loop.errors.items ++ errors_by (c.loop.known.segments + 1) c.in-Some.mark.now rules) c.rules.ensures)
+    c.in_ok-push_segment_errors.ensures
 
 pub returns : goal.returns
 returns c = done_all _ _ _ _ _ _ _ c.loop.invariant (omega arith)

@@ -11,6 +11,7 @@ cp "$top"/examples/directory/* "$work"
 python3 "$top/bench/orders.py" 0 >"$work/usual"
 # 15 segments a message: one broken segment in a hundred.
 python3 "$top/bench/orders.py" 7 >"$work/broken"
+python3 "$top/bench/orders.py" 0 different >"$work/different"
 python3 - "$work" <<'P'
 import sys
 folder = sys.argv[1]
@@ -39,7 +40,7 @@ open(folder + "/m3", "wb").write(manifest.replace(b"codes uncl", b"codes longlis
 open(folder + "/absent", "wb").write(opening + b"UNH+1+TSTLNG:D:96A:UN'" + b"AAA'" * 1000000 + b"UNT+1000002+1'UNZ+1+R1'")
 P
 cd "$work"
-for case in "m usual" "m3 usual" "m broken" "m terminators" "m2 absent" "m long"; do
+for case in "m usual" "m different" "m3 usual" "m broken" "m terminators" "m2 absent" "m long"; do
     python3 - "$program" $case <<'P'
 import resource, subprocess, sys, time
 program, manifest, name = sys.argv[1:]

@@ -3,6 +3,7 @@ pub mod Counted
 pub mod Ends
 pub mod FaultLaws
 pub mod Forgets
+pub mod Found
 pub mod Held
 pub mod Keeping
 pub mod MessageFaults

@@ -10,4 +10,4 @@ mod values;
 pub use mode::Mode;
 pub use record::{Place, Record};
 pub use tags::{is_named, is_no_part};
-pub use values::{copy_value, find_table};
+pub use values::{copy_two, copy_value, find_table};

@@ -1,15 +1,20 @@
 //! Values of a segment, and the segment table that a UNH names by some of them.
-ghost use Rattle.std.specs.Prelude.{◌≡◌, ◌<◌, IfOk, IfSome, length, unwrap_or, []};
+ghost use Rattle.std.specs.Prelude.{◌≡◌, ◌<◌, ◌∷◌, List, IfOk, IfSome, length, unwrap_or, []};
+ghost use Rattle.std.specs.Cow.{cow_slice_items};
+ghost use Rattle.std.specs.Option.{option_map, option_or};
 ghost use Rattle.dir_compile.specs.Directory.{tables_of};
-ghost use Rattle.seg_lexer.specs.Left.{components_left};
+ghost use Rattle.seg_lexer.specs.Fields.{octets_at, unplaced, Component as SeenComponent};
+ghost use Rattle.seg_lexer.specs.Left.{components_left, placed_in};
+ghost use Rattle.seg_lexer.specs.Value.{octets_of};
 ghost use Rattle.segment_records.specs.Messages.{table_for};
 ghost use Rattle.segment_records.specs.Segments.{value_in};
 
 use dir_compile::Directory;
 use edi_octets::Octets;
 use edi_tables::Chunk;
-use seg_lexer::Fields;
+use seg_lexer::{Component, Fields, Value};
 use std::alloc::{AllocError, Global};
+use std::borrow::CowSlice;
 
 /// The number of the segment table that a UNH names by its message type, version, release and agency (0065, 0052, 0054 and
 /// 0051), if the directory has it. `components` are those of the UNH.
@@ -25,19 +30,65 @@ pub fn find_table<O: Octets>(
 {
     // The number of its tables fits.
     let _parts = directory.parts();
-    let name = copy_value(alloc, components, 2, 1)?;
-    let version = copy_value(alloc, components, 2, 2)?;
-    let release = copy_value(alloc, components, 2, 3)?;
-    let agency = copy_value(alloc, components, 2, 4)?;
-    let found = directory.find_table(
-        name.octets(),
-        version.octets(),
-        release.octets(),
-        agency.octets(),
-    );
+    let Names {
+        message,
+        version,
+        release,
+        agency,
+    } = find_names(components);
+    let message = lend_found(alloc, message)?;
+    let version = lend_found(alloc, version)?;
+    let release = lend_found(alloc, release)?;
+    let agency = lend_found(alloc, agency)?;
+    let found = directory.find_table(&message, &version, &release, &agency);
     match found {
         Some(table) => Ok(Some(table as u32)),
         None => Ok(None),
+    }
+}
+
+// The values that a UNH names its segment table by, those that are written.
+struct Names<'a, O: Octets> {
+    message: Option<Value<'a, O>>,
+    version: Option<Value<'a, O>>,
+    release: Option<Value<'a, O>>,
+    agency: Option<Value<'a, O>>,
+}
+
+// They are found in one way through the components, up to the first that is past element 2.
+fn find_names<'a, O: Octets>(components: Fields<'a, O>) -> Names<'a, O>
+    ensures message { option_map octets_of result.message
+        ≡ octets_at 2 1 (components_left components.entry) }
+    ensures version { option_map octets_of result.version
+        ≡ octets_at 2 2 (components_left components.entry) }
+    ensures release { option_map octets_of result.release
+        ≡ octets_at 2 3 (components_left components.entry) }
+    ensures agency { option_map octets_of result.agency
+        ≡ octets_at 2 4 (components_left components.entry) }
+{
+    let mut message = None;
+    let mut version = None;
+    let mut release = None;
+    let mut agency = None;
+    for found in components {
+        if found.element > 2 {
+            return Names {
+                message,
+                version,
+                release,
+                agency,
+            };
+        }
+        message = or_found(message, &found, 2, 1);
+        version = or_found(version, &found, 2, 2);
+        release = or_found(release, &found, 2, 3);
+        agency = or_found(agency, &found, 2, 4);
+    }
+    Names {
+        message,
+        version,
+        release,
+        agency,
     }
 }
 
@@ -51,8 +102,101 @@ pub fn copy_value<O: Octets>(
     ensures { IfOk result
         (λ octets. octets ≡ value_in (components_left components.entry) element component) }
 {
-    match components.value_at(element, component) {
+    copy_found(alloc, components.value_at(element, component))
+}
+
+/// Copies of the values of two components, each by the numbers of its element and its own, in one way through the
+/// components of a segment; no octets for one that isn't written. Only want of memory is an error.
+pub fn copy_two<O: Octets>(
+    alloc: Global,
+    components: Fields<'_, O>,
+    first: (u32, u32),
+    second: (u32, u32),
+) -> Result<(Chunk, Chunk), AllocError>
+    ensures first { IfOk result
+        (λ two. two.0 ≡ value_in (components_left components.entry) first.0 first.1) }
+    ensures second { IfOk result
+        (λ two. two.1 ≡ value_in (components_left components.entry) second.0 second.1) }
+{
+    let (one, other) = find_two(components, first, second);
+    let one = copy_found(alloc, one)?;
+    let other = copy_found(alloc, other)?;
+    Ok((one, other))
+}
+
+// The values of two components, those that are written. They are found in one way through the components, up to the first
+// that is past the elements of both.
+fn find_two<'a, O: Octets>(
+    components: Fields<'a, O>,
+    first: (u32, u32),
+    second: (u32, u32),
+) -> (Option<Value<'a, O>>, Option<Value<'a, O>>)
+    ensures first { option_map octets_of result.0
+        ≡ octets_at first.0 first.1 (components_left components.entry) }
+    ensures second { option_map octets_of result.1
+        ≡ octets_at second.0 second.1 (components_left components.entry) }
+{
+    let mut one = None;
+    let mut other = None;
+    for found in components {
+        if found.element > first.0 && found.element > second.0 {
+            return (one, other);
+        }
+        one = or_found(one, &found, first.0, first.1);
+        other = or_found(other, &found, second.0, second.1);
+        if one.is_some() && other.is_some() {
+            return (one, other);
+        }
+    }
+    (one, other)
+}
+
+// The value that was found before, or else that of this component if its numbers are these.
+#[inline(always)]
+fn or_found<'a, O: Octets>(
+    before: Option<Value<'a, O>>,
+    found: &Component<'a, O>,
+    element: u32,
+    component: u32,
+) -> Option<Value<'a, O>>
+    ensures { (later : List SeenComponent)
+        → option_or (option_map octets_of result) (octets_at element component later)
+        ≡ option_or (option_map octets_of before.entry)
+        (octets_at element component (unplaced (placed_in found.now) ∷ later)) }
+{
+    if before.is_some() {
+        return before;
+    }
+    if found.element == element && found.component == component {
+        return Some(found.value);
+    }
+    None
+}
+
+// A copy of a value; no octets where there is none.
+fn copy_found<O: Octets>(alloc: Global, value: Option<Value<'_, O>>) -> Result<Chunk, AllocError>
+    ensures { IfOk result
+        (λ octets. octets ≡ unwrap_or (option_map octets_of value.entry) []) }
+{
+    match value {
         Some(value) => value.copy(alloc),
         None => Ok(Chunk::empty(alloc)),
+    }
+}
+
+// The octets of a value, which the text lends where it can; none where there is no value.
+fn lend_found<'a, O: Octets>(
+    alloc: Global,
+    value: Option<Value<'a, O>>,
+) -> Result<CowSlice<'a, u8, Global>, AllocError>
+    ensures { IfOk result
+        (λ octets. cow_slice_items octets ≡ unwrap_or (option_map octets_of value.entry) []) }
+{
+    let Some(value) = value else {
+        return Ok(CowSlice::Borrowed(&[]));
+    };
+    match value.slice() {
+        Some(octets) => Ok(CowSlice::Borrowed(octets)),
+        None => Ok(CowSlice::Owned(value.copy(alloc)?.octets().to_vec(alloc)?)),
     }
 }

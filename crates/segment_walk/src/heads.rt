@@ -12,7 +12,7 @@ use edi_octets::Octets;
 use edi_tables::Chunk;
 use envelope_check::{Head, HeadKind};
 use seg_lexer::{Fields, Service};
-use segment_records::copy_value;
+use segment_records::{copy_two, copy_value};
 use std::alloc::{AllocError, Global};
 
 /// A segment as a head of this kind, with the values that its kind gives. They are read from its text, by the service
@@ -31,9 +31,11 @@ pub fn read_head<O: Octets>(
         ≡ head_seen service.now (O.octets text.now) (seen_of seen.now) kind) }
 {
     let components = seen.components(text, service);
-    let reference = copy_reference(alloc, components, kind)?;
-    let count = copy_count(alloc, components, kind)?;
-    let name = copy_name(alloc, components, kind)?;
+    let Given {
+        reference,
+        count,
+        name,
+    } = copy_given(alloc, components, kind)?;
     Ok(Head {
         segment: seen.number,
         start: seen.start(),
@@ -46,47 +48,55 @@ pub fn read_head<O: Octets>(
     })
 }
 
-// The reference that a segment of this kind gives.
-fn copy_reference<O: Octets>(
+// The values that a segment gives by its kind; no octets for one that its kind doesn't give.
+struct Given {
+    reference: Chunk,
+    count: Chunk,
+    name: Chunk,
+}
+
+// They are copied in one way through its components.
+fn copy_given<O: Octets>(
     alloc: Global,
     components: Fields<'_, O>,
     kind: HeadKind,
-) -> Result<Chunk, AllocError>
-    ensures { IfOk result (λ octets. octets
+) -> Result<Given, AllocError>
+    ensures reference { IfOk result (λ given. given.reference
         ≡ reference_in (components_left components.entry) kind) }
+    ensures count { IfOk result (λ given. given.count
+        ≡ count_in (components_left components.entry) kind) }
+    ensures name { IfOk result (λ given. given.name
+        ≡ name_in (components_left components.entry) kind) }
 {
     match kind {
-        HeadKind::Unb | HeadKind::Ung => copy_value(alloc, components, 5, 1),
-        HeadKind::Unh => copy_value(alloc, components, 1, 1),
-        HeadKind::Unt | HeadKind::Une | HeadKind::Unz => copy_value(alloc, components, 2, 1),
-    }
-}
-
-// The count that it gives.
-fn copy_count<O: Octets>(
-    alloc: Global,
-    components: Fields<'_, O>,
-    kind: HeadKind,
-) -> Result<Chunk, AllocError>
-    ensures { IfOk result (λ octets. octets ≡ count_in (components_left components.entry) kind) }
-{
-    match kind {
-        HeadKind::Unt | HeadKind::Une | HeadKind::Unz => copy_value(alloc, components, 1, 1),
-        HeadKind::Unb | HeadKind::Ung | HeadKind::Unh => Ok(Chunk::empty(alloc)),
-    }
-}
-
-// The type of message that it gives.
-fn copy_name<O: Octets>(
-    alloc: Global,
-    components: Fields<'_, O>,
-    kind: HeadKind,
-) -> Result<Chunk, AllocError>
-    ensures { IfOk result (λ octets. octets ≡ name_in (components_left components.entry) kind) }
-{
-    match kind {
-        HeadKind::Unh => copy_value(alloc, components, 2, 1),
-        HeadKind::Ung => copy_value(alloc, components, 1, 1),
-        HeadKind::Unb | HeadKind::Unt | HeadKind::Une | HeadKind::Unz => Ok(Chunk::empty(alloc)),
+        HeadKind::Unb => Ok(Given {
+            reference: copy_value(alloc, components, 5, 1)?,
+            count: Chunk::empty(alloc),
+            name: Chunk::empty(alloc),
+        }),
+        HeadKind::Ung => {
+            let (name, reference) = copy_two(alloc, components, (1, 1), (5, 1))?;
+            Ok(Given {
+                reference,
+                count: Chunk::empty(alloc),
+                name,
+            })
+        },
+        HeadKind::Unh => {
+            let (reference, name) = copy_two(alloc, components, (1, 1), (2, 1))?;
+            Ok(Given {
+                reference,
+                count: Chunk::empty(alloc),
+                name,
+            })
+        },
+        HeadKind::Unt | HeadKind::Une | HeadKind::Unz => {
+            let (count, reference) = copy_two(alloc, components, (1, 1), (2, 1))?;
+            Ok(Given {
+                reference,
+                count,
+                name: Chunk::empty(alloc),
+            })
+        },
     }
 }

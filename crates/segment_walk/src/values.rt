@@ -12,7 +12,7 @@ use contrl_writer::Party;
 use edi_octets::Octets;
 use edi_tables::Chunk;
 use seg_lexer::{Fields, Service, fields};
-use segment_records::copy_value;
+use segment_records::copy_two;
 use std::alloc::{AllocError, Global};
 
 impl Seen<'_> {
@@ -39,8 +39,7 @@ pub(crate) fn copy_party<O: Octets>(
     ensures { IfOk result (λ party. party
         ≡ party_in (components_left components.entry) element route) }
 {
-    let id = copy_value(alloc, components, element, 1)?;
-    let qualifier = copy_value(alloc, components, element, 2)?;
+    let (id, qualifier) = copy_two(alloc, components, (element, 1), (element, 2))?;
     Ok(Party {
         id,
         qualifier,

@@ -7,6 +7,7 @@ pub mod Edits
 pub mod Grouping
 pub mod Passing
 pub mod PlacedLaws
+pub mod Printed
 pub mod Readings
 pub mod Summed
 pub mod Treed

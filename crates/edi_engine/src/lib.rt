@@ -14,3 +14,4 @@ mod tree;
 pub use edit::EditStop;
 pub use engine::Engine;
 pub use segment_walk::read_records;
+pub use tree::PrintedTree;

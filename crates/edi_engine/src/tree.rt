@@ -1,13 +1,31 @@
-//! The tree of a text.
-ghost use Rattle.std.specs.Prelude.{◌≡◌, All, IfOk};
-ghost use Rattle.error_ledger.specs.Printing.{IsWellPlaced};
+//! The tree of a text, as a list and printed.
+ghost use Rattle.std.specs.Prelude.{◌≡◌, ◌++◌, All, IfOk, codes, map};
+ghost use Rattle.dir_compile.specs.Directory.{tables_of};
+ghost use Rattle.error_ledger.specs.Printing.{IsWellPlaced, count_line, tree_text};
+ghost use Rattle.segment_walk.specs.Groups.{numbers_in};
+ghost use Rattle.segment_walk.specs.Look.{seen_of};
+ghost use Rattle.segment_walk.specs.Seen.{Follows};
+ghost use Rattle.segment_walk.specs.Told.{line_in_tree};
 ghost use Rattle.edi_engine.specs.Placed.{AreMessagesPlaced};
 ghost use Rattle.edi_engine.specs.Tree.{tree_of};
 
 use crate::engine::Engine;
-use error_ledger::TreeLine;
-use segment_walk::{number_groups, place_of};
+use dir_compile::Directory;
+use edi_tables::{Chunk, List};
+use error_ledger::{TreeLine, put_tree_line};
+use segment_walk::{Seen, number_groups, place_of};
 use std::alloc::{AllocError, Global};
+
+/// Room for the lines of a segment: most have 8 to 20 octets.
+const SEGMENT_ROOM: usize = 16;
+
+/// A printed tree without its head: how many lines it has, and these, each ended by LF. The head says how many lines
+/// there are, so that it can be put in front only when all lines are known.
+#[derive(Drop)]
+pub struct PrintedTree {
+    pub lines: usize,
+    pub text: Chunk,
+}
 
 impl Engine<'_> {
     /// The tree of the text: one member for each segment. Only want of memory is an error. The work grows with the number of
@@ -24,12 +42,40 @@ impl Engine<'_> {
         let numbers = number_groups(alloc, directory)?;
         let mut tree = Vec::with_capacity(alloc, self.segment_count() as usize)?;
         for seen in self.segments() {
-            tree.push(TreeLine {
-                segment: seen.number,
-                tag: seen.record.tag(),
-                place: place_of(directory, &numbers, &seen),
-            })?;
+            tree.push(line_of(directory, &numbers, &seen))?;
         }
         Ok(tree)
+    }
+
+    /// The printed tree of the text: that of `tree`, with no list of its members. Only want of memory is an error. The work
+    /// grows with the number of segments, the nodes of the directory's tables and the octets that are printed.
+    pub fn print_tree(&self, alloc: Global) -> Result<PrintedTree, AllocError>
+        ensures printed { IfOk result (λ tree. count_line (codes "tree") tree.lines ++ tree.text
+            ≡ tree_text (tree_of self.now.directory self.now.text)) }
+        // What it shows of messages is what `tree` does.
+        ensures placed { AreMessagesPlaced self.now.directory self.now.text }
+    {
+        let directory = self.directory();
+        let numbers = number_groups(alloc, directory)?;
+        let room = (self.segment_count() as usize).saturating_mul(SEGMENT_ROOM);
+        let mut text = Chunk::with_room(alloc, room)?;
+        let mut lines = 0;
+        for seen in self.segments() {
+            lines += put_tree_line(&mut text, &line_of(directory, &numbers, &seen))?;
+        }
+        Ok(PrintedTree { lines, text })
+    }
+}
+
+// The member of the tree for a segment. `numbers` are those that `number_groups` gives of the directory.
+fn line_of(directory: &Directory, numbers: &[List<u16>], seen: &Seen<'_>) -> TreeLine
+    requires follows { Follows directory.now (seen_of seen.now) }
+    requires numbers { numbers.now ≡ map numbers_in (tables_of directory.now) }
+    ensures { result ≡ line_in_tree directory.now (seen_of seen.now) }
+{
+    TreeLine {
+        segment: seen.number,
+        tag: seen.record.tag(),
+        place: place_of(directory, numbers, seen),
     }
 }

@@ -3,7 +3,7 @@ use Rattle.std.proofs.Common.{◌≡◌, ℕ, ◌+◌, ◌*◌, ◌≤◌, List,
 use Rattle.std.specs.List.{flat_map, count_by}
 use Rattle.std.specs.Prelude.{cond}
 use Rattle.std.proofs.lemmas.List.{take-replicate, replicate-append-replicate}
-use Rattle.std.proofs.lemmas.List.Sums.{sum_by-cons}
+use Rattle.std.proofs.lemmas.List.Sums.{count_by-le-length, sum_by-cons}
 use Rattle.edi_tables.specs.declared.tag.Tag.{Tag}
 use Rattle.error_ledger.specs.declared.tree.TreeLine.{TreeLine}
 use Rattle.error_ledger.specs.declared.tree.TreePlace.{TreePlace}
@@ -36,3 +36,12 @@ pub lines_counted : (tree : List TreeLine) → length (flat_map tree_lines tree)
 lines_counted [] = refl
 lines_counted (t ∷ ts) =
     omega (arith, lines_counted ts, lines_of_one t.segment t.tag t.place, length-append (tree_lines t) (flat_map tree_lines ts), sum_by-cons (λ x. cond (opens_group x) 1 0) t ts)
+
+-- the lines of a segment, by how code tells that it opens a group
+pub lines_of_segment : (t : TreeLine) → length (tree_lines t) ≡ 1 + cond (opens_group t) 1 0
+lines_of_segment t = omega (arith, lines_of_one t.segment t.tag t.place)
+
+-- a segment has at most two lines
+pub lines_bounded : (tree : List TreeLine) → length (flat_map tree_lines tree) ≤ 2 * length tree
+lines_bounded tree =
+    omega (arith, lines_counted tree, count_by-le-length opens_group tree)

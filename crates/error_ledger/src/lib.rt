@@ -12,4 +12,4 @@ pub use error::{ErrorLine, order_errors};
 pub use error_text::print_errors;
 pub use kind::{Kind, code_of};
 pub use tree::{GroupMark, TreeLine, TreePlace};
-pub use tree_text::print_tree;
+pub use tree_text::{print_tree, put_tree_head, put_tree_line};

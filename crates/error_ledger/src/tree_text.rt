@@ -1,7 +1,8 @@
 //! The printed tree.
-ghost use Rattle.std.specs.Prelude.{◌≡◌, ◌+◌, ◌-◌, ◌*◌, ◌<◌, ◌≤◌, [], ◌∷◌, ◌++◌, All, count_by, length, IfOk, IfSome, OnOk};
+ghost use Rattle.std.specs.Prelude.{◌≡◌, ◌+◌, ◌-◌, ◌*◌, ◌<◌, ◌≤◌, [], ◌∷◌, ◌++◌, All, codes, count_by, length, IfOk, IfSome, OnOk};
 ghost use Rattle.std.specs.List.{flat_map};
 ghost use Rattle.error_ledger.specs.Printing.{
+  count_line,
   tree_text,
   tree_lines,
   ended_lines,
@@ -38,11 +39,30 @@ pub fn print_tree(alloc: Global, list: &[TreeLine]) -> Result<Chunk, AllocError>
 {
     let lines = count_lines(list);
     let mut out = room_for_lines(alloc, lines, TREE_LINE_ROOM)?;
-    put_count(&mut out, b"tree", lines)?;
+    put_tree_head(&mut out, lines)?;
     for line in list {
         put_segment(&mut out, line)?;
     }
     Ok(out)
+}
+
+/// Puts the head of a printed tree that has so many lines.
+pub fn put_tree_head(out: &mut Chunk, lines: usize) -> Result<(), AllocError>
+    ensures { OnOk result (out.new ≡ out.old ++ count_line (codes "tree") lines) }
+{
+    put_count(out, b"tree", lines)
+}
+
+/// Puts the lines of a segment in a printed tree, that of the group that it opens, if it opens one, and its own, and
+/// answers how many these are. A segment that opens a group lies in it, so that its depth is at least 1.
+#[tactic(auto, using(crate::proofs::PrintLemmas::lines_of_segment))]
+pub fn put_tree_line(out: &mut Chunk, line: &TreeLine) -> Result<usize, AllocError>
+    requires { IsWellPlaced line.now }
+    ensures printed { OnOk result (out.new ≡ out.old ++ ended_lines (tree_lines line.now)) }
+    ensures count { IfOk result (λ n. n ≡ length (tree_lines line.now)) }
+{
+    put_segment(out, line)?;
+    Ok(1 + usize::from(opens_group(line)))
 }
 
 // How many lines a tree has: one for each segment, and one for each group that is opened.

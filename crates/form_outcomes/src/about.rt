@@ -22,7 +22,7 @@ use dir_compile::Directory;
 use edi_engine::Engine;
 use edi_ports::Shelf;
 use edi_tables::Chunk;
-use error_ledger::{ErrorLine, print_errors, print_tree};
+use error_ledger::{ErrorLine, print_errors, put_tree_head};
 use run_opening::{Made, open_both};
 use std::alloc::{AllocError, Global};
 use std::marker::Brand;
@@ -78,7 +78,7 @@ fn tell_check(alloc: Global, directory: &Directory, octets: &[u8]) -> Made
     }
 }
 
-// A status, a printed error list and a printed tree.
+// A status, a printed error list with the head of a printed tree, and the lines of that tree.
 #[derive(Drop)]
 struct Printed {
     status: Status,
@@ -106,12 +106,14 @@ fn print_check<L: Ledger, M: Ledger>(
     let mut lexed = Steps::<L>::start(lexing);
     let mut placed = Steps::<M>::start(placing);
     let engine = Engine::open(directory, alloc, octets, &mut lexed, &mut placed)?;
-    let errors = engine.errors(alloc)?;
-    let tree = engine.tree(alloc)?;
+    let found = engine.errors(alloc)?;
+    let tree = engine.print_tree(alloc)?;
+    let mut errors = print_errors(alloc, &found)?;
+    put_tree_head(&mut errors, tree.lines)?;
     Ok(Printed {
-        status: found_if(&errors),
-        errors: print_errors(alloc, &errors)?,
-        tree: print_tree(alloc, &tree)?,
+        status: found_if(&found),
+        errors,
+        tree: tree.text,
     })
 }
 

@@ -6,7 +6,7 @@ use Rattle.segment_walk.specs.Look.{seen_of}
 use Rattle.segment_walk.specs.Seen.{Follows, seen_in}
 use Rattle.segment_walk.specs.Told.{line_in_tree}
 use Rattle.edi_engine.proofs.Passing.{map_done, map_left, rest_all}
-use Rattle.segment_walk.proofs.TreePlaces.{line_is, well_all}
+use Rattle.segment_walk.proofs.TreePlaces.{well_all}
 use Rattle.edi_engine.proofs.Treed.{tree_is}
 use Rattle.edi_engine.proofs.engine.Engine.tree.Goals as goal
 
@@ -17,7 +17,7 @@ loop-seen-preserved c =
     let step = c.in-Some.ensures.steps in
     record {
       left = map_left _ seen c.next.new.self step (line_in_tree dir) c.loop-seen.tree.items c.push.new.self.items _ _ c.in_ok-push.ensures.items
-          (line_is dir seen c.tag.result c.place_of.result c.tag.ensures c.place_of.ensures) c.loop-seen.invariant.left;
+          c.line_of.ensures c.loop-seen.invariant.left;
       follow = rest_all _ seen c.next.new.self step (Follows dir) c.loop-seen.invariant.follow;
     }
 

@@ -3,6 +3,7 @@ ghost use Rattle.std.specs.Prelude.{◌≡◌, ◌+◌, ◌<◌, ◌≤◌, ℕ,
 ghost use Rattle.edi_octets.specs.declared.octets.Octets.{Ghosts};
 ghost use Rattle.seg_lexer.specs.Service.{IsUsable};
 ghost use Rattle.seg_lexer.specs.declared.TheConstants.{LONGEST_TEXT};
+ghost use Rattle.segment_check.specs.Clean.{AreClean};
 ghost use Rattle.segment_records.specs.Records.{IsModeOf, kept_of};
 ghost use Rattle.segment_records.specs.Seen.{local_in, missing_in};
 ghost use Rattle.segment_records.specs.Segments.{segment_read};
@@ -12,8 +13,9 @@ use crate::step::take_step;
 use dir_compile::Directory;
 use edi_octets::Octets;
 use edi_tables::Tag;
-use element_check::{LocalError, check_components};
+use element_check::LocalError;
 use seg_lexer::{Context, fields};
+use segment_check::CleanSegments;
 use seq_tree::Measured;
 use smallvec::SmallVec;
 use std::alloc::{AllocError, Global};
@@ -89,7 +91,8 @@ impl Measured for Record {
 
 impl Record {
     /// Reads the segment at a place of a text after a mode: its local errors, and where it is in its message. At most one
-    /// call of the walk is counted. Only want of memory is an error.
+    /// call of the walk is counted. Only want of memory is an error. `clean` are segments of the text in which nothing is
+    /// wrong by themselves, and then the segment too, if nothing is.
     pub fn read<O: Octets, L: Ledger>(
         alloc: Global,
         directory: &Directory,
@@ -97,6 +100,7 @@ impl Record {
         before: &Mode,
         text: &O,
         place: Place,
+        clean: &mut CleanSegments,
         placed: &mut Steps<L>,
     ) -> Result<Record, AllocError>
         requires usable { IsUsable context.now.service (O.octets text.now) }
@@ -105,17 +109,19 @@ impl Record {
         requires ordered { place.start ≤ place.end }
         requires within { place.end < length (O.octets text.now) }
         requires mode { IsModeOf directory.now 4194303 before.now }
+        requires clean { AreClean directory.now context.now (O.octets text.now) clean.old }
         ensures kept { IfOk result (λ kept. kept ≡ kept_of directory.now context.now before.now
             (segment_read
             context.now.service (O.octets text.now) place.from place.start place.end)) }
         ensures mode { (most : ℕ)
             → IsModeOf directory.now most before.now
             → IfOk result (λ kept. IsModeOf directory.now (most + 1) kept.step.after) }
+        ensures clean { AreClean directory.now context.now (O.octets text.now) clean.new }
         ensures counted { placed.new ≤ placed.old + 1 }
     {
         let Place { from, start, end } = place;
+        let (tag, local) = clean.check(alloc, directory, context, text, start, end)?;
         let components = fields(text, &context.service, start, end);
-        let (tag, local) = check_components(alloc, directory, context, components)?;
         let step = take_step(alloc, directory, before, tag, components, placed)?;
         Ok(Record {
             octets: (end + 1 - from) as u32,

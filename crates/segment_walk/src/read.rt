@@ -16,6 +16,7 @@ ghost use Rattle.segment_walk.specs.Seen.{kept_in};
 use dir_compile::Directory;
 use edi_octets::{Flat, Octets};
 use seg_lexer::{Context, Lexed, next_segment, read_context};
+use segment_check::CleanSegments;
 use segment_records::{Mode, Place, Record};
 use std::alloc::{AllocError, Global};
 use std::sync::ledger::Ledger;
@@ -55,11 +56,14 @@ pub fn read_records<O: Octets, L: Ledger, M: Ledger>(
 {
     let room = text.len().saturating_sub(from) / SHORT_SEGMENT;
     let mut records = Vec::with_capacity(alloc, room)?;
+    let mut clean = CleanSegments::none(alloc)?;
     let mut from = from;
     while let Lexed::Ended { start, end } = next_segment(text, &context.service, from, lexed) {
         let place = Place { from, start, end };
         let mode = mode_after(before, &records);
-        let record = Record::read(alloc, directory, context, mode, text, place, placed)?;
+        let record = Record::read(
+            alloc, directory, context, mode, text, place, &mut clean, placed,
+        )?;
         records.push(record)?;
         from = end + 1;
     }

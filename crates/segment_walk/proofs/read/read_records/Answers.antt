@@ -47,6 +47,7 @@ loop-start-preserved g c =
           read c.push.new.self.items _ c.in_ok-record.record
           (c.in_ok-record.ensures.kept ∙ ap (λ (mode : Mode). kept_of dir context mode (segment_read context.service text c.loop-start.from c.in-Ended.start c.in-Ended.end)) is)
           c.in_ok-push.ensures.items c.loop-start.invariant.records);
+      clean = c.read.ensures.clean;
       lexed = omega (arith, c.in-Ended.ensures.counted, c.loop-start.invariant.lexed);
       placed = omega (arith, c.in_ok-record.ensures.counted, c.loop-start.invariant.placed);
     }

@@ -1,5 +1,6 @@
 use Rattle.std.proofs.Common.{◌≡◌, ◌+◌, ◌-◌, ◌++◌, ◌≤◌, drop, length}
 use Rattle.seg_lexer.specs.Segments.{IsBoundary}
+use Rattle.segment_check.specs.Clean.{AreClean}
 use Rattle.segment_records.specs.Records.{IsModeOf, records_from}
 use Rattle.segment_walk.proofs.LastMode.{last_mode}
 use Rattle.segment_walk.proofs.Rests.{rest_count}
@@ -12,6 +13,7 @@ invariant-loop-start g l = record {
   mode : IsModeOf l.directory l.from (last_mode l.fn.before l.records.items);
   records : l.records.items ++ records_from l.directory l.context (last_mode l.fn.before l.records.items) (drop l.from (g.O.Octets.octets l.text))
       ≡ records_from l.directory l.context l.fn.before (drop l.fn.from (g.O.Octets.octets l.text));
+  clean : AreClean l.directory l.context (g.O.Octets.octets l.text) l.clean;
   lexed : l.lexed + rest_count l.context.service (g.O.Octets.octets l.text) l.from
       ≤ l.initial.lexed + rest_count l.context.service (g.O.Octets.octets l.text) l.fn.from;
   placed : l.placed + rest_count l.context.service (g.O.Octets.octets l.text) l.from

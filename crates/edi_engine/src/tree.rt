@@ -16,8 +16,8 @@ use error_ledger::{TreeLine, put_tree_line};
 use segment_walk::{Seen, number_groups, place_of};
 use std::alloc::{AllocError, Global};
 
-/// Room for the lines of a segment: most have 8 to 20 octets.
-const SEGMENT_ROOM: usize = 16;
+/// Room for the lines of a segment: most have 8 to 20 octets, and some open a group, which is a line more.
+const SEGMENT_ROOM: usize = 24;
 
 /// A printed tree without its head: how many lines it has, and these, each ended by LF. The head says how many lines
 /// there are, so that it can be put in front only when all lines are known.

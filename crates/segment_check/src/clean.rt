@@ -53,8 +53,9 @@ impl Model for CleanSegments {
 impl CleanSegments {
     /// None yet.
     pub fn none(alloc: Global) -> Result<CleanSegments, AllocError>
-        ensures { (directory : Parts) (context : Context) (text : List ℕ)
-            → IfOk result (λ clean. AreClean directory context text clean) }
+        ensures { IfOk result
+            (λ clean. (directory : Parts) (context : Context) (text : List ℕ)
+            → AreClean directory context text clean) }
     {
         Ok(CleanSegments {
             places: Vec::from_elem(alloc, None, PLACES)?,

@@ -1,5 +1,5 @@
-use Rattle.std.proofs.Common.{◌≡◌, ◌+◌, ◌++◌, drop, sym, ap, ◌∙◌, subst, arith}
-use Rattle.segment_records.specs.Records.{IsModeOf, kept_of, records_from}
+use Rattle.std.proofs.Common.{◌≡◌, ◌+◌, ◌++◌, List, [], drop, refl, sym, ap, ◌∙◌, subst, arith}
+use Rattle.segment_records.specs.Records.{IsModeOf, Kept, kept_of, records_from}
 use Rattle.segment_records.specs.Segments.{segment_read}
 use Rattle.segment_records.specs.declared.mode.Mode.{Mode}
 use Rattle.segment_records.proofs.BodyLaws.{whole_then_more}
@@ -22,6 +22,21 @@ returns-in_err-push-clause-placed g c =
     let lexed = c.in-Ended.ensures.lexed c.loop-start.invariant.boundary.0 c.loop-start.invariant.boundary.1 in
     let count = count_next c.args.directory.now c.args.context.now (g.O.Octets.octets c.args.text.now) c.requires.usable before before _ _ _ c.loop-start.invariant.boundary lexed in
     omega (arith, c.read.ensures.counted, c.loop-start.invariant.placed)
+
+pub loop-start-init : goal.loop-start-init
+loop-start-init g c =
+    let dir = c.args.directory.now in
+    let context = c.args.context.now in
+    let text = g.O.Octets.octets c.args.text.now in
+    let none : c.in_ok-records.records.items ≡ [] = c.in_ok-records.ensures.items in
+    record {
+      boundary = c.requires.boundary;
+      mode = subst (λ (read : List Kept). IsModeOf dir c.args.from (last_mode c.args.before.now read)) (sym none) c.requires.mode;
+      records = subst (λ (read : List Kept). read ++ records_from dir context (last_mode c.args.before.now read) (drop c.args.from text) ≡ records_from dir context c.args.before.now (drop c.args.from text)) (sym none) refl;
+      clean = c.in_ok-clean.ensures dir context text;
+      lexed = omega arith;
+      placed = omega arith;
+    }
 
 pub loop-start-preserved : goal.loop-start-preserved
 loop-start-preserved g c =

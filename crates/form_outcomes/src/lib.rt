@@ -2,14 +2,14 @@
 #![tactic(auto)]
 
 mod about;
-mod decide;
 mod directory;
 mod drill;
 mod form;
 mod help;
+mod outcome;
 mod text;
 
-pub use decide::decide;
 pub use form::{Form, Question, read_form};
+pub use outcome::decide;
 pub use script_answers::Status;
 pub use text_printer::Detail;

@@ -64,10 +64,27 @@ impl<'d> Engine<'d> {
         ensures lexed { lexed.new ≤ lexed.old + (segment_count_of octets.now + 2) }
         ensures placed { placed.new ≤ placed.old + segment_count_of octets.now }
     {
+        Engine::open_vec(directory, alloc, octets.to_vec(alloc)?, lexed, placed)
+    }
+
+    /// Reads a text, which it keeps. Each call of the lexer and of the walk is counted. Only want of memory is an error.
+    pub fn open_vec<L: Ledger, M: Ledger>(
+        directory: &'d Directory,
+        alloc: Global,
+        octets: Vec<u8>,
+        lexed: &mut Steps<L>,
+        placed: &mut Steps<M>,
+    ) -> Result<Engine<'d>, AllocError>
+        requires { length octets.items ≤ 4194304 }
+        ensures opened { IfOk result
+            (λ e. e ≡ record { directory = directory.now; text = octets.items }) }
+        ensures lexed { lexed.new ≤ lexed.old + (segment_count_of octets.items + 2) }
+        ensures placed { placed.new ≤ placed.old + segment_count_of octets.items }
+    {
         // What it keeps is of a directory.
         let _parts = directory.parts();
-        let text = Text::of_bytes(alloc, octets)?;
-        let (context, records) = read_text(alloc, directory, octets, lexed, placed)?;
+        let (context, records) = read_text(alloc, directory, &octets, lexed, placed)?;
+        let text = Text::of_vec(alloc, octets)?;
         Ok(Engine {
             directory,
             text,

@@ -47,16 +47,16 @@ pub fn tell_about<S: Shelf>(
     ensures steady { S.is_steady shelf.old → result.status ≢ Status.ReadFault }
 {
     match open_both(alloc, manifest, text, shelf) {
-        Ok(opening) => tell(alloc, question, &opening.directory, &opening.text),
+        Ok(opening) => tell(alloc, question, &opening.directory, opening.text),
         Err(made) => made,
     }
 }
 
 // The answer to a question about a text, by a directory.
-fn tell(alloc: Global, question: Question<'_>, directory: &Directory, octets: &[u8]) -> Made
+fn tell(alloc: Global, question: Question<'_>, directory: &Directory, octets: Vec<u8>) -> Made
     requires lawful { IsLawfulQuestion (question_shown question) }
-    requires short { length octets.now ≤ 4194304 }
-    ensures { (result ≡ told_of (question_shown question.entry) directory.now octets.now)
+    requires short { length octets.items ≤ 4194304 }
+    ensures { (result ≡ told_of (question_shown question.entry) directory.now octets.items)
         ⊎ (result ≡ memory_refused) }
 {
     match question {
@@ -68,9 +68,9 @@ fn tell(alloc: Global, question: Question<'_>, directory: &Directory, octets: &[
 }
 
 // The errors and the tree of a text, by a directory.
-fn tell_check(alloc: Global, directory: &Directory, octets: &[u8]) -> Made
-    requires { length octets.now ≤ 4194304 }
-    ensures { (result ≡ checked_text directory.now octets.now) ⊎ (result ≡ memory_refused) }
+fn tell_check(alloc: Global, directory: &Directory, octets: Vec<u8>) -> Made
+    requires { length octets.items ≤ 4194304 }
+    ensures { (result ≡ checked_text directory.now octets.items) ⊎ (result ≡ memory_refused) }
 {
     match print_check::<Brand, Brand>(alloc, directory, octets, Blank::new(1), Blank::new(1)) {
         Ok(printed) => Made::headed(printed.status, printed.errors, printed.tree),
@@ -89,11 +89,11 @@ struct Printed {
 fn print_check<L: Ledger, M: Ledger>(
     alloc: Global,
     directory: &Directory,
-    octets: &[u8],
+    octets: Vec<u8>,
     lexing: Blank,
     placing: Blank,
 ) -> Result<Printed, AllocError>
-    requires short { length octets.now ≤ 4194304 }
+    requires short { length octets.items ≤ 4194304 }
     requires lexing_name { lexing.name ≡ L.name }
     requires lexing_parts { lexing.parts ≡ L.parts }
     requires lexing_some { 0 < lexing.parts }
@@ -101,11 +101,11 @@ fn print_check<L: Ledger, M: Ledger>(
     requires placing_parts { placing.parts ≡ M.parts }
     requires placing_some { 0 < placing.parts }
     ensures { IfOk result (λ p. record { status = p.status; output = p.errors ++ p.tree }
-        ≡ checked_text directory.now octets.now) }
+        ≡ checked_text directory.now octets.items) }
 {
     let mut lexed = Steps::<L>::start(lexing);
     let mut placed = Steps::<M>::start(placing);
-    let engine = Engine::open(directory, alloc, octets, &mut lexed, &mut placed)?;
+    let engine = Engine::open_vec(directory, alloc, octets, &mut lexed, &mut placed)?;
     let found = engine.errors(alloc)?;
     let tree = engine.print_tree(alloc)?;
     let mut errors = print_errors(alloc, &found)?;
@@ -135,12 +135,12 @@ fn tell_contrl(
     stamp: &Stamp,
     reference: &[u8],
     directory: &Directory,
-    octets: &[u8],
+    octets: Vec<u8>,
 ) -> Made
     requires stamp { IsStamp stamp.now }
     requires reference { IsTrue (is_reference_of reference.now) }
-    requires short { length octets.now ≤ 4194304 }
-    ensures { (result ≡ answered (contrl_to directory.now octets.now stamp.now reference.now))
+    requires short { length octets.items ≤ 4194304 }
+    ensures { (result ≡ answered (contrl_to directory.now octets.items stamp.now reference.now))
         ⊎ (result ≡ memory_refused) }
 {
     let made = make_contrl::<Brand, Brand>(
@@ -163,13 +163,13 @@ fn make_contrl<L: Ledger, M: Ledger>(
     stamp: &Stamp,
     reference: &[u8],
     directory: &Directory,
-    octets: &[u8],
+    octets: Vec<u8>,
     lexing: Blank,
     placing: Blank,
 ) -> Result<Contrl, AllocError>
     requires stamp { IsStamp stamp.now }
     requires reference { IsTrue (is_reference_of reference.now) }
-    requires short { length octets.now ≤ 4194304 }
+    requires short { length octets.items ≤ 4194304 }
     requires lexing_name { lexing.name ≡ L.name }
     requires lexing_parts { lexing.parts ≡ L.parts }
     requires lexing_some { 0 < lexing.parts }
@@ -177,11 +177,13 @@ fn make_contrl<L: Ledger, M: Ledger>(
     requires placing_parts { placing.parts ≡ M.parts }
     requires placing_some { 0 < placing.parts }
     ensures { IfOk result (λ answer. answer
-        ≡ contrl_to directory.now octets.now stamp.now reference.now) }
+        ≡ contrl_to directory.now octets.items stamp.now reference.now) }
 {
     let mut lexed = Steps::<L>::start(lexing);
     let mut placed = Steps::<M>::start(placing);
-    Engine::open(directory, alloc, octets, &mut lexed, &mut placed)?.contrl(alloc, stamp, reference)
+    Engine::open_vec(directory, alloc, octets, &mut lexed, &mut placed)?.contrl(
+        alloc, stamp, reference,
+    )
 }
 
 // The octets of an acknowledgement and nothing else; or that there is no UNB, or a bad one.

@@ -2,7 +2,6 @@
 
 ghost use Rattle.std.specs.Prelude.{◌≡◌, ◌^◌, ◌<◌, ◌≤◌, length, slice_range, IfOk};
 
-use edi_tables::Chunk;
 use seq_tree::Measured;
 use std::alloc::{AllocError, Global};
 use std::marker::Model;
@@ -11,7 +10,7 @@ use std::rc::Rc;
 /// One octet or more, seen as their list.
 #[derive(Debug, Drop)]
 pub(crate) struct Piece {
-    octets: Rc<Chunk>,
+    octets: Rc<Vec<u8>>,
     from: u32,
     to: u32,
 }
@@ -21,22 +20,22 @@ impl Model for Piece {
 
     ghost Value = { List ℕ };
 
-    ghost view = { λ piece. slice_range piece.octets.value piece.from piece.to };
+    ghost view = { λ piece. slice_range piece.octets.value.items piece.from piece.to };
 
     ghost invariant = { λ piece. (piece.from < piece.to)
-        × (piece.to ≤ length piece.octets.value)
+        × (piece.to ≤ length piece.octets.value.items)
         × (piece.to < 2 ^ 32) };
 }
 
 impl Piece {
     /// A piece of all these octets. After an error they are dropped.
     #[tactic(auto, using(crate::proofs::Ranges::range_all))]
-    pub(crate) fn of(alloc: Global, octets: Chunk) -> Result<Piece, AllocError>
-        requires some { 0 < length octets }
-        requires short { length octets < 2 ^ 32 }
-        ensures { IfOk result (λ piece. piece ≡ octets) }
+    pub(crate) fn of(alloc: Global, octets: Vec<u8>) -> Result<Piece, AllocError>
+        requires some { 0 < length octets.items }
+        requires short { length octets.items < 2 ^ 32 }
+        ensures { IfOk result (λ piece. piece ≡ octets.items) }
     {
-        let to = octets.octets().len() as u32;
+        let to = octets.len() as u32;
         Ok(Piece {
             octets: Rc::new(alloc, octets)?,
             from: 0,
@@ -48,7 +47,7 @@ impl Piece {
     pub(crate) fn octets(&self) -> &[u8]
         ensures { result.now ≡ self.now }
     {
-        &self.octets.octets()[self.from as usize..self.to as usize]
+        &self.octets[self.from as usize..self.to as usize]
     }
 
     /// A part of it, which shares its octets. It takes no memory: the error is that of an `Rc` whose count is full.

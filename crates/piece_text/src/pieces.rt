@@ -5,7 +5,6 @@ ghost use Rattle.std.specs.List.{concat};
 ghost use Rattle.piece_text.specs.Pieces.{AreFull, IsSplit};
 
 use crate::piece::Piece;
-use edi_tables::Chunk;
 use seq_tree::{Located, Seq};
 use std::alloc::{AllocError, Global};
 use std::marker::Brand;
@@ -49,12 +48,12 @@ fn locate_counted<L: Ledger>(pieces: &Seq<Piece>, at: usize, blank: Blank) -> Lo
 }
 
 /// One piece of these octets; no piece where there are none.
-pub(crate) fn of_chunk(alloc: Global, octets: Chunk) -> Result<Seq<Piece>, AllocError>
-    requires short { length octets ≤ 4194304 }
-    ensures text { IfOk result (λ pieces. concat pieces ≡ octets) }
+pub(crate) fn of_vec(alloc: Global, octets: Vec<u8>) -> Result<Seq<Piece>, AllocError>
+    requires short { length octets.items ≤ 4194304 }
+    ensures text { IfOk result (λ pieces. concat pieces ≡ octets.items) }
     ensures full { IfOk result AreFull }
 {
-    if octets.octets().is_empty() {
+    if octets.is_empty() {
         return Seq::of_items(alloc, Vec::new(alloc));
     }
     let piece = Piece::of(alloc, octets)?;
@@ -70,11 +69,11 @@ fn single(alloc: Global, piece: Piece) -> Result<Seq<Piece>, AllocError>
 }
 
 /// Puts the octets of all pieces at the end.
-pub(crate) fn add_all(octets: &mut Chunk, pieces: &Seq<Piece>) -> Result<(), AllocError>
-    ensures { OnOk result (octets.new ≡ octets.old ++ concat pieces.now) }
+fn add_all(octets: &mut Vec<u8>, pieces: &Seq<Piece>) -> Result<(), AllocError>
+    ensures { OnOk result (octets.new.items ≡ octets.old.items ++ concat pieces.now) }
 {
     for piece in pieces.iter() {
-        octets.add(piece.octets())?;
+        octets.extend_from_slice(piece.octets())?;
     }
     Ok(())
 }
@@ -212,11 +211,11 @@ fn run_of(
     ensures full { IfOk result AreFull }
 {
     let count = octet_count(last) + put.len() + octet_count(first);
-    let mut octets = Chunk::with_room(alloc, count)?;
+    let mut octets = Vec::with_capacity(alloc, count)?;
     add_all(&mut octets, last)?;
-    octets.add(put)?;
+    octets.extend_from_slice(put)?;
     add_all(&mut octets, first)?;
-    of_chunk(alloc, octets)
+    of_vec(alloc, octets)
 }
 
 /// The pieces of all three.

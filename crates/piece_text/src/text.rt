@@ -1,9 +1,10 @@
 //! The text that callers see: a list of octets, of which an edit makes a new version.
 
-ghost use Rattle.std.specs.Prelude.{◌≡◌, ◌+◌, ◌-◌, ◌<◌, ◌≤◌, ◌++◌, length, take, drop, slice_range, IfOk};
+ghost use Rattle.std.specs.Prelude.{◌≡◌, ◌+◌, ◌-◌, ◌<◌, ◌≤◌, ◌++◌, length, take, drop, slice_range, IfOk, OnOk};
+ghost use Rattle.std.specs.List.{concat};
 
 use crate::piece::Piece;
-use crate::pieces::{add_all, locate, octet_count, of_chunk, split, weld};
+use crate::pieces::{locate, octet_count, of_vec, split, weld};
 use crate::view::View;
 use edi_tables::Chunk;
 use seq_tree::Seq;
@@ -45,8 +46,15 @@ impl Text {
         requires { length octets.now ≤ 4194304 }
         ensures { IfOk result (λ text. text ≡ octets.now) }
     {
-        let octets = Chunk::of(alloc, octets)?;
-        let pieces = of_chunk(alloc, octets)?;
+        Text::of_vec(alloc, octets.to_vec(alloc)?)
+    }
+
+    /// A text of these octets, which it keeps. After an error they are dropped.
+    pub fn of_vec(alloc: Global, octets: Vec<u8>) -> Result<Text, AllocError>
+        requires { length octets.items ≤ 4194304 }
+        ensures { IfOk result (λ text. text ≡ octets.items) }
+    {
+        let pieces = of_vec(alloc, octets)?;
         Ok(Text { pieces })
     }
 
@@ -104,4 +112,14 @@ impl Text {
         let located = locate(&self.pieces, at);
         &located.item.octets()[located.offset as usize..]
     }
+}
+
+// Puts the octets of all pieces at the end.
+fn add_all(octets: &mut Chunk, pieces: &Seq<Piece>) -> Result<(), AllocError>
+    ensures { OnOk result (octets.new ≡ octets.old ++ concat pieces.now) }
+{
+    for piece in pieces.iter() {
+        octets.add(piece.octets())?;
+    }
+    Ok(())
 }

@@ -6,11 +6,11 @@ use Rattle.form_outcomes.proofs.about.tell_about.Goals as goal
 pub returns-in-Ok-clause-due : goal.returns-in-Ok-clause-due
 returns-in-Ok-clause-due g c =
     asked_opened (question_shown c.args.question) c.args.manifest.now c.args.text.now (g.S.Shelf.files c.args.shelf.now) c.in-Ok.opening.directory c.in-Ok.opening.text.items _ c.tell.result
-    c.in-Ok.ensures.opening (rw c.deref.ensures.value at c.tell.ensures)
+    c.in-Ok.ensures.opening c.tell.ensures
 
 pub returns-in-Ok-clause-steady : goal.returns-in-Ok-clause-steady
 returns-in-Ok-clause-steady g c =
-    λ steady. told_of-steady (question_shown c.args.question) c.in-Ok.opening.directory c.deref.result.now c.tell.result c.tell.ensures
+    λ steady. told_of-steady (question_shown c.args.question) c.in-Ok.opening.directory c.in-Ok.opening.text.items c.tell.result c.tell.ensures
 
 pub returns-in-Err-clause-due : goal.returns-in-Err-clause-due
 returns-in-Err-clause-due g c =

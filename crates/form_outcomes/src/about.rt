@@ -23,7 +23,7 @@ use edi_engine::Engine;
 use edi_ports::Shelf;
 use edi_tables::Chunk;
 use error_ledger::{ErrorLine, print_errors, put_tree_head};
-use run_opening::{Made, open_both};
+use run_opening::{Made, Opening, open_both};
 use std::alloc::{AllocError, Global};
 use std::marker::Brand;
 use std::sync::ledger::{Blank, Ledger};
@@ -47,22 +47,24 @@ pub fn tell_about<S: Shelf>(
     ensures steady { S.is_steady shelf.old → result.status ≢ Status.ReadFault }
 {
     match open_both(alloc, manifest, text, shelf) {
-        Ok(opening) => tell(alloc, question, &opening.directory, opening.text),
+        Ok(opening) => tell(alloc, question, opening),
         Err(made) => made,
     }
 }
 
-// The answer to a question about a text, by a directory.
-fn tell(alloc: Global, question: Question<'_>, directory: &Directory, octets: Vec<u8>) -> Made
+// The answer to a question about the text that was read, by the directory.
+fn tell(alloc: Global, question: Question<'_>, opening: Opening) -> Made
     requires lawful { IsLawfulQuestion (question_shown question) }
-    requires short { length octets.items ≤ 4194304 }
-    ensures { (result ≡ told_of (question_shown question.entry) directory.now octets.items)
+    requires short { length opening.text.items ≤ 4194304 }
+    ensures { (result
+        ≡ told_of (question_shown question.entry) opening.directory opening.text.items)
         ⊎ (result ≡ memory_refused) }
 {
+    let Opening { directory, text } = opening;
     match question {
-        Question::Errors => tell_check(alloc, directory, octets),
+        Question::Errors => tell_check(alloc, &directory, text),
         Question::Answer { stamp, reference } => {
-            tell_contrl(alloc, &stamp, reference, directory, octets)
+            tell_contrl(alloc, &stamp, reference, &directory, text)
         }
     }
 }

@@ -7,7 +7,7 @@ use edi_octets::Octets;
 use std::marker::Model;
 
 /// What a text lends of `at..to`: a part that begins there, and that is empty only where the stretch is.
-#[inline(never)]
+#[inline]
 pub fn lend<O: Octets>(text: &O, at: usize, to: usize) -> &[u8]
     requires ordered { at ≤ to }
     requires within { to ≤ length (O.octets text.now) }

@@ -1,8 +1,8 @@
 -- The lines of the printed lists, one after another.
-use Rattle.std.proofs.Common.{◌≡◌, ℕ, ◌+◌, ◌*◌, ◌≤◌, List, [], ◌∷◌, ◌++◌, Option, Some, None, length, replicate, take, refl, sym, ap, ◌∙◌, arith, length-append}
+use Rattle.std.proofs.Common.{◌≡◌, ℕ, ◌+◌, ◌*◌, ◌≤◌, List, [], ◌∷◌, ◌++◌, Option, Some, None, length, replicate, refl, sym, ap, ◌∙◌, arith, length-append}
 use Rattle.std.specs.List.{flat_map, count_by}
 use Rattle.std.specs.Prelude.{cond}
-use Rattle.std.proofs.lemmas.List.{take-replicate, replicate-append-replicate}
+use Rattle.std.proofs.lemmas.List.{replicate-append-replicate}
 use Rattle.std.proofs.lemmas.List.Sums.{count_by-le-length, sum_by-cons}
 use Rattle.edi_tables.specs.declared.tag.Tag.{Tag}
 use Rattle.error_ledger.specs.declared.tree.TreeLine.{TreeLine}
@@ -16,12 +16,6 @@ pub indentation_more : (groups : ℕ) → indentation (groups + 1) ≡ indentati
 indentation_more groups =
     let more : 2 * (groups + 1) ≡ 2 * groups + 2 = omega arith in
     ap (λ (n : ℕ). replicate n 32) more ∙ sym (replicate-append-replicate (2 * groups) 2 32)
-
--- the indentation of at most 16 groups is the front of 32 spaces
-pub indentation_at_once : (groups : ℕ) → groups ≤ 16 → take (2 * groups) (replicate 32 32) ≡ indentation groups
-indentation_at_once groups within =
-    let fits : 2 * groups ≤ 32 = omega (arith, within) in
-    take-replicate (2 * groups) 32 32 fits
 
 -- a segment has a second line where it opens a group
 lines_of_one : (k : ℕ) (tag : Option Tag) (place : TreePlace) → length (lines_at k tag place) ≡ cond (opens_at place) 1 0 + 1

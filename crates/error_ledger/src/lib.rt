@@ -4,6 +4,7 @@
 mod error;
 mod error_text;
 mod kind;
+mod line;
 mod put;
 mod tree;
 mod tree_text;

@@ -39,15 +39,16 @@ pub(crate) fn put_number(out: &mut Chunk, n: u32) -> Result<(), AllocError>
     out.add(b" ")
 }
 
-/// A space, a tag, or `---` where there is none, and the octet that ends it.
+/// What `tag_octets` gives.
 pub(crate) fn put_tag(out: &mut Chunk, tag: Option<Tag>, end: u8) -> Result<(), AllocError>
     ensures { OnOk result (out.new ≡ out.old ++ (codes " " ++ tag_shown tag ++ end ∷ [])) }
 {
     out.add(&tag_octets(tag, end))
 }
 
-// What `put_tag` puts.
-fn tag_octets(tag: Option<Tag>, end: u8) -> [u8; 5]
+/// A space, a tag, or `---` where there is none, and the octet that ends it.
+#[inline]
+pub(crate) fn tag_octets(tag: Option<Tag>, end: u8) -> [u8; 5]
     ensures { result ≡ codes " " ++ tag_shown tag ++ end ∷ [] }
 {
     match tag {

@@ -15,20 +15,17 @@ ghost use Rattle.error_ledger.specs.Printing.{
 };
 ghost use Rattle.error_ledger.specs.TreeCount.{opens_group as opens_in_tree};
 
-use crate::put::{put_count, put_tag, room_for_lines};
+use crate::line::Line;
+use crate::put::{put_count, room_for_lines, tag_octets};
 use crate::tree::{GroupMark, TreeLine, TreePlace};
-use edi_octets::put_decimal;
 use edi_tables::{Chunk, Tag};
 use std::alloc::{AllocError, Global};
 
 /// Room for a line of a tree: most lines have 8 to 20 octets.
 const TREE_LINE_ROOM: usize = 16;
 
-/// The most groups round a line whose indentation is put at once.
+/// The most groups round a line whose indentation is laid out with it.
 const MOST_GROUPS: u8 = 16;
-
-/// The indentation of that many groups.
-const SPACES: [u8; 32] = [b' '; 32];
 
 /// The printed form of a tree: how many lines it has, and for each segment the line of the group that it opens, if
 /// it opens one, and its own. A segment that opens a group lies in it, so that its depth is at least 1.
@@ -102,32 +99,42 @@ fn put_segment(out: &mut Chunk, line: &TreeLine) -> Result<(), AllocError>
             opens,
         } => {
             put_opening(out, depth, opens)?;
-            put_placed(out, line, entry, depth)
+            put_placed(out, line.segment, line.tag, entry, depth)
         }
     }
 }
 
-// The line of a segment that isn't placed, with its mark.
+// The line of a segment that isn't placed, with its mark of two octets.
+#[inline]
 fn put_marked(out: &mut Chunk, mark: &[u8], number: u32, tag: Option<Tag>) -> Result<(), AllocError>
+    requires { length mark.now ≤ 2 }
     ensures { OnOk result (out.new ≡ out.old ++ (mark.now ++ numbered number tag ++ 10 ∷ [])) }
 {
-    out.add(mark)?;
-    put_decimal(out, u64::from(number))?;
-    put_tag(out, tag, b'\n')
+    let mut line = Line::empty();
+    line.put(&tag_octets(tag, b'\n'));
+    line.put_number(number);
+    line.put(mark);
+    out.add(line.octets())
 }
 
 // The line of a segment at its entry.
 #[tactic(auto, unfolding(crate::specs::Printing::placed_line))]
-fn put_placed(out: &mut Chunk, line: &TreeLine, entry: u16, depth: u8) -> Result<(), AllocError>
-    ensures { OnOk result
-        (out.new ≡ out.old ++ (placed_line line.now.segment line.now.tag entry depth ++ 10 ∷ [])) }
+fn put_placed(
+    out: &mut Chunk,
+    number: u32,
+    tag: Option<Tag>,
+    entry: u16,
+    depth: u8,
+) -> Result<(), AllocError>
+    ensures { OnOk result (out.new ≡ out.old ++ (placed_line number tag entry depth ++ 10 ∷ [])) }
 {
-    put_indentation(out, depth)?;
-    out.add(b"= ")?;
-    put_decimal(out, u64::from(line.segment))?;
-    put_tag(out, line.tag, b' ')?;
-    put_decimal(out, u64::from(entry))?;
-    out.add(b"\n")
+    let mut line = Line::empty();
+    line.put(b"\n");
+    line.put_number(u32::from(entry));
+    line.put(&tag_octets(tag, b' '));
+    line.put_number(number);
+    line.put(b"= ");
+    put_indented(out, &mut line, depth)
 }
 
 // The line of the group that an entry opens, if it opens one.
@@ -146,27 +153,30 @@ fn put_opening(out: &mut Chunk, depth: u8, opens: Option<GroupMark>) -> Result<(
 fn put_group(out: &mut Chunk, mark: GroupMark, depth: u8) -> Result<(), AllocError>
     ensures { OnOk result (out.new ≡ out.old ++ (group_line mark depth ++ 10 ∷ [])) }
 {
-    put_indentation(out, depth)?;
-    out.add(b"group ")?;
-    put_decimal(out, u64::from(mark.number))?;
-    out.add(b" ")?;
-    put_decimal(out, u64::from(mark.count))?;
-    out.add(b"\n")
+    let mut line = Line::empty();
+    line.put(b"\n");
+    line.put_number(mark.count);
+    line.put(b" ");
+    line.put_number(u32::from(mark.number));
+    line.put(b"group ");
+    put_indented(out, &mut line, depth)
 }
 
-// Two spaces for each group round what follows.
-#[tactic(auto, using(crate::proofs::PrintLemmas::indentation_at_once))]
-fn put_indentation(out: &mut Chunk, groups: u8) -> Result<(), AllocError>
-    ensures { OnOk result (out.new ≡ out.old ++ indentation groups) }
+// A line, after two spaces for each group round it. It is short enough for those of `MOST_GROUPS` groups.
+#[inline]
+fn put_indented(out: &mut Chunk, line: &mut Line, groups: u8) -> Result<(), AllocError>
+    requires { length line.old ≤ 32 }
+    ensures { OnOk result (out.new ≡ out.old ++ (indentation groups ++ line.old)) }
 {
-    if groups <= MOST_GROUPS {
-        out.add(&SPACES[..2 * usize::from(groups)])
-    } else {
-        put_deep_indentation(out, groups)
+    if groups > MOST_GROUPS {
+        put_deep_indentation(out, groups)?;
+        return out.add(line.octets());
     }
+    line.put_spaces(2 * usize::from(groups));
+    out.add(line.octets())
 }
 
-// The same for any number of groups.
+// Two spaces for each group, of which there may be any number.
 #[tactic(auto, using(crate::proofs::PrintLemmas::indentation_more))]
 fn put_deep_indentation(out: &mut Chunk, groups: u8) -> Result<(), AllocError>
     ensures { OnOk result (out.new ≡ out.old ++ indentation groups) }

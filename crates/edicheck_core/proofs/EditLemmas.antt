@@ -7,7 +7,7 @@ use Rattle.run_opening.specs.Begun.{IsScriptBegun}
 use Rattle.run_opening.specs.Opening.{IsOpening, IsToldOpening, Opened}
 use Rattle.edicheck_core.specs.Answer.{IsEdited}
 use Rattle.form_outcomes.specs.Due.{HasFailed}
-use Rattle.form_outcomes.specs.Form.{Asked, Edit}
+use Rattle.word_forms.specs.Form.{Asked, Edit}
 use Rattle.form_outcomes.specs.Inputs.{Inputs}
 
 -- a script was answered, or memory was refused before it

@@ -10,7 +10,7 @@ use Rattle.script_answers.specs.Script.{IsScriptAnswered}
 use Rattle.script_answers.specs.declared.status.Status.{Status}
 use Rattle.run_opening.specs.Opening.{IsOpening, IsUnopened, Opened}
 use Rattle.form_outcomes.specs.Due.{IsDue, Takes}
-use Rattle.form_outcomes.specs.Form.{Asked, Edit}
+use Rattle.word_forms.specs.Form.{Asked, Edit}
 use Rattle.form_outcomes.specs.Inputs.{Inputs}
 
 -- what a status says of a run that makes its whole output before it puts the first octet

@@ -7,7 +7,7 @@ ghost use Rattle.script_answers.specs.Script.{IsAnsweredWhole};
 ghost use Rattle.run_opening.specs.Opening.{IsToldOpening, Opened};
 ghost use Rattle.edicheck_core.specs.Answer.{IsEdited};
 ghost use Rattle.form_outcomes.specs.Due.{HasFailed};
-ghost use Rattle.form_outcomes.specs.Form.{Edit};
+ghost use Rattle.word_forms.specs.Form.{Edit};
 ghost use Rattle.form_outcomes.specs.Inputs.{inputs_of};
 ghost use Rattle.form_outcomes.specs.Made.{made_by};
 

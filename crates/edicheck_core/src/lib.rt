@@ -4,6 +4,5 @@
 mod edit;
 mod program;
 
-pub use form_outcomes::{Detail, Form, Question, read_form};
 pub use program::{refuse_memory, run};
 pub use script_answers::Status;

@@ -7,20 +7,22 @@ ghost use Rattle.script_answers.specs.Held.{held_of};
 ghost use Rattle.script_answers.specs.Outcome.{Outcome, memory_refused};
 ghost use Rattle.script_answers.specs.Script.{IsAnsweredWhole};
 ghost use Rattle.run_opening.specs.Opening.{IsToldOpening, Opened};
-ghost use Rattle.form_outcomes.specs.Form.{Asked, Edit, form_of, form_shown, needs_of};
+ghost use Rattle.word_forms.specs.Form.{Asked, Edit, form_of, form_shown, needs_of};
+ghost use Rattle.word_forms.specs.Lawful.{IsLawful};
 ghost use Rattle.form_outcomes.specs.Inputs.{inputs_of};
 ghost use Rattle.edicheck_core.specs.Answer.{IsAnswer, IsSettled};
 ghost use Rattle.form_outcomes.specs.Due.{HasFailed};
-ghost use Rattle.form_outcomes.specs.Lawful.{IsLawful, IsPlain};
 ghost use Rattle.form_outcomes.specs.Made.{made_by};
+ghost use Rattle.form_outcomes.specs.Plain.{IsPlain};
 
 use crate::Status;
 use crate::edit::edit_text;
 use edi_ports::{Shelf, Sink, Source};
 use edi_tables::Chunk;
-use form_outcomes::{Form, decide, read_form};
+use form_outcomes::decide;
 use run_opening::{Made, finish};
 use std::alloc::Global;
+use word_forms::{Form, read_form};
 
 /// Does what the words ask for, and tells how it ended.
 ///

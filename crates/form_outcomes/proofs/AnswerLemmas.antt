@@ -11,16 +11,12 @@ use Rattle.dir_load.specs.Load.{load_of}
 use Rattle.text_printer.specs.declared.text.Detail.{Detail}
 use Rattle.text_printer.specs.Printing.{printed_text}
 use Rattle.script_answers.specs.Outcome.{Outcome, done, memory_refused, too_large}
-use Rattle.script_answers.specs.declared.status.Status.TheVariants.{Done, Found, Memory, ReadFault}
+use Rattle.script_answers.specs.declared.status.Status.TheVariants.{Done, ReadFault}
 use Rattle.run_opening.specs.Begun.{IsLoaded, IsUnloaded}
-use Rattle.form_outcomes.specs.Due.{IsOneOf}
-use Rattle.contrl_writer.specs.declared.answer.Contrl.{Contrl}
-use Rattle.contrl_writer.specs.declared.answer.Contrl.TheVariants.{Octets, NoUnb, BadUnb}
-use Rattle.form_outcomes.specs.Form.{Question, Errors, Answer}
-use Rattle.form_outcomes.specs.Made.{after_loading, answered, found_if, listed, told_of}
-use Rattle.error_ledger.specs.declared.error.ErrorLine.{ErrorLine}
-use Rattle.edi_engine.specs.Errors.{errors_of}
-use Rattle.edi_engine.specs.Summary.{contrl_to}
+use Rattle.text_answers.specs.About.{after_loading}
+use Rattle.text_answers.specs.OneOf.{IsOneOf}
+use Rattle.text_answers.proofs.SteadyLemmas.{done_fails, memory_fails}
+use Rattle.form_outcomes.specs.Made.{listed}
 
 -- there are texts of every length
 long_text : (n : ℕ) → (text : List ℕ) × (length text ≡ n)
@@ -72,35 +68,8 @@ pub made_or_refused : (made due : Outcome) (Failed : Type 0) → (due ≡ made) 
 made_or_refused made due Failed (inl is) = inl (is, is)
 made_or_refused made due Failed (inr refused) = inr (inr (refused, tt))
 
-done_fails : Done ≡ ReadFault → ⊥
-done_fails is = cc
-
-memory_fails : Memory ≡ ReadFault → ⊥
-memory_fails is = cc
-
 -- printing doesn't come to a read fault
 pub printed-steady : {E : Type 0} (printed : Result (List ℕ) E) (due : Outcome)
     → MatchResult printed (λ lines. due ≡ record { status = Done; output = lines }) (λ _. due ≡ memory_refused) → due.status ≡ ReadFault → ⊥
 printed-steady (Ok lines) due made failed = let is = sym (ap (λ (o : Outcome). o.status) made) ∙ failed in absurd (done_fails is)
 printed-steady (Err e) due made failed = let is = sym (ap (λ (o : Outcome). o.status) made) ∙ failed in absurd (memory_fails is)
-
-found_fails : Found ≡ ReadFault → ⊥
-found_fails is = cc
-
-found_if-steady : (errors : List ErrorLine) (output : List ℕ) → (found_if errors output).status ≡ ReadFault → ⊥
-found_if-steady [] output failed = done_fails failed
-found_if-steady (error ∷ more) output failed = found_fails failed
-
-answered-steady : (answer : Contrl) → (answered answer).status ≡ ReadFault → ⊥
-answered-steady (Octets octets) failed = done_fails failed
-answered-steady NoUnb failed = found_fails failed
-answered-steady BadUnb failed = found_fails failed
-
-told-steady : (question : Question) (directory : Parts) (text : List ℕ) → (told_of question directory text).status ≡ ReadFault → ⊥
-told-steady Errors directory text failed = found_if-steady (errors_of directory text) _ failed
-told-steady (Answer stamp reference) directory text failed = answered-steady (contrl_to directory text stamp reference) failed
-
--- the answer to a question doesn't come to a read fault
-pub told_of-steady : (question : Question) (directory : Parts) (text : List ℕ) (due : Outcome) → (due ≡ told_of question directory text) ⊎ (due ≡ memory_refused) → due.status ≡ ReadFault → ⊥
-told_of-steady question directory text due (inl made) failed = told-steady question directory text (sym (ap (λ (o : Outcome). o.status) made) ∙ failed)
-told_of-steady question directory text due (inr refused) failed = memory_fails (sym (ap (λ (o : Outcome). o.status) refused) ∙ failed)

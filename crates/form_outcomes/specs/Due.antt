@@ -2,10 +2,11 @@
 use Rattle.std.specs.Prelude.{◌≡◌, ◌⊎◌, ◌<◌, ◌≤◌, ℕ, true, List, [], Option, Some, IfSome}
 use Rattle.edi_ports.specs.Faults.{HasRisen}
 use Rattle.edi_ports.specs.Read.{TakesFront}
-use Rattle.script_answers.specs.Outcome.{Outcome, memory_refused, read_failed}
+use Rattle.script_answers.specs.Outcome.{Outcome}
 use Rattle.script_answers.specs.declared.status.Status.TheVariants.{Done, TooLarge}
 use Rattle.script_answers.specs.declared.status.Status.{Status}
-use Rattle.form_outcomes.specs.Form.{Asked, Text, needs_of}
+use Rattle.word_forms.specs.Form.{Asked, Text, needs_of}
+use Rattle.text_answers.specs.OneOf.{IsOneOf}
 use Rattle.form_outcomes.specs.Inputs.{Inputs}
 use Rattle.form_outcomes.specs.Made.{IsPossible, made_by}
 
@@ -14,15 +15,6 @@ abbrev pub HasFailed : Option Asked → Inputs → Inputs → Type 0
 HasFailed asked before now =
     (((needs_of asked).input ≡ true) × HasRisen before.input_faults now.input_faults)
     ⊎ (((needs_of asked).shelf ≡ true) × HasRisen before.shelf_faults now.shelf_faults)
-
--- what was made: by what is told, where it is told
-abbrev pub IsMade : Type 0 → Option Outcome → Outcome → Type 0
-IsMade Possible made due = Possible × IfSome made (λ m. due ≡ m)
-
--- what was made; or a read fault, where an object failed; or want of memory, where memory is needed
-abbrev pub IsOneOf : Type 0 → Option Outcome → Type 0 → Type 0 → Outcome → Type 0
-IsOneOf Possible made Failed Needed due =
-    IsMade Possible made due ⊎ ((due ≡ read_failed) × Failed) ⊎ ((due ≡ memory_refused) × Needed)
 
 -- what a run may come to
 abbrev pub IsDue : Option Asked → Inputs → Inputs → Outcome → Type 0

@@ -1,5 +1,4 @@
 pub mod Due
-pub mod Form
 pub mod Inputs
-pub mod Lawful
 pub mod Made
+pub mod Plain

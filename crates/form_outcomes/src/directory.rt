@@ -5,13 +5,13 @@ ghost use Rattle.edi_ports.specs.Faults.{HasRisen};
 ghost use Rattle.dir_parts.specs.declared.parts.Parts.{Parts};
 ghost use Rattle.dir_load.specs.declared.stop.Refusal.{Refusal};
 ghost use Rattle.dir_load.specs.Load.{load_of};
-ghost use Rattle.form_outcomes.specs.Due.{IsOneOf};
+ghost use Rattle.text_answers.specs.OneOf.{IsOneOf};
 ghost use Rattle.form_outcomes.specs.Made.{compiled, tabled};
 
-use crate::Status;
 use dir_store::write_store;
 use edi_ports::Shelf;
 use run_opening::{Made, load_directory};
+use script_answers::Status;
 use std::alloc::Global;
 use table_printer::print_tables;
 

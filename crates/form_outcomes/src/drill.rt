@@ -2,11 +2,11 @@
 ghost use Rattle.std.specs.Prelude.{◌≡◌, ◌≢◌, Some};
 ghost use Rattle.drill_printer.specs.Drill.{drill_text, IsDrill};
 ghost use Rattle.script_answers.specs.Outcome.{done};
-ghost use Rattle.form_outcomes.specs.Due.{IsOneOf};
+ghost use Rattle.text_answers.specs.OneOf.{IsOneOf};
 
-use crate::Status;
 use drill_printer::print_drill;
 use run_opening::Made;
+use script_answers::Status;
 use std::alloc::Global;
 
 /// What a drill of so many messages and edits for a number comes to.

@@ -1,20 +1,22 @@
 //! What words come to, where that is made whole before its first octet is put.
 ghost use Rattle.std.specs.Prelude.{◌≡◌, ◌≢◌, false, true, IfSome};
 ghost use Rattle.std.specs.Option.{option_map};
+ghost use Rattle.word_forms.specs.Form.{form_shown, needs_of};
+ghost use Rattle.word_forms.specs.Lawful.{IsLawful};
 ghost use Rattle.form_outcomes.specs.Due.{IsDue, Takes};
-ghost use Rattle.form_outcomes.specs.Form.{form_shown, needs_of};
 ghost use Rattle.form_outcomes.specs.Inputs.{inputs_of};
-ghost use Rattle.form_outcomes.specs.Lawful.{IsLawful, IsPlain};
+ghost use Rattle.form_outcomes.specs.Plain.{IsPlain};
 
-use crate::about::tell_about;
 use crate::directory::{tell_store, tell_tables};
 use crate::drill::tell_drill;
 use crate::help::{HELP, VERSION};
 use crate::text::list_text;
-use crate::{Form, Status};
 use edi_ports::{Shelf, Source};
 use run_opening::Made;
+use script_answers::Status;
 use std::alloc::Global;
+use text_answers::tell_about;
+use word_forms::Form;
 
 /// What words come to that ask for anything but `edit`: what is put, and the status. Nothing was put yet.
 pub fn decide<S: Shelf, I: Source>(

@@ -3,12 +3,13 @@ ghost use Rattle.std.specs.Prelude.{◌≡◌, ◌≢◌, ◌++◌, List, MatchR
 ghost use Rattle.std.specs.Option.{option_map as map_told};
 ghost use Rattle.edi_ports.specs.Faults.{HasRisen};
 ghost use Rattle.script_answers.specs.Outcome.{done, memory_refused};
-ghost use Rattle.form_outcomes.specs.Due.{IsOneOf, TakesText};
+ghost use Rattle.text_answers.specs.OneOf.{IsOneOf};
+ghost use Rattle.form_outcomes.specs.Due.{TakesText};
 ghost use Rattle.form_outcomes.specs.Made.{listed};
 
-use crate::Status;
 use edi_ports::{ReadStop, Source, read_all};
 use run_opening::{LONGEST_TEXT, Made};
+use script_answers::Status;
 use std::alloc::{AllocError, Global};
 use text_printer::{Detail, PrintedText, print_text};
 

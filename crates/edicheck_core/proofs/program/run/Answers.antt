@@ -1,4 +1,4 @@
-use Rattle.form_outcomes.specs.Form.{form_of}
+use Rattle.word_forms.specs.Form.{form_of}
 use Rattle.form_outcomes.specs.Inputs.{inputs_of}
 use Rattle.edicheck_core.proofs.EditLemmas.{told_words}
 use Rattle.edicheck_core.proofs.program.run.Goals as goal

@@ -1,7 +1,7 @@
-use Rattle.form_outcomes.specs.Form.{question_shown}
-use Rattle.form_outcomes.proofs.AnswerLemmas.{told_of-steady}
-use Rattle.form_outcomes.proofs.OpeningLemmas.{asked_opened, asked_unopened}
-use Rattle.form_outcomes.proofs.about.tell_about.Goals as goal
+use Rattle.word_forms.specs.Form.{question_shown}
+use Rattle.text_answers.proofs.OpeningLemmas.{asked_opened, asked_unopened}
+use Rattle.text_answers.proofs.SteadyLemmas.{told_of-steady}
+use Rattle.text_answers.proofs.about.tell_about.Goals as goal
 
 pub returns-in-Ok-clause-due : goal.returns-in-Ok-clause-due
 returns-in-Ok-clause-due g c =

@@ -1,8 +1,8 @@
 -- For bodies: what follows of what words ask for, by `form_of`.
-use Rattle.std.specs.Prelude.{⊤, IsTrue, Option, Some}
+use Rattle.std.specs.Prelude.{⊤, IsTrue}
 use Rattle.contrl_writer.specs.Stamp.{IsStamp, is_reference_of}
 use Rattle.drill_printer.specs.Drill.{IsDrill}
-use Rattle.form_outcomes.specs.Form.{Asked, Question, Errors, Answer, About, Edit, Drill}
+use Rattle.word_forms.specs.Form.{Asked, Question, Errors, Answer, About, Drill}
 
 -- a stamp and a reference have their form
 abbrev pub IsLawfulQuestion : Question → Type 0
@@ -14,8 +14,3 @@ abbrev pub IsLawful : Asked → Type 0
 IsLawful (About question manifest text) = IsLawfulQuestion question
 IsLawful (Drill messages edits number) = IsDrill messages edits number
 IsLawful _ = ⊤
-
--- words that ask for something that is made whole before its first octet is put: all but `edit`
-abbrev pub IsPlain : Option Asked → Type 0
-IsPlain (Some (Edit manifest text)) = ⊥
-IsPlain _ = ⊤

@@ -10,13 +10,11 @@ ghost use Rattle.dir_load.specs.Load.{load_of};
 ghost use Rattle.contrl_writer.specs.Stamp.{IsStamp, is_reference_of};
 ghost use Rattle.edi_engine.specs.Summary.{contrl_to};
 ghost use Rattle.script_answers.specs.Outcome.{memory_refused};
-ghost use Rattle.form_outcomes.specs.Due.{IsOneOf};
-ghost use Rattle.form_outcomes.specs.Form.{question_shown};
-ghost use Rattle.form_outcomes.specs.Lawful.{IsLawfulQuestion};
-ghost use Rattle.form_outcomes.specs.Made.{answered, asked_about, checked_text, found_if, told_of};
+ghost use Rattle.word_forms.specs.Form.{question_shown};
+ghost use Rattle.word_forms.specs.Lawful.{IsLawfulQuestion};
+ghost use Rattle.text_answers.specs.About.{answered, asked_about, checked_text, found_if, told_of};
+ghost use Rattle.text_answers.specs.OneOf.{IsOneOf};
 
-use crate::Status;
-use crate::form::Question;
 use contrl_writer::{Contrl, Stamp};
 use dir_compile::Directory;
 use edi_engine::Engine;
@@ -24,10 +22,12 @@ use edi_ports::Shelf;
 use edi_tables::Chunk;
 use error_ledger::{ErrorLine, print_errors, put_tree_head};
 use run_opening::{Made, Opening, open_both};
+use script_answers::Status;
 use std::alloc::{AllocError, Global};
 use std::marker::Brand;
 use std::sync::ledger::{Blank, Ledger};
 use step_counter::Steps;
+use word_forms::Question;
 
 /// What a question about the text of that name, by the directory of that manifest, comes to.
 pub fn tell_about<S: Shelf>(

@@ -1,4 +1,4 @@
-use Rattle.form_outcomes.proofs.about.tell_check.Given as goal
+use Rattle.text_answers.proofs.about.tell_check.Given as goal
 
 abbrev pub ghosts-print_check-L-Ledger : goal.ghosts-print_check-L-Ledger
 ghosts-print_check-L-Ledger a = record { name = a.lexing.name; parts = a.lexing.parts }

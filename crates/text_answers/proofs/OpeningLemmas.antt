@@ -9,9 +9,9 @@ use Rattle.dir_load.specs.declared.stop.Refusal.{Refusal}
 use Rattle.dir_load.specs.Load.{load_of}
 use Rattle.script_answers.specs.Outcome.{Outcome, memory_refused}
 use Rattle.run_opening.specs.Opening.{IsOpening, IsUnopened, Opened, opened}
-use Rattle.form_outcomes.specs.Due.{IsOneOf}
-use Rattle.form_outcomes.specs.Form.{Question}
-use Rattle.form_outcomes.specs.Made.{asked_about, told_of}
+use Rattle.word_forms.specs.Form.{Question}
+use Rattle.text_answers.specs.About.{asked_about, told_of}
+use Rattle.text_answers.specs.OneOf.{IsOneOf}
 
 -- what a question comes to with what was begun with
 abbrev pub told_after : Question → Result Opened Outcome → Outcome

@@ -1,8 +1,8 @@
 //! The forms of words.
 ghost use Rattle.std.specs.Prelude.{◌≡◌, ◌≤◌, IfSome};
 ghost use Rattle.std.specs.Option.{option_map};
-ghost use Rattle.form_outcomes.specs.Form.{form_of, form_shown, lone_word, number_in, with_manifest, with_numbers, with_stamp, with_text};
-ghost use Rattle.form_outcomes.specs.Lawful.{IsLawful};
+ghost use Rattle.word_forms.specs.Form.{form_of, form_shown, lone_word, number_in, with_manifest, with_numbers, with_stamp, with_text};
+ghost use Rattle.word_forms.specs.Lawful.{IsLawful};
 
 use contrl_writer::{Stamp, is_reference, read_stamp};
 use edi_octets::{is_name, read_decimal};

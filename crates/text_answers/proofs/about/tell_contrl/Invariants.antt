@@ -1,4 +1,4 @@
-use Rattle.form_outcomes.proofs.about.tell_contrl.Given as goal
+use Rattle.text_answers.proofs.about.tell_contrl.Given as goal
 
 abbrev pub ghosts-make_contrl-L-Ledger : goal.ghosts-make_contrl-L-Ledger
 ghosts-make_contrl-L-Ledger a = record { name = a.lexing.name; parts = a.lexing.parts }

@@ -8,10 +8,10 @@ use Rattle.contrl_writer.specs.Stamp.{is_reference_of, stamp_in}
 use Rattle.contrl_writer.specs.declared.stamp.Stamp.{Stamp}
 use Rattle.text_printer.specs.declared.text.Detail.{Detail}
 use Rattle.text_printer.specs.declared.text.Detail.TheVariants.{Segments, Values}
-use Rattle.form_outcomes.specs.declared.form.Form.{Form}
-use Rattle.form_outcomes.specs.declared.form.Form.TheVariants as form
-use Rattle.form_outcomes.specs.declared.form.Question as asked
-use Rattle.form_outcomes.specs.declared.form.Question.TheVariants as question
+use Rattle.word_forms.specs.declared.form.Form.{Form}
+use Rattle.word_forms.specs.declared.form.Form.TheVariants as form
+use Rattle.word_forms.specs.declared.form.Question as asked
+use Rattle.word_forms.specs.declared.form.Question.TheVariants as question
 
 -- what is asked of a text: its errors and its tree, or its acknowledgement, made at a time, with a reference of its own
 pub data Question : Type 0 where

@@ -1,0 +1,2 @@
+mod OpeningLemmas
+pub mod SteadyLemmas

@@ -54,7 +54,7 @@ values-none low element (x ∷ xs) order less =
     ap (λ b. values_by b x xs element) (eq-above x.element element later) ∙ values-none x.element element xs order.1 later
 
 -- the values at the front are those of the element, where no element before it is left
-front-is : (element : ℕ) (xs : List Component) → IsInOrder element xs → front_values element xs ≡ values_in xs element
+pub front-is : (element : ℕ) (xs : List Component) → IsInOrder element xs → front_values element xs ≡ values_in xs element
 front-is element [] order = refl
 front-is element (x ∷ xs) order =
     let first = order.0 in

@@ -4,7 +4,7 @@ mod CodeLemmas
 pub mod ElementLemmas
 mod ErrorsLemmas
 mod NumberLemmas
-mod RulesLemmas
-mod StreamLemmas
+pub mod RulesLemmas
+pub mod StreamLemmas
 mod TallyLemmas
 mod WorkedElements

@@ -12,3 +12,5 @@ mod values;
 
 pub use check::{check_components, check_segment};
 pub use error::LocalError;
+pub use rules::Rules;
+pub use value::passes;

@@ -15,7 +15,7 @@ use std::marker::Model;
 /// The rules of a segment: the context of its text, its items, and the directory that defines their composites and code
 /// lists. A service segment has no directory.
 #[derive(Drop)]
-pub(crate) struct Rules<'a> {
+pub struct Rules<'a> {
     pub context: &'a Context,
     pub items: &'a [ItemDef],
     directory: Option<&'a Directory>,
@@ -40,7 +40,7 @@ impl<'a> Model for Rules<'a> {
 impl<'a> Rules<'a> {
     /// The rules of the segments of a tag, if it is a service segment's or in the directory.
     #[tactic(auto, unfolding(crate::specs::Rules::rules_of))]
-    pub(crate) fn of(directory: &'a Directory, context: &'a Context, tag: Tag) -> Option<Rules<'a>>
+    pub fn of(directory: &'a Directory, context: &'a Context, tag: Tag) -> Option<Rules<'a>>
         ensures rules { result ≡ rules_of directory.now context.now tag.octets }
         ensures lawful { IsDirectory directory.now }
     {
@@ -64,7 +64,7 @@ impl<'a> Rules<'a> {
 
     /// The parts of a composite; one that isn't defined has none.
     #[tactic(auto, unfolding(crate::specs::Rules::parts_of))]
-    pub(crate) fn parts(&self, code: Code) -> &'a [PartDef]
+    pub fn parts(&self, code: Code) -> &'a [PartDef]
         ensures parts { result.now ≡ parts_of self.now code.octets }
         ensures lawful { ForSome self.now.directory IsDirectory }
     {
@@ -79,7 +79,7 @@ impl<'a> Rules<'a> {
 
     /// The code list that the values of a data element must be in, if one is loaded: none where its composite names a
     /// list itself.
-    pub(crate) fn list_unless(&self, named: bool, element: Code) -> Option<&'a CodeList>
+    pub fn list_unless(&self, named: bool, element: Code) -> Option<&'a CodeList>
         ensures list { option_copied result
             ≡ (if named then None else list_of self.now element.octets) }
         ensures ordered { IfSome (option_copied result)

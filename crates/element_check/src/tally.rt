@@ -138,7 +138,8 @@ pub(crate) fn scan<O: Octets>(context: &Context, class: Class, value: &Value<'_,
     }
 }
 
-fn scan_slice(context: &Context, class: Class, octets: &[u8]) -> Tally
+/// The same for a value of these octets.
+pub(crate) fn scan_slice(context: &Context, class: Class, octets: &[u8]) -> Tally
     ensures { result ≡ tally_over context.now class nothing_found octets.now }
 {
     let level = context.level;

@@ -1,5 +1,5 @@
 //! The tests of a value.
-ghost use Rattle.std.specs.Prelude.{◌≡◌, ◌+◌, ◌++◌, ◌<◌, ◌&&◌, nat_lt, length, IfSome, OnOk, OnErr};
+ghost use Rattle.std.specs.Prelude.{◌≡◌, ◌+◌, ◌++◌, ◌<◌, ◌&&◌, ℕ, List, Option, nat_lt, not, length, IfSome, OnOk, OnErr};
 ghost use Rattle.std.specs.Cmp.Lexicographic.{slice_cmp};
 ghost use Rattle.std.specs.List.{list_any};
 ghost use Rattle.std.specs.Option.{option_copied};
@@ -7,12 +7,15 @@ ghost use Rattle.std.specs.Ordering.{nat_cmp};
 ghost use Rattle.std.specs.Str.{bytes_eq};
 ghost use Rattle.edi_tables.specs.Ascending.{IsAscendingBy};
 ghost use Rattle.dir_parts.specs.Compile.{value_name};
+ghost use Rattle.edi_tables.specs.declared.element.CodeList.{CodeList as SeenList};
 ghost use Rattle.seg_lexer.specs.Value.{octets_of};
+ghost use Rattle.seg_lexer.specs.declared.context.Context.{Context as SeenContext};
 ghost use Rattle.element_check.specs.Streams.{test_results, told_errors};
+ghost use Rattle.element_check.specs.Tally.{nothing_found, tally_over};
 ghost use Rattle.element_check.specs.Value.{is_unlisted as is_unlisted_of};
 
 use crate::error::Errors;
-use crate::tally::scan;
+use crate::tally::{Tally, scan, scan_slice};
 use edi_octets::Octets;
 use edi_tables::{CodeList, Repr};
 use error_ledger::Kind;
@@ -35,13 +38,33 @@ pub(crate) fn test_value<O: Octets>(
         ≡ test_results context.now repr (option_copied list.entry) (octets_of value.now) }
 {
     let found = scan(context, repr.class, value);
+    results_of(repr, found, is_unlisted(list, value))
+}
+
+/// Whether a value of these octets passes all tests, by its representation and the code list that it must be in.
+pub fn passes(context: &Context, repr: Repr, list: Option<&CodeList>, octets: &[u8]) -> bool
+    requires ordered { IfSome (option_copied list) (λ list. IsAscendingBy value_name list.values) }
+    ensures { result ≡ not (list_any (λ test. test.1)
+        (test_results context.now repr (option_copied list.entry) octets.now)) }
+{
+    let found = scan_slice(context, repr.class, octets);
+    !is_any_failed(&results_of(repr, found, is_slice_unlisted(list, octets)))
+}
+
+/// Which tests are failed by a value of which a scan found this, and that is in its code list or isn't.
+fn results_of(repr: Repr, found: Tally, unlisted: bool) -> [(Kind, bool); TESTS]
+    ensures { (context : SeenContext) (list : Option SeenList) (value : List ℕ)
+        → found ≡ tally_over context repr.class nothing_found value
+        → unlisted ≡ is_unlisted_of list value
+        → result ≡ test_results context repr list value }
+{
     [
         (Kind::Repertoire, found.refused),
         (Kind::WrongType, found.foreign),
         (Kind::Decimal, found.is_no_number(repr.class)),
         (Kind::TooLong, found.counted > usize::from(repr.max)),
         (Kind::TooShort, is_too_short(repr, found.counted)),
-        (Kind::Code, is_unlisted(list, value)),
+        (Kind::Code, unlisted),
     ]
 }
 
@@ -63,6 +86,17 @@ fn is_unlisted<O: Octets>(list: Option<&CodeList>, value: &Value<'_, O>) -> bool
     }
 }
 
+/// The same for a value of these octets.
+fn is_slice_unlisted(list: Option<&CodeList>, octets: &[u8]) -> bool
+    requires ordered { IfSome (option_copied list) (λ list. IsAscendingBy value_name list.values) }
+    ensures { result ≡ is_unlisted_of (option_copied list.entry) octets.now }
+{
+    match list {
+        Some(list) => !is_slice_listed(list, octets),
+        None => false,
+    }
+}
+
 /// Whether a value is one of the codes of a list. They ascend, so it is found by halving.
 fn is_listed<O: Octets>(list: &CodeList, value: &Value<'_, O>) -> bool
     requires ordered { IsAscendingBy value_name list.now.values }
@@ -71,6 +105,17 @@ fn is_listed<O: Octets>(list: &CodeList, value: &Value<'_, O>) -> bool
     list.values
         .items()
         .binary_search_by(|code| order_of(code.octets(), value))
+        .is_ok()
+}
+
+/// The same for a value of these octets.
+fn is_slice_listed(list: &CodeList, octets: &[u8]) -> bool
+    requires ordered { IsAscendingBy value_name list.now.values }
+    ensures { result ≡ list_any (λ code. bytes_eq code octets.now) list.now.values }
+{
+    list.values
+        .items()
+        .binary_search_by(|code| code.octets().cmp(octets))
         .is_ok()
 }
 

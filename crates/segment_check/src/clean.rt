@@ -1,5 +1,5 @@
 //! Segments in which nothing is wrong.
-ghost use Rattle.std.specs.Prelude.{◌≡◌, ◌<◌, ◌≤◌, List, ℕ, Option, length, set, slice_range, IfOk, IfSome, IsTrue};
+ghost use Rattle.std.specs.Prelude.{◌≡◌, ◌<◌, ◌≤◌, List, ℕ, Some, length, set, slice_range, IfOk, IfSome, IsTrue};
 ghost use Rattle.std.specs.Option.{option_map};
 ghost use Rattle.dir_parts.specs.declared.parts.Parts.{Parts};
 ghost use Rattle.seg_lexer.specs.Fields.{components_at};
@@ -14,6 +14,7 @@ use dir_compile::Directory;
 use edi_octets::Octets;
 use edi_tables::Tag;
 use element_check::{LocalError, check_components};
+use first_look::clean_tag;
 use seg_lexer::{Context, fields};
 use smallvec::SmallVec;
 use std::alloc::{AllocError, Global};
@@ -65,7 +66,7 @@ impl CleanSegments {
     /// The tag of the segment `start..end` of a text, and its local errors, by a directory and the context of the text, in
     /// order of element, component and kind. Only want of memory is an error.
     ///
-    /// Where nothing is wrong with it, it is remembered, in the place of one that is spelled otherwise.
+    /// Where a first look shows that nothing is wrong with it, it is remembered, in the place of one that is spelled otherwise.
     pub fn check<O: Octets>(
         &mut self,
         alloc: Global,
@@ -96,19 +97,19 @@ impl CleanSegments {
                 return Ok((Some(clean.tag), SmallVec::new(alloc)));
             }
         }
-        let (tag, errors) = check_alone(alloc, directory, context, text, start, end)?;
-        if errors.is_empty() {
-            self.put(place, clean_with(start, end, tag));
+        if let Some(tag) = clean_tag(directory, context, octets) {
+            self.put(place, Clean { start, end, tag });
+            return Ok((Some(tag), SmallVec::new(alloc)));
         }
-        Ok((tag, errors))
+        check_alone(alloc, directory, context, text, start, end)
     }
 
-    // Puts what is remembered at a place.
-    fn put(&mut self, place: usize, clean: Option<Clean>)
+    // Remembers a segment at a place.
+    fn put(&mut self, place: usize, clean: Clean)
         requires { place < 1024 }
-        ensures { self.new ≡ set self.old place clean }
+        ensures { self.new ≡ set self.old place (Some clean) }
     {
-        self.places[place] = clean;
+        self.places[place] = Some(clean);
     }
 }
 
@@ -133,16 +134,6 @@ fn check_alone<O: Octets>(
 {
     let components = fields(text, &context.service, start, end);
     check_components(alloc, directory, context, components)
-}
-
-// A segment in which nothing is wrong, if it has a tag.
-fn clean_with(start: usize, end: usize, tag: Option<Tag>) -> Option<Clean>
-    ensures { result ≡ option_map (λ t. record { start = start; end = end; tag = t }) tag }
-{
-    match tag {
-        Some(tag) => Some(Clean { start, end, tag }),
-        None => None,
-    }
 }
 
 // Whether a stretch of a text is lent in one part and has these octets.

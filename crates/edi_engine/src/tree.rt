@@ -68,6 +68,7 @@ impl Engine<'_> {
 }
 
 // The member of the tree for a segment. `numbers` are those that `number_groups` gives of the directory.
+#[inline(always)]
 fn line_of(directory: &Directory, numbers: &[List<u16>], seen: &Seen<'_>) -> TreeLine
     requires follows { Follows directory.now (seen_of seen.now) }
     requires numbers { numbers.now ≡ map numbers_in (tables_of directory.now) }

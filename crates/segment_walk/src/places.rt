@@ -18,6 +18,7 @@ use std::alloc::{AllocError, Global};
 use table_walk::State;
 
 /// Where a segment is in the tree. `numbers` are those that `number_groups` gives of the directory.
+#[inline]
 pub fn place_of(directory: &Directory, numbers: &[List<u16>], seen: &Seen<'_>) -> TreePlace
     requires follows { Follows directory.now (seen_of seen.now) }
     requires numbers { numbers.now ≡ map numbers_in (tables_of directory.now) }

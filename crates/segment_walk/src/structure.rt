@@ -106,6 +106,7 @@ fn put_end(
 }
 
 // Puts that nodes are missing at a segment.
+#[inline]
 fn put_missing(
     table: &Table,
     seen: &Seen<'_>,

@@ -1,5 +1,6 @@
 #!/bin/sh
-# Makes texts of 4 MiB and prints time and peak memory of `check` on them, by the directory of the examples.
+# Makes texts of 4 MiB and prints time and peak memory of `check` on them, by the directory of the examples; and of the checker
+# of by_hand.rs on three of them, where there is a rustc to build it.
 # usage: bench/check.sh   (the program is built first)
 set -eu
 top=$(cd "$(dirname "$0")/.." && pwd)
@@ -55,3 +56,20 @@ first = out.split(b"\n", 1)[0].decode()
 print(f"{manifest:2} {name:12} {best:6.3f} s {peak:5} MiB {len(out):10} octets  {first}")
 P
 done
+if command -v rustc >/dev/null; then
+    rustc -O -o by_hand "$top/bench/by_hand.rs"
+    for text in usual broken different; do
+        python3 - "$text" <<'P'
+import subprocess, sys, time
+text = sys.argv[1]
+best = None
+for _ in range(3):
+    begin = time.monotonic()
+    out = subprocess.run(["./by_hand", text], stdout=subprocess.PIPE).stdout
+    took = time.monotonic() - begin
+    best = took if best is None else min(best, took)
+first = out.split(b"\n", 1)[0].decode()
+print(f"by hand: {text:12} {best:6.3f} s {len(out):10} octets  {first}")
+P
+    done
+fi

@@ -7,7 +7,8 @@ ghost use Rattle.dir_parts.specs.Ordered.{IsOrdered};
 ghost use Rattle.dir_parts.specs.Stop.{fault_in};
 
 use crate::Directory;
-use dir_parts::{CompileStop, Parts, judge_parts, ordered};
+use dir_parts::{CompileStop, Parts, ordered};
+use parts_check::judge_parts;
 use std::alloc::Global;
 
 /// The directory of these parts, where they break no rule; else their first fault.

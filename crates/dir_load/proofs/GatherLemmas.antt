@@ -13,9 +13,9 @@ use Rattle.edi_ports.specs.declared.shelf.ShelfFile.{ShelfFile}
 use Rattle.edi_ports.specs.declared.named.Unread.{Unread}
 use Rattle.edi_ports.specs.Named.{octets_named}
 use Rattle.dir_segments.specs.Segments.{segments_in}
-use Rattle.dir_load.specs.declared.manifest.FileKind.{FileKind}
-use Rattle.dir_load.specs.declared.manifest.FileKind.TheVariants.{Elements, Codes, Composites, Segments, Message}
-use Rattle.dir_load.specs.declared.manifest.FileLine.{FileLine}
+use Rattle.dir_manifest.specs.declared.manifest.FileKind.{FileKind}
+use Rattle.dir_manifest.specs.declared.manifest.FileKind.TheVariants.{Elements, Codes, Composites, Segments, Message}
+use Rattle.dir_manifest.specs.declared.manifest.FileLine.{FileLine}
 use Rattle.dir_load.specs.declared.stop.FileFault.{FileFault}
 use Rattle.dir_load.specs.declared.stop.FileFault.TheVariants as fault
 use Rattle.dir_load.specs.declared.stop.Refusal.{Refusal}

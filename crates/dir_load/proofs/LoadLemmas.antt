@@ -23,13 +23,13 @@ use Rattle.dir_store.specs.Spelling.{store_text}
 use Rattle.dir_store.specs.Stop as place
 use Rattle.dir_store.specs.Store.{store_of}
 use Rattle.dir_store.proofs.WholeLemmas.{store-again}
-use Rattle.dir_load.specs.declared.manifest.Manifest.{Manifest}
+use Rattle.dir_manifest.specs.declared.manifest.Manifest.{Manifest}
 use Rattle.dir_load.specs.declared.stop.FileFault.TheVariants.{Unread as unread, Grammar}
 use Rattle.dir_load.specs.declared.stop.LoadStop.{LoadStop}
 use Rattle.dir_load.specs.declared.stop.LoadStop.TheVariants.{Refused, Fault, Memory}
 use Rattle.dir_load.specs.declared.stop.Refusal.TheVariants.{File, Store}
 use Rattle.dir_load.specs.Load.{Found, and_then, found_on, is_store, lines_under, load_of, load_with, map_err, octets_under, parts_refusal, parts_with, refusals_of, store_under}
-use Rattle.dir_load.specs.Manifest.{manifest_in}
+use Rattle.dir_manifest.specs.Manifest.{manifest_in}
 use Rattle.dir_load.specs.Stop.{IsStopAt, IsStopIn, compile_stop, grammar_stop, refusal_in, unread_stop}
 use Rattle.dir_load.proofs.AnswerLemmas.{Answers-and_then}
 

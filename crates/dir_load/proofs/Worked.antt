@@ -17,7 +17,7 @@ use Rattle.edi_ports.specs.declared.named.Unread.TheVariants.{Absent}
 use Rattle.dir_store.specs.Store.{definitions_at, parts_at, section_at, store_of}
 use Rattle.dir_load.specs.declared.stop.FileFault.TheVariants.{Unread, Grammar}
 use Rattle.dir_load.specs.declared.stop.Refusal.TheVariants.{File, Parts, Store}
-use Rattle.dir_load.specs.Manifest.{manifest_in}
+use Rattle.dir_manifest.specs.Manifest.{manifest_in}
 use Rattle.dir_load.specs.Load.{load_of}
 
 abbrev file : List ℕ → List ℕ → ShelfFile

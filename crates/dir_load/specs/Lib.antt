@@ -1,5 +1,3 @@
-pub mod Counted
 pub mod Gathered
 pub mod Load
-pub mod Manifest
 pub mod Stop

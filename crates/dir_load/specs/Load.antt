@@ -22,16 +22,16 @@ use Rattle.dir_compile.specs.Directory.{directory_of}
 use Rattle.dir_parts.specs.Stop.{PartsFault}
 use Rattle.dir_store.specs.Spelling.{first_line, line_of}
 use Rattle.dir_store.specs.Store.{store_of}
-use Rattle.dir_load.specs.declared.manifest.FileKind.{FileKind}
-use Rattle.dir_load.specs.declared.manifest.FileKind.TheVariants.{Elements, Codes, Composites, Segments, Message}
-use Rattle.dir_load.specs.declared.manifest.FileLine.{FileLine}
-use Rattle.dir_load.specs.declared.manifest.Labels.{Labels}
-use Rattle.dir_load.specs.declared.manifest.Manifest.{Manifest}
+use Rattle.dir_manifest.specs.declared.manifest.FileKind.{FileKind}
+use Rattle.dir_manifest.specs.declared.manifest.FileKind.TheVariants.{Elements, Codes, Composites, Segments, Message}
+use Rattle.dir_manifest.specs.declared.manifest.FileLine.{FileLine}
+use Rattle.dir_manifest.specs.declared.manifest.Labels.{Labels}
+use Rattle.dir_manifest.specs.declared.manifest.Manifest.{Manifest}
 use Rattle.dir_load.specs.declared.stop.FileFault.{FileFault}
 use Rattle.dir_load.specs.declared.stop.FileFault.TheVariants.{Unread, Grammar}
 use Rattle.dir_load.specs.declared.stop.Refusal.{Refusal}
 use Rattle.dir_load.specs.declared.stop.Refusal.TheVariants as refusal
-use Rattle.dir_load.specs.Manifest.{manifest_in}
+use Rattle.dir_manifest.specs.Manifest.{manifest_in}
 
 -- the same result, with its error as another
 abbrev pub map_err : {A E D : Type 0} → (E → D) → Result A E → Result A D

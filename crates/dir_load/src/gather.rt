@@ -9,10 +9,11 @@ ghost use Rattle.dir_load.specs.Gathered.{Appends, IsFormed, found_of, joined};
 ghost use Rattle.dir_load.specs.Load.{file_on, found_by, found_on, nothing, parts_with, refusals_of};
 ghost use Rattle.dir_load.specs.Stop.{file_fault_in, refusal_in};
 
+use crate::LoadStop;
 use crate::stop::FileStop;
-use crate::{FileKind, FileLine, Labels, LoadStop};
 use dir_compile::Parts;
 use dir_lists::{read_codes, read_elements};
+use dir_manifest::{FileKind, FileLine, Labels};
 use dir_messages::read_message;
 use dir_segments::{read_composites, read_segments};
 use edi_octets::DirStop;

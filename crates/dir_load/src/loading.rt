@@ -10,10 +10,11 @@ ghost use Rattle.dir_store.specs.Spelling.{store_text};
 ghost use Rattle.dir_load.specs.Load.{is_store as is_store_of, lines_under, load_of, store_under};
 ghost use Rattle.dir_load.specs.Stop.{refusal_in};
 
+use crate::LoadStop;
 use crate::gather::{LONGEST_FILE, gather_files};
 use crate::stop::FileStop;
-use crate::{LoadStop, read_manifest};
 use dir_compile::{Directory, compile};
+use dir_manifest::read_manifest;
 use dir_store::read_store;
 use edi_ports::{Shelf, read_named};
 use std::alloc::Global;

@@ -4,7 +4,7 @@ use Rattle.edi_tables.specs.First.{Answers, unless_faulty}
 use Rattle.dir_parts.specs.declared.parts.Parts.{Parts}
 use Rattle.dir_compile.specs.Directory.{directory_of}
 use Rattle.dir_parts.specs.Stop.{fault_in}
-use Rattle.dir_load.specs.declared.manifest.Manifest.{Manifest}
+use Rattle.dir_manifest.specs.declared.manifest.Manifest.{Manifest}
 use Rattle.dir_load.specs.Gathered.{found_of}
 use Rattle.dir_load.specs.Load.{found_on, refusals_of}
 use Rattle.dir_load.specs.Stop.{refusal_in}

@@ -1,0 +1,2 @@
+pub mod ManifestLemmas
+pub mod WordLemmas

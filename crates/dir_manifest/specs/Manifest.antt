@@ -1,0 +1,116 @@
+-- What a manifest is.
+use Rattle.std.specs.Prelude.{◌≡◌, ◌-◌, ℕ, Bool, true, not, ◌==◌, ◌&&◌, nat_le, List, [], ◌∷◌, length, filter, slice_get, Option, Some, None, option_and_then, Result, Err, codes, if◌then◌else◌}
+use Rattle.std.specs.List.{slice_split, list_all, filter_map, flat_map}
+use Rattle.std.specs.Str.{bytes_eq}
+use Rattle.edi_tables.specs.First.{unless_faulty}
+use Rattle.edi_tables.specs.Forms.{is_label}
+use Rattle.edi_octets.specs.declared.fault.DirFault.{DirFault}
+use Rattle.edi_octets.specs.declared.fault.DirKind.TheVariants.{BadLine, TooMany}
+use Rattle.edi_octets.specs.Lines.{Line, lines_of}
+use Rattle.edi_octets.specs.Name.{is_name_of}
+use Rattle.edi_octets.specs.Profile.{with_earlier}
+use Rattle.edi_octets.specs.DirStop.{at_line}
+use Rattle.dir_manifest.specs.declared.manifest.FileKind.{FileKind}
+use Rattle.dir_manifest.specs.declared.manifest.FileLine.{FileLine}
+use Rattle.dir_manifest.specs.declared.manifest.Labels.{Labels}
+use Rattle.dir_manifest.specs.declared.manifest.Manifest.{Manifest}
+use Rattle.dir_manifest.specs.declared.manifest.FileKind.TheVariants.{Elements, Codes, Composites, Segments, Message}
+
+-- the words of a line's octets, separated by exactly one space
+abbrev pub words_in : List ℕ → List (List ℕ)
+words_in octets = slice_split (λ x. x == 32) octets
+
+abbrev pub words_of : Line → List (List ℕ)
+words_of line = words_in line.octets
+
+-- exactly two words, and exactly four
+abbrev pub two_in : List (List ℕ) → Option (List ℕ × List ℕ)
+two_in (a ∷ b ∷ []) = Some (a, b)
+two_in words = None
+
+abbrev pub four_in : List (List ℕ) → Option (List ℕ × List ℕ × List ℕ × List ℕ)
+four_in (a ∷ b ∷ c ∷ d ∷ []) = Some (a, b, c, d)
+four_in words = None
+
+-- a line of spaces alone, or of nothing, is skipped
+abbrev pub is_counted : Line → Bool
+is_counted line = not (list_all (λ x. x == 32) line.octets)
+
+-- the first line: `directory` and three labels
+abbrev pub labels_with : List ℕ × List ℕ × List ℕ × List ℕ → Option Labels
+labels_with w =
+    if bytes_eq w.0 (codes "directory") && is_label 3 w.1 && is_label 3 w.2 && is_label 2 w.3
+    then Some (record { version = w.1; release = w.2; agency = w.3 }) else None
+
+-- the labels have their forms
+pub record HasLabelForms (labels : Labels) : Type 0 where
+  pub version : is_label 3 labels.version ≡ true
+  pub release : is_label 3 labels.release ≡ true
+  pub agency : is_label 2 labels.agency ≡ true
+
+abbrev pub labels_on : List (List ℕ) → Option Labels
+labels_on words = option_and_then labels_with (four_in words)
+
+-- a kind of file
+abbrev pub kind_named : List ℕ → Option FileKind
+kind_named word =
+    if bytes_eq word (codes "elements") then Some Elements
+    else (if bytes_eq word (codes "codes") then Some Codes
+    else (if bytes_eq word (codes "composites") then Some Composites
+    else (if bytes_eq word (codes "segments") then Some Segments
+    else (if bytes_eq word (codes "message") then Some Message else None))))
+
+-- the place of a kind in the order of kinds
+abbrev pub place_of : FileKind → ℕ
+place_of Elements = 0
+place_of Codes = 1
+place_of Composites = 2
+place_of Segments = 3
+place_of Message = 4
+
+abbrev pub file_with : List ℕ → Option FileKind → Option FileLine
+file_with name None = None
+file_with name (Some kind) = if is_name_of name then Some (record { kind = kind; name = name }) else None
+
+-- a later line: a kind and a name
+abbrev pub file_on : List (List ℕ) → Option FileLine
+file_on words = option_and_then (λ w. file_with w.1 (kind_named w.0)) (two_in words)
+
+-- the files of these lines
+abbrev pub files_on : List Line → List FileLine
+files_on lines = filter_map (λ line. file_on (words_of line)) lines
+
+-- a kind doesn't come before the last kind of the lines before
+abbrev pub is_in_turn : List FileLine → FileKind → Bool
+is_in_turn earlier kind =
+    elim (slice_get earlier (length earlier - 1)) [
+      | None ↦ true
+      | Some last ↦ nat_le (place_of last.kind) (place_of kind)
+    ]
+
+-- a file line after these: a kind in turn and a name; the 401st is one too many
+abbrev pub file_faults : List Line → Line → List DirFault
+file_faults earlier line =
+    elim (file_on (words_of line)) [
+      | None ↦ at_line BadLine line ∷ []
+      | Some file ↦
+          if not (is_in_turn (files_on earlier) file.kind) then at_line BadLine line ∷ []
+          else (if nat_le 400 (length earlier) then at_line TooMany line ∷ [] else [])
+    ]
+
+-- the faults of these lines, each after those before it
+abbrev pub faults_on : List Line → List DirFault
+faults_on lines = flat_map (λ p. file_faults p.0 p.1) (with_earlier lines)
+
+abbrev pub manifest_with : Option Labels → Line → List Line → Result Manifest DirFault
+manifest_with None head lines = Err (at_line BadLine head)
+manifest_with (Some labels) head lines =
+    unless_faulty (faults_on lines) (record { labels = labels; files = files_on lines })
+
+abbrev pub manifest_on : List Line → Result Manifest DirFault
+manifest_on [] = Err (record { line = 0; kind = BadLine })
+manifest_on (head ∷ lines) = manifest_with (labels_on (words_of head)) head lines
+
+-- octets give a manifest, or its first fault; one without a line has it at line 0
+unfoldable pub manifest_in : List ℕ → Result Manifest DirFault
+manifest_in octets = manifest_on (filter is_counted (lines_of octets))

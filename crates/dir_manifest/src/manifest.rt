@@ -1,0 +1,220 @@
+//! Manifests: the labels of a directory, and the files that it is made of.
+ghost use Rattle.std.specs.Prelude.{◌≡◌, ◌≤◌, ◌+◌, ◌++◌, ◌∷◌, [], List, ℕ, length, IfOk, IfSome, OnOk, option_and_then};
+ghost use Rattle.std.specs.List.{list_all};
+ghost use Rattle.dir_manifest.specs.Counted.{counted_left};
+ghost use Rattle.edi_tables.specs.Tag.{is_tag_octet_of};
+ghost use Rattle.dir_manifest.specs.Manifest.{HasLabelForms, is_in_turn as is_in_turn_of, kind_named, place_of, labels_on, file_on, file_faults, faults_on, files_on, manifest_in, words_in};
+ghost use Rattle.edi_octets.specs.DirStop.{fault_in};
+ghost use Rattle.edi_tables.specs.First.{Answers, unless_faulty};
+ghost use Rattle.edi_tables.specs.Forms.{is_label as is_label_of};
+ghost use Rattle.edi_octets.specs.Left.{line_shown};
+ghost use Rattle.edi_octets.specs.Lines.{Line};
+ghost use Rattle.edi_octets.specs.declared.fault.DirStop.TheVariants.{Fault};
+
+use crate::counted::CountedLines;
+use crate::words::{four_words, two_words};
+use edi_octets::{DirFault, DirKind, DirStop, LineText, is_name};
+use edi_tables::{Chunk, List};
+use std::alloc::{AllocError, Global};
+
+/// The kinds of directory files, in the order in which a manifest names them.
+#[derive(Clone, Copy, Debug, PartialEq, Eq)]
+pub enum FileKind {
+    Elements,
+    Codes,
+    Composites,
+    Segments,
+    Message,
+}
+
+/// A file that a manifest names.
+#[derive(Debug, Drop)]
+pub struct FileLine {
+    pub kind: FileKind,
+    pub name: Chunk,
+}
+
+/// The labels of a directory: the version and the release have 1 to 3 octets, the agency 1 to 2.
+#[derive(Debug, Drop)]
+pub struct Labels {
+    pub version: Chunk,
+    pub release: Chunk,
+    pub agency: Chunk,
+}
+
+/// A manifest: the labels of a directory, and its files in order.
+#[derive(Debug, Drop)]
+pub struct Manifest {
+    pub labels: Labels,
+    pub files: List<FileLine>,
+}
+
+/// Reads a manifest of at most 4,194,304 octets: a line `directory VERSION RELEASE AGENCY`, and then one line a file,
+/// its kind and its name, parted by one space; lines of spaces alone are skipped. Else the first fault in judging order:
+/// `bad-line`, at line 0 where there is no line, or `too-many` at the 401st file.
+#[tactic(auto, unfolding(crate::specs::Manifest::manifest_in))]
+pub fn read_manifest(alloc: Global, octets: &[u8]) -> Result<Manifest, DirStop>
+    requires { length octets.now ≤ 4194304 }
+    ensures reads { Answers (λ manifest. manifest) fault_in result (manifest_in octets.now) }
+    ensures formed { IfOk result (λ manifest. HasLabelForms manifest.labels) }
+    ensures few { IfOk result (λ manifest. length manifest.files ≤ 400) }
+{
+    let mut lines = CountedLines::of(octets);
+    let Some(head) = lines.next() else {
+        return Err(stop_at(DirKind::BadLine, 0));
+    };
+    let Some(labels) = read_labels(alloc, head.octets)? else {
+        return Err(stop_at(DirKind::BadLine, head.number));
+    };
+    let files = read_files(alloc, lines)?;
+    Ok(Manifest {
+        labels,
+        files: List::of(files),
+    })
+}
+
+// The files of a manifest's later lines.
+fn read_files(alloc: Global, lines: CountedLines<'_>) -> Result<Vec<FileLine>, DirStop>
+    ensures few { IfOk result (λ files. length files.items ≤ 400) }
+    ensures reads { Answers (λ files. files.items) fault_in result
+        (unless_faulty (faults_on (counted_left lines.entry))
+        (files_on (counted_left lines.entry))) }
+{
+    let mut files = Vec::new(alloc);
+    for line in lines {
+        read_line(alloc, &line, &mut files)?;
+    }
+    Ok(files)
+}
+
+// The labels of a manifest's first line.
+fn read_labels(alloc: Global, line: &[u8]) -> Result<Option<Labels>, AllocError>
+    ensures labels { IfOk result (λ labels. labels ≡ labels_on (words_in line.now)) }
+    ensures formed { IfOk result (λ labels. IfSome labels HasLabelForms) }
+{
+    let Some((word, version, release, agency)) = four_words(line) else {
+        return Ok(None);
+    };
+    if word != b"directory".as_slice()
+        || !is_label(version, 3)
+        || !is_label(release, 3)
+        || !is_label(agency, 2)
+    {
+        return Ok(None);
+    }
+    Ok(Some(Labels {
+        version: Chunk::of(alloc, version)?,
+        release: Chunk::of(alloc, release)?,
+        agency: Chunk::of(alloc, agency)?,
+    }))
+}
+
+// Whether a word has 1 to so many octets of `A` to `Z` and `0` to `9`.
+fn is_label(word: &[u8], most: usize) -> bool
+    ensures { result ≡ is_label_of most word.now }
+{
+    1 <= word.len() && word.len() <= most && has_label_octets(word)
+}
+
+// Whether each octet is one of `A` to `Z` and `0` to `9`.
+fn has_label_octets(word: &[u8]) -> bool
+    ensures { result ≡ list_all is_tag_octet_of word.now }
+{
+    word.iter().all(|octet| octet.is_ascii_uppercase() || octet.is_ascii_digit())
+}
+
+// The file that a manifest's later line names.
+fn read_file_line(alloc: Global, line: &[u8]) -> Result<Option<FileLine>, AllocError>
+    ensures { IfOk result (λ file. file ≡ file_on (words_in line.now)) }
+{
+    let Some((word, name)) = two_words(line) else {
+        return Ok(None);
+    };
+    let Some(kind) = read_kind(word) else {
+        return Ok(None);
+    };
+    if !is_name(name) {
+        return Ok(None);
+    }
+    Ok(Some(FileLine {
+        kind,
+        name: Chunk::of(alloc, name)?,
+    }))
+}
+
+// The kind that a word names.
+fn read_kind(word: &[u8]) -> Option<FileKind>
+    ensures { result ≡ kind_named word.now }
+{
+    if word == b"elements".as_slice() {
+        Some(FileKind::Elements)
+    } else if word == b"codes".as_slice() {
+        Some(FileKind::Codes)
+    } else if word == b"composites".as_slice() {
+        Some(FileKind::Composites)
+    } else if word == b"segments".as_slice() {
+        Some(FileKind::Segments)
+    } else if word == b"message".as_slice() {
+        Some(FileKind::Message)
+    } else {
+        None
+    }
+}
+
+impl FileKind {
+    // Its place in the order of kinds.
+    fn place(self) -> u8
+        ensures { result ≡ place_of self }
+    {
+        match self {
+            FileKind::Elements => 0,
+            FileKind::Codes => 1,
+            FileKind::Composites => 2,
+            FileKind::Segments => 3,
+            FileKind::Message => 4,
+        }
+    }
+}
+
+// Reads a line after others, whose files are given. Its file joins them.
+fn read_line(alloc: Global, line: &LineText<'_>, files: &mut Vec<FileLine>) -> Result<(), DirStop>
+    ensures judged { (earlier : List Line)
+        → files.old.items ≡ files_on earlier → length files.old.items ≡ length earlier
+        → Answers (λ done. done) fault_in result
+        (unless_faulty (file_faults earlier (line_shown line.now)) tt) }
+    ensures joins { OnOk result
+        (files.new.items ≡ files.old.items ++ files_on (line_shown line.now ∷ [])) }
+    ensures one { OnOk result (length files.new.items ≡ length files.old.items + 1) }
+    ensures few { OnOk result (length files.new.items ≤ 400) }
+{
+    let Some(file) = read_file_line(alloc, line.octets)? else {
+        return Err(stop_at(DirKind::BadLine, line.number));
+    };
+    if !is_in_turn(files, file.kind) {
+        return Err(stop_at(DirKind::BadLine, line.number));
+    }
+    if files.len() >= MOST_FILES {
+        return Err(stop_at(DirKind::TooMany, line.number));
+    }
+    files.push(file).map_err(AllocError::from)?;
+    Ok(())
+}
+
+// The most files that a manifest names.
+const MOST_FILES: usize = 400;
+
+// Whether a kind doesn't come before that of the last file.
+fn is_in_turn(files: &[FileLine], kind: FileKind) -> bool
+    ensures { result ≡ is_in_turn_of files.now kind }
+{
+    match files {
+        [.., last] => last.kind.place() <= kind.place(),
+        [] => true,
+    }
+}
+
+fn stop_at(kind: DirKind, line: u32) -> DirStop
+    ensures { result ≡ Fault (record { line = line; kind = kind }) }
+{
+    DirStop::Fault(DirFault { line, kind })
+}

@@ -12,7 +12,7 @@ ghost use Rattle.element_check.specs.Streams.{after_front, front_values};
 ghost use Rattle.first_look.specs.Start.{IsSeparator, IsStart};
 
 use edi_tables::{Tag, is_tag};
-use seg_lexer::Separators;
+use seg_lexer::{Separators, has_release};
 
 /// Where a component begins, counted from the segment's first octet, and its numbers.
 #[derive(Clone, Copy, Debug)]
@@ -179,22 +179,5 @@ impl<'a> PlainFields<'a> {
             None => Some(tag),
             Some(_) => None,
         }
-    }
-}
-
-// Whether one of these octets is the release character, if there is one.
-fn has_release(release: Option<u8>, octets: &[u8]) -> bool
-    ensures { result ≡ list_any (is_release_of release) octets.now }
-{
-    octets.iter().any(|octet| is_release(release, *octet))
-}
-
-#[inline(always)]
-fn is_release(release: Option<u8>, octet: u8) -> bool
-    ensures { result ≡ is_release_of release octet }
-{
-    match release {
-        Some(release) => octet == release,
-        None => false,
     }
 }

@@ -1,9 +1,11 @@
 -- The components of a segment come in order.
-use Rattle.std.proofs.Common.{◌≡◌, ℕ, ◌+◌, ◌≤◌, List, [], ◌∷◌, ◌++◌, length, Option, Some, None, sym, subst, arith}
+use Rattle.std.proofs.Common.{◌≡◌, ℕ, ◌+◌, ◌≤◌, ◌<◌, Bool, false, ◌&&◌, cond, eqb, List, [], ◌∷◌, ◌++◌, length, Option, Some, None, refl, sym, ap, ◌∙◌, subst, arith}
 use Rattle.std.specs.Prelude.{map}
-use Rattle.std.specs.List.{between, enumerate_from, flat_map}
+use Rattle.std.specs.List.{between, enumerate_from, find, flat_map}
+use Rattle.std.specs.Option.{option_map}
+use Rattle.std.proofs.lemmas.Bool.{ne_eqb}
 use Rattle.edi_octets.specs.declared.octets.Octets.{Ghosts}
-use Rattle.seg_lexer.specs.Fields.{Component, IsInOrder, PlacedComponent, component_in, components_of, cut, element_in, fields_of, placed, unplaced}
+use Rattle.seg_lexer.specs.Fields.{Component, IsInOrder, PlacedComponent, component_in, components_of, cut, element_in, fields_of, octets_at, placed, unplaced}
 use Rattle.seg_lexer.specs.Left.{components_left, fields_left}
 use Rattle.seg_lexer.specs.Place.{fields_after, fields_from, rest_of}
 use Rattle.seg_lexer.specs.Stretch.{Stretch}
@@ -59,3 +61,16 @@ components_left-in_order {o = o} f = rest-in_order f.separators (between f.start
 pub components_of-in_order : (sp : Separators) (xs : List ℕ) → IsInOrder 0 (components_of sp xs)
 unfolding fields_of
 components_of-in_order sp xs = IsInOrder-elements sp xs 0 (cut sp.release xs sp.element 0 (length xs))
+
+-- the value of a component that is looked for, by a test of the element of the first one
+abbrev at_by : ℕ → ℕ → Bool → Component → List Component → Option (List ℕ)
+at_by element component b e es =
+    option_map (λ e. e.octets) (cond (b && eqb e.component component) (Some e) (find (λ e. eqb e.element element && eqb e.component component) es))
+
+-- no component of an element is among those of later elements
+pub octets_at-past : (element component n : ℕ) (es : List Component) → element < n → IsInOrder n es → octets_at element component es ≡ None
+octets_at-past element component n [] low order = refl
+octets_at-past element component n (e ∷ es) low order =
+    let above = order.0 in
+    let other : eqb e.element element ≡ false = ne_eqb e.element element (λ same. omega arith) in
+    ap (λ b. at_by element component b e es) other ∙ octets_at-past element component e.element es (omega arith) order.1

@@ -1,22 +1,8 @@
 -- The value of a component, as it is found in one way through the components of a segment.
-use Rattle.std.proofs.Common.{◌≡◌, ◌<◌, ℕ, Bool, false, ◌&&◌, cond, eqb, List, ◌∷◌, [], Option, Some, None, refl, sym, ap, subst, ◌∙◌, arith}
-use Rattle.std.specs.List.{find}
-use Rattle.std.specs.Option.{option_map, option_or}
-use Rattle.std.proofs.lemmas.Bool.{ne_eqb}
+use Rattle.std.proofs.Common.{◌≡◌, ◌<◌, ℕ, List, ◌∷◌, Option, Some, None, refl, sym, ap, subst, ◌∙◌, arith}
+use Rattle.std.specs.Option.{option_or}
 use Rattle.seg_lexer.specs.Fields.{Component, IsInOrder, octets_at}
-
--- the value of a component that is looked for, by a test of the element of the first one
-abbrev at_by : ℕ → ℕ → Bool → Component → List Component → Option (List ℕ)
-at_by element component b e es =
-    option_map (λ e. e.octets) (cond (b && eqb e.component component) (Some e) (find (λ e. eqb e.element element && eqb e.component component) es))
-
--- no component of an element is among those of later elements
-pub octets_at-past : (element component n : ℕ) (es : List Component) → element < n → IsInOrder n es → octets_at element component es ≡ None
-octets_at-past element component n [] low order = refl
-octets_at-past element component n (e ∷ es) low order =
-    let above = order.0 in
-    let other : eqb e.element element ≡ false = ne_eqb e.element element (λ same. omega arith) in
-    ap (λ b. at_by element component b e es) other ∙ octets_at-past element component e.element es (omega arith) order.1
+use Rattle.seg_lexer.proofs.OrderLemmas.{octets_at-past}
 
 or_none : (before : Option (List ℕ)) → before ≡ option_or before None
 or_none None = refl

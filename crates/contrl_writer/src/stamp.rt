@@ -1,10 +1,11 @@
 //! The stamp and the reference that an acknowledgement is made with.
 ghost use Rattle.std.specs.Prelude.{◌≡◌, ◌↔◌, Some, None, if◌then◌else◌};
-ghost use Rattle.std.specs.Str.{all_ascii_digits};
 ghost use Rattle.edi_tables.specs.Tag.{is_tag_octet_of};
 ghost use Rattle.edi_octets.specs.Profile.{has_digits};
 ghost use Rattle.contrl_writer.specs.Stamp.{IsStamp, stamp_in, stamp_text, is_reference_of};
 ghost use Rattle.contrl_writer.specs.declared.stamp.Stamp as stamps;
+
+use edi_octets::are_digits;
 
 /// The most octets of a reference.
 const MOST_OCTETS: usize = 14;
@@ -38,12 +39,6 @@ fn read_digits<const N: usize>(part: &[u8]) -> Option<[u8; N]>
         return None;
     }
     part.try_into().ok()
-}
-
-fn are_digits(part: &[u8]) -> bool
-    ensures { result ≡ all_ascii_digits part.now }
-{
-    part.iter().all(|octet| octet.is_ascii_digit())
 }
 
 /// Whether a word is a reference: 1 to 14 octets of `A` to `Z` and `0` to `9`.

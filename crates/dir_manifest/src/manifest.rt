@@ -1,19 +1,15 @@
 //! Manifests: the labels of a directory, and the files that it is made of.
 ghost use Rattle.std.specs.Prelude.{◌≡◌, ◌≤◌, ◌+◌, ◌++◌, ◌∷◌, [], List, ℕ, length, IfOk, IfSome, OnOk, option_and_then};
-ghost use Rattle.std.specs.List.{list_all};
 ghost use Rattle.dir_manifest.specs.Counted.{counted_left};
-ghost use Rattle.edi_tables.specs.Tag.{is_tag_octet_of};
 ghost use Rattle.dir_manifest.specs.Manifest.{HasLabelForms, is_in_turn as is_in_turn_of, kind_named, place_of, labels_on, file_on, file_faults, faults_on, files_on, manifest_in, words_in};
 ghost use Rattle.edi_octets.specs.DirStop.{fault_in};
 ghost use Rattle.edi_tables.specs.First.{Answers, unless_faulty};
-ghost use Rattle.edi_tables.specs.Forms.{is_label as is_label_of};
 ghost use Rattle.edi_octets.specs.Left.{line_shown};
 ghost use Rattle.edi_octets.specs.Lines.{Line};
-ghost use Rattle.edi_octets.specs.declared.fault.DirStop.TheVariants.{Fault};
 
 use crate::counted::CountedLines;
 use crate::words::{four_words, two_words};
-use edi_octets::{DirFault, DirKind, DirStop, LineText, is_name};
+use edi_octets::{DirKind, DirStop, LineText, is_label, is_name};
 use edi_tables::{Chunk, List};
 use std::alloc::{AllocError, Global};
 
@@ -61,10 +57,10 @@ pub fn read_manifest(alloc: Global, octets: &[u8]) -> Result<Manifest, DirStop>
 {
     let mut lines = CountedLines::of(octets);
     let Some(head) = lines.next() else {
-        return Err(stop_at(DirKind::BadLine, 0));
+        return Err(DirStop::at(0, DirKind::BadLine));
     };
     let Some(labels) = read_labels(alloc, head.octets)? else {
-        return Err(stop_at(DirKind::BadLine, head.number));
+        return Err(DirStop::at(head.number, DirKind::BadLine));
     };
     let files = read_files(alloc, lines)?;
     Ok(Manifest {
@@ -107,20 +103,6 @@ fn read_labels(alloc: Global, line: &[u8]) -> Result<Option<Labels>, AllocError>
         release: Chunk::of(alloc, release)?,
         agency: Chunk::of(alloc, agency)?,
     }))
-}
-
-// Whether a word has 1 to so many octets of `A` to `Z` and `0` to `9`.
-fn is_label(word: &[u8], most: usize) -> bool
-    ensures { result ≡ is_label_of most word.now }
-{
-    1 <= word.len() && word.len() <= most && has_label_octets(word)
-}
-
-// Whether each octet is one of `A` to `Z` and `0` to `9`.
-fn has_label_octets(word: &[u8]) -> bool
-    ensures { result ≡ list_all is_tag_octet_of word.now }
-{
-    word.iter().all(|octet| octet.is_ascii_uppercase() || octet.is_ascii_digit())
 }
 
 // The file that a manifest's later line names.
@@ -188,13 +170,13 @@ fn read_line(alloc: Global, line: &LineText<'_>, files: &mut Vec<FileLine>) -> R
     ensures few { OnOk result (length files.new.items ≤ 400) }
 {
     let Some(file) = read_file_line(alloc, line.octets)? else {
-        return Err(stop_at(DirKind::BadLine, line.number));
+        return Err(DirStop::at(line.number, DirKind::BadLine));
     };
     if !is_in_turn(files, file.kind) {
-        return Err(stop_at(DirKind::BadLine, line.number));
+        return Err(DirStop::at(line.number, DirKind::BadLine));
     }
     if files.len() >= MOST_FILES {
-        return Err(stop_at(DirKind::TooMany, line.number));
+        return Err(DirStop::at(line.number, DirKind::TooMany));
     }
     files.push(file).map_err(AllocError::from)?;
     Ok(())
@@ -211,10 +193,4 @@ fn is_in_turn(files: &[FileLine], kind: FileKind) -> bool
         [.., last] => last.kind.place() <= kind.place(),
         [] => true,
     }
-}
-
-fn stop_at(kind: DirKind, line: u32) -> DirStop
-    ensures { result ≡ Fault (record { line = line; kind = kind }) }
-{
-    DirStop::Fault(DirFault { line, kind })
 }

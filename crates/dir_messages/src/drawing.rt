@@ -7,7 +7,7 @@ ghost use Rattle.dir_messages.specs.Message.{form_faults, row_tag};
 use crate::form::{Form, form_of};
 use crate::table_line::read_table_line;
 use crate::words;
-use edi_octets::{Cells, DirFault, DirKind, DirStop, LineText, is_greater};
+use edi_octets::{Cells, DirKind, DirStop, LineText, is_greater};
 use edi_tables::{Chunk, List, MessageDef, RowFault, Table, TableKind, TableRow, Tag};
 use std::alloc::{AllocError, Global};
 
@@ -64,7 +64,7 @@ impl Drawing {
             → DrawsOrStops earlier (line_shown line.now) result self.new }
     {
         if words::type_name(line).is_some() {
-            return Err(stop_at(line.number, DirKind::BadLine));
+            return Err(DirStop::at(line.number, DirKind::BadLine));
         }
         let Some(position) = words::position_of(line) else {
             return Ok(());
@@ -74,7 +74,7 @@ impl Drawing {
                 self.push(line.number, position, drawn)?;
                 Ok(())
             }
-            Err(kind) => Err(stop_at(line.number, kind)),
+            Err(kind) => Err(DirStop::at(line.number, kind)),
         }
     }
 
@@ -92,7 +92,7 @@ impl Drawing {
             (record { name = name.now; rows = rows_of drawn })) }
     {
         if let Some(line) = self.unclosed_line() {
-            return Err(stop_at(line, DirKind::NotClosed));
+            return Err(DirStop::at(line, DirKind::NotClosed));
         }
         self.judge_rows(type_line)?;
         let name = Chunk::of(alloc, name)?;
@@ -123,7 +123,7 @@ impl Drawing {
         match Table::first_fault(&self.rows) {
             None => Ok(()),
             Some(RowFault { at, kind }) => {
-                Err(stop_at(self.line_of(at, type_line), kind_of(kind)))
+                Err(DirStop::at(self.line_of(at, type_line), kind_of(kind)))
             }
         }
     }
@@ -185,13 +185,6 @@ impl Drawing {
         self.last_position = Some(position);
         Ok(())
     }
-}
-
-/// The stop for a fault at a line.
-pub(crate) fn stop_at(line: u32, kind: DirKind) -> DirStop
-    ensures { result ≡ DirStop.Fault (record { line = line; kind = kind }) }
-{
-    DirStop::Fault(DirFault { line, kind })
 }
 
 /// The word for a rule of segment tables.

@@ -8,7 +8,7 @@ ghost use Rattle.edi_octets.specs.Lines.{Line};
 ghost use Rattle.edi_octets.specs.Profile.{fields_of};
 ghost use Rattle.dir_messages.specs.Message.{message_in, message_after, name_on};
 
-use crate::drawing::{Drawing, stop_at};
+use crate::drawing::Drawing;
 use crate::words::type_name;
 use edi_octets::{DirKind, DirStop, Lines};
 use edi_tables::MessageDef;
@@ -31,7 +31,7 @@ pub fn read_message(alloc: Global, file: &[u8]) -> Result<MessageDef, DirStop>
         }
         count += 1;
     }
-    Err(stop_at(count, DirKind::NoType))
+    Err(DirStop::at(count, DirKind::NoType))
 }
 
 /// Reads the lines after the type line, which has this name and number.

@@ -1,16 +1,13 @@
 //! The words of a drawn message file: type lines, positions and numbers.
-ghost use Rattle.std.specs.Prelude.{◌≡◌, ◌≤◌, ◌==◌, false, true, MatchOption, option_copied, length};
-ghost use Rattle.std.specs.List.{list_all};
-ghost use Rattle.std.specs.Str.{bytes_eq, all_ascii_digits, str_eq_ignore_ascii_case};
+ghost use Rattle.std.specs.Prelude.{◌≡◌, ◌≤◌, false, true, MatchOption, option_copied, length};
+ghost use Rattle.std.specs.Str.{bytes_eq, str_eq_ignore_ascii_case};
 ghost use Rattle.edi_octets.specs.Left.{line_shown};
 ghost use Rattle.edi_octets.specs.Profile as profile;
 ghost use Rattle.edi_octets.specs.Profile.{fields_of};
-ghost use Rattle.edi_tables.specs.Forms.{is_message_name};
-ghost use Rattle.edi_tables.specs.Tag.{is_tag_octet_of};
 ghost use Rattle.dir_messages.specs.Message as message;
 ghost use Rattle.dir_messages.specs.Message.{begins_type};
 
-use edi_octets::{LineText, read_position};
+use edi_octets::{LineText, are_digits, is_message_name, read_position};
 
 /// How deep a table line may be indented.
 const MOST_INDENTATION: usize = 4;
@@ -41,20 +38,6 @@ fn is_type(message: &[u8], kind: &[u8], colon: &[u8]) -> bool
     message == b"Message".as_slice() && kind == b"Type".as_slice() && colon == b":".as_slice()
 }
 
-/// Whether these octets are a message's name: six of `A` to `Z` and `0` to `9`, the first a letter.
-fn is_message_name(name: &[u8]) -> bool
-    ensures { result ≡ is_message_name name.now }
-{
-    name.len() == 6 && name[0].is_ascii_uppercase() && are_name_octets(name)
-}
-
-/// Whether each octet is one of `A` to `Z` and `0` to `9`.
-fn are_name_octets(name: &[u8]) -> bool
-    ensures { result ≡ list_all is_tag_octet_of name.now }
-{
-    name.iter().all(|octet| octet.is_ascii_uppercase() || octet.is_ascii_digit())
-}
-
 /// The position of a table line; `None` for any other line.
 pub(crate) fn position_of(line: &LineText<'_>) -> Option<u64>
     ensures { MatchOption result
@@ -78,13 +61,6 @@ pub(crate) fn is_number(field: &[u8]) -> bool
         [b'0', ..] => false,
         _ => are_digits(field),
     }
-}
-
-/// Whether each octet is a digit.
-fn are_digits(field: &[u8]) -> bool
-    ensures { result ≡ all_ascii_digits field.now }
-{
-    field.iter().all(|octet| octet.is_ascii_digit())
 }
 
 /// Whether a field has `-` alone.

@@ -1,12 +1,10 @@
 //! The labels of a directory.
 ghost use Rattle.std.specs.Prelude.{◌≡◌, IfOk};
-ghost use Rattle.std.specs.List.{list_all};
 ghost use Rattle.std.specs.Option.{option_map};
-ghost use Rattle.edi_tables.specs.Forms.{is_label as is_label_of};
-ghost use Rattle.edi_tables.specs.Tag.{is_tag_octet_of};
 ghost use Rattle.dir_store.specs.Rules.{labels_in};
 
 use crate::words::three_words;
+use edi_octets::is_label;
 use edi_tables::Chunk;
 use std::alloc::{AllocError, Global};
 
@@ -33,18 +31,4 @@ pub fn read_labels(alloc: Global, line: &[u8]) -> Result<Option<Labels>, AllocEr
         release: Chunk::of(alloc, release)?,
         agency: Chunk::of(alloc, agency)?,
     }))
-}
-
-// Whether a word has 1 to so many octets of `A` to `Z` and `0` to `9`.
-fn is_label(word: &[u8], most: usize) -> bool
-    ensures { result ≡ is_label_of most word.now }
-{
-    1 <= word.len() && word.len() <= most && has_label_octets(word)
-}
-
-/// Whether each octet is one of `A` to `Z` and `0` to `9`.
-pub fn has_label_octets(word: &[u8]) -> bool
-    ensures { result ≡ list_all is_tag_octet_of word.now }
-{
-    word.iter().all(|octet| octet.is_ascii_uppercase() || octet.is_ascii_digit())
 }

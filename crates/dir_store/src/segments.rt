@@ -1,7 +1,6 @@
 //! The lines of segments and messages.
 ghost use Rattle.std.specs.Prelude.{◌≡◌, ◌++◌, [], length, OnOk, slice_get, is_some};
 ghost use Rattle.std.specs.Option.{option_copied, option_map};
-ghost use Rattle.edi_tables.specs.Forms.{is_message_name as is_message_name_of};
 ghost use Rattle.edi_tables.specs.Rows.{table_faults};
 ghost use Rattle.dir_store.specs.Rules as rules;
 ghost use Rattle.dir_store.specs.Spelling.{segment_text, item_text, row_text, row_name, message_text};
@@ -10,11 +9,12 @@ ghost use Rattle.dir_store.specs.Store.{segment_at, item_at, row_at, message_at}
 use crate::definitions::{MOST_MEMBERS, is_between, part_of, put_status, put_used};
 use crate::entry::{Entry, put_listed, read_several};
 use crate::known::Known;
-use crate::labels::has_label_octets;
 use crate::line::{comes_after, read_head, read_line, read_number};
 use crate::stop::Stop;
 use crate::words::{four_words, two_words};
-use edi_octets::{put_decimal, read_composite_code, read_element_code, read_status};
+use edi_octets::{
+    is_message_name, put_decimal, read_composite_code, read_element_code, read_status,
+};
 use edi_tables::{Chunk, ItemDef, List as Members, MessageDef, SegmentDef, Table, TableRow, Tag};
 use service_tables::service_segment;
 use std::alloc::{AllocError, Global};
@@ -143,13 +143,6 @@ fn message_on<'l>(line: &'l [u8], before: Option<&MessageDef>) -> Option<(&'l [u
         return None;
     }
     Some((name, count))
-}
-
-// Whether a word is a message's name: six octets of `A` to `Z` and `0` to `9`, the first a letter.
-fn is_message_name(word: &[u8]) -> bool
-    ensures { result ≡ is_message_name_of word.now }
-{
-    word.len() == 6 && word[0].is_ascii_uppercase() && has_label_octets(word)
 }
 
 impl Entry for TableRow {

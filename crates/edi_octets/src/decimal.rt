@@ -25,7 +25,7 @@ pub fn read_decimal(part: &[u8]) -> Option<u64>
 }
 
 /// Whether each octet is a digit.
-pub(crate) fn are_digits(part: &[u8]) -> bool
+pub fn are_digits(part: &[u8]) -> bool
     ensures { result ≡ all_ascii_digits part.now }
 {
     part.iter().all(|octet| octet.is_ascii_digit())

@@ -73,6 +73,18 @@ pub enum DirStop {
     Memory,
 }
 
+impl DirStop {
+    ghost use Rattle.std.specs.Prelude.{◌≡◌};
+    ghost use Rattle.edi_octets.specs.declared.fault.DirStop.TheVariants.{Fault};
+
+    /// The stop for a rule that is broken at a line.
+    pub fn at(line: u32, kind: DirKind) -> DirStop
+        ensures { result ≡ Fault (record { line = line; kind = kind }) }
+    {
+        DirStop::Fault(DirFault { line, kind })
+    }
+}
+
 impl From<AllocError> for DirStop {
     ghost use Rattle.std.specs.Prelude.{◌≡◌};
     ghost use Rattle.edi_octets.specs.declared.fault.DirStop.TheVariants.{Memory};

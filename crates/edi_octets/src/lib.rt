@@ -12,11 +12,11 @@ mod profile;
 mod seen;
 
 pub use cells::Cells;
-pub use decimal::{put_decimal, read_decimal};
+pub use decimal::{are_digits, put_decimal, read_decimal};
 pub use entries::{Body, Entries, Entry};
 pub use fault::{DirFault, DirKind, DirStop};
 pub use lines::{LineText, Lines};
-pub use name::is_name;
+pub use name::{is_label, is_message_name, is_name};
 pub use octets::{Flat, Octets};
 pub use profile::{
     after_position, is_composite_code, is_element_code, is_greater, is_lone_mark,

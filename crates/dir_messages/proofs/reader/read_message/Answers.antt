@@ -39,4 +39,4 @@ loop-line-preserved c =
     IsSought-more c.args.file.now line (lines_left c.loop-line.lines) (lines_left c.next.new.self) c.loop-line.count c.loop-line.invariant c.in-Some.ensures.steps text
 
 pub returns-clause-answers : goal.returns-clause-answers
-returns-clause-answers c = rw c.stop_at.ensures (sought-nowhere c.args.file.now (lines_left c.loop-line.lines) c.loop-line.count c.loop-line.invariant c.in_default.ensures.steps.0)
+returns-clause-answers c = rw c.at.ensures (sought-nowhere c.args.file.now (lines_left c.loop-line.lines) c.loop-line.count c.loop-line.invariant c.in_default.ensures.steps.0)

@@ -15,4 +15,4 @@ pub returns-in-Err : goal.returns-in-Err
 returns-in-Err c earlier drawn =
     let line = line_shown c.args.line.now in
     let text : is_type_line line ≡ false = no_type_line line c.type_name.result c.type_name.ensures (sym c.is_some.ensures ∙ c.if-is_some.false) in
-    rw c.stop_at-in-Err.ensures (judges-fault earlier line c.in-Err.kind text c.in-Some.ensures.0 (c.in-Err.ensures.judged (filter is_table_line earlier) drawn))
+    rw c.at-in-Err.ensures (judges-fault earlier line c.in-Err.kind text c.in-Some.ensures.0 (c.in-Err.ensures.judged (filter is_table_line earlier) drawn))

@@ -13,4 +13,4 @@ pub returns-in-Some : goal.returns-in-Some
 returns-in-Some c type drawn numbered is =
     let fault : RowFault = c.in-Some.field-0 in
     let first : slice_get (table_faults c.args.self.now.rows.items) 0 ≡ Some fault = rw (← c.deref.ensures.value) (sym c.first_fault.ensures ∙ c.in-Some.is) in
-    rw (c.stop_at.ensures, c.line_of.ensures, c.kind_of.ensures, ← numbered) (rows-faulty type drawn c.args.self.now is fault.at fault.kind first)
+    rw (c.at.ensures, c.line_of.ensures, c.kind_of.ensures, ← numbered) (rows-faulty type drawn c.args.self.now is fault.at fault.kind first)

@@ -7,7 +7,7 @@ use Rattle.drill_maker.specs.Edit.{edit_of}
 use Rattle.drill_maker.specs.Interchange.{interchange_text}
 use Rattle.drill_maker.specs.Reduced.{reduced}
 use Rattle.edi_engine.specs.Edit.{text_with}
-use Rattle.edi_engine.specs.Errors.{errors_of}
+use Rattle.text_reading.specs.Errors.{errors_of}
 use Rattle.segment_walk.specs.Count.{segment_count_of}
 
 -- how many messages and edits a drill may have, and the number that they are made from

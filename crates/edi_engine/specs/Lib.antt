@@ -1,8 +1,3 @@
-pub mod Clean
 pub mod Edit
 pub mod Engine
-pub mod Errors
-pub mod Placed
 pub mod Reading
-pub mod Summary
-pub mod Tree

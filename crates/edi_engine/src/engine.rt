@@ -9,7 +9,7 @@ ghost use Rattle.segment_records.specs.Segments.{segments_in};
 ghost use Rattle.segment_walk.specs.Count.{segment_count_of};
 ghost use Rattle.segment_walk.specs.Seen.{Follows, LiesIn, seen_in};
 ghost use Rattle.edi_engine.specs.Edit.{reading_with, text_with};
-ghost use Rattle.edi_engine.specs.Placed.{AreMessagesPlaced};
+ghost use Rattle.text_reading.specs.Placed.{AreMessagesPlaced};
 
 use dir_compile::Directory;
 use edi_tables::Chunk;

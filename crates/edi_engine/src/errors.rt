@@ -8,7 +8,7 @@ ghost use Rattle.seg_lexer.specs.Context.{context_of};
 ghost use Rattle.segment_records.specs.Segments.{segments_in};
 ghost use Rattle.segment_walk.specs.Errors.{segment_lines};
 ghost use Rattle.segment_walk.specs.Heads.{heads_of, marks_of};
-ghost use Rattle.edi_engine.specs.Errors.{errors_found, errors_of};
+ghost use Rattle.text_reading.specs.Errors.{errors_found, errors_of};
 
 use crate::engine::Engine;
 use envelope_check::envelope_errors;

@@ -1,7 +1,7 @@
 //! The functional groups of a text.
 ghost use Rattle.std.specs.Prelude.{◌≡◌, IfOk};
 ghost use Rattle.segment_records.specs.Segments.{segments_in};
-ghost use Rattle.edi_engine.specs.Summary.{groups_in};
+ghost use Rattle.text_reading.specs.Summary.{groups_in};
 
 use crate::engine::Engine;
 use contrl_writer::GroupHead;

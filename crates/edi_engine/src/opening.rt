@@ -4,7 +4,7 @@ ghost use Rattle.seg_lexer.specs.Segments.{tail_of};
 ghost use Rattle.seg_lexer.specs.Service.{service_of};
 ghost use Rattle.segment_records.specs.Segments.{segments_in};
 ghost use Rattle.segment_walk.specs.Count.{segment_count_of};
-ghost use Rattle.edi_engine.specs.Errors.{advice_lines, syntax_lines, tail_lines};
+ghost use Rattle.text_reading.specs.Errors.{advice_lines, syntax_lines, tail_lines};
 
 use crate::engine::Engine;
 use error_ledger::{ErrorLine, Kind};

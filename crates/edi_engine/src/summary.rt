@@ -4,8 +4,8 @@ ghost use Rattle.contrl_writer.specs.Stamp.{IsStamp, is_reference_of};
 ghost use Rattle.dir_compile.specs.Directory.{IsDirectory};
 ghost use Rattle.seg_lexer.specs.Context.{context_of};
 ghost use Rattle.segment_records.specs.Segments.{segments_in};
-ghost use Rattle.edi_engine.specs.Clean.{IsCleanAnswer};
-ghost use Rattle.edi_engine.specs.Summary.{contrl_to, opening_in, summary_of};
+ghost use Rattle.text_reading.specs.Clean.{IsCleanAnswer};
+ghost use Rattle.text_reading.specs.Summary.{contrl_to, opening_in, summary_of};
 
 use crate::Engine;
 use contrl_writer::{Contrl, Opening, Stamp, Summary, write_contrl};
@@ -16,7 +16,7 @@ use std::alloc::{AllocError, Global};
 
 impl<'d> Engine<'d> {
     /// How the interchange is opened, its functional groups and messages, and its errors. Only want of memory is an error.
-    #[tactic(auto, unfolding(crate::specs::Summary::summary_of))]
+    #[tactic(auto, unfolding(text_reading::specs::Summary::summary_of))]
     pub fn summary(&self, alloc: Global) -> Result<Summary, AllocError>
         ensures summary { IfOk result
             (λ summary. summary ≡ summary_of self.now.directory self.now.text) }
@@ -35,7 +35,7 @@ impl<'d> Engine<'d> {
     }
 
     /// The acknowledgement of the text, made at a time, with a reference of its own. Only want of memory is an error.
-    #[tactic(auto, unfolding(crate::specs::Summary::contrl_to))]
+    #[tactic(auto, unfolding(text_reading::specs::Summary::contrl_to))]
     pub fn contrl(
         &self,
         alloc: Global,

@@ -6,8 +6,8 @@ ghost use Rattle.segment_walk.specs.Groups.{numbers_in};
 ghost use Rattle.segment_walk.specs.Look.{seen_of};
 ghost use Rattle.segment_walk.specs.Seen.{Follows};
 ghost use Rattle.segment_walk.specs.Told.{line_in_tree};
-ghost use Rattle.edi_engine.specs.Placed.{AreMessagesPlaced};
-ghost use Rattle.edi_engine.specs.Tree.{tree_of};
+ghost use Rattle.text_reading.specs.Placed.{AreMessagesPlaced};
+ghost use Rattle.text_reading.specs.Tree.{tree_of};
 
 use crate::engine::Engine;
 use dir_compile::Directory;

@@ -2,7 +2,7 @@
 use Rattle.std.specs.Prelude.{◌≡◌, ◌⊎◌, ℕ, List, Option, Some, Ok}
 use Rattle.edi_ports.specs.Faults.{HasRisen}
 use Rattle.dir_parts.specs.declared.parts.Parts.{Parts}
-use Rattle.edi_engine.specs.Placed.{AreMessagesPlaced}
+use Rattle.text_reading.specs.Placed.{AreMessagesPlaced}
 use Rattle.script_answers.specs.Finish.{IsFinish}
 use Rattle.script_answers.specs.Held.{Held}
 use Rattle.script_answers.specs.Outcome.{Outcome}

@@ -7,7 +7,7 @@ use Rattle.edi_ports.specs.declared.shelf.ShelfFile.{ShelfFile}
 use Rattle.dir_parts.specs.declared.parts.Parts.{Parts}
 use Rattle.dir_load.specs.declared.stop.Refusal.{Refusal}
 use Rattle.dir_load.specs.Load.{load_of}
-use Rattle.edi_engine.specs.Placed.{AreMessagesPlaced}
+use Rattle.text_reading.specs.Placed.{AreMessagesPlaced}
 use Rattle.script_answers.specs.Finish.{IsFinish}
 use Rattle.script_answers.specs.Held.{Held}
 use Rattle.script_answers.specs.Outcome.{Outcome, memory_refused, read_failed}

@@ -7,9 +7,9 @@ use Rattle.contrl_writer.specs.declared.answer.Contrl.TheVariants.{Octets, NoUnb
 use Rattle.edit_script.specs.declared.command.Command.{Command}
 use Rattle.edit_script.specs.declared.command.Command.TheVariants.{Replace, Errors, Tree, Contrl, Text, End}
 use Rattle.edi_engine.specs.Edit.{stop_of, text_with}
-use Rattle.edi_engine.specs.Errors.{errors_of}
-use Rattle.edi_engine.specs.Summary.{contrl_to}
-use Rattle.edi_engine.specs.Tree.{tree_of}
+use Rattle.text_reading.specs.Errors.{errors_of}
+use Rattle.text_reading.specs.Summary.{contrl_to}
+use Rattle.text_reading.specs.Tree.{tree_of}
 use Rattle.edi_engine.specs.declared.edit.EditStop.{EditStop}
 use Rattle.edi_engine.specs.declared.edit.EditStop.TheVariants.{Range, TooLong, Memory}
 

@@ -2,8 +2,8 @@
 use Rattle.std.proofs.Common.{◌≡◌, ◌⊎◌, ℕ, List, [], ◌∷◌, sym, ap, ◌∙◌, inl, inr}
 use Rattle.dir_parts.specs.declared.parts.Parts.{Parts}
 use Rattle.error_ledger.specs.declared.error.ErrorLine.{ErrorLine}
-use Rattle.edi_engine.specs.Errors.{errors_of}
-use Rattle.edi_engine.specs.Summary.{contrl_to}
+use Rattle.text_reading.specs.Errors.{errors_of}
+use Rattle.text_reading.specs.Summary.{contrl_to}
 use Rattle.contrl_writer.specs.declared.answer.Contrl.{Contrl}
 use Rattle.contrl_writer.specs.declared.answer.Contrl.TheVariants.{Octets, NoUnb, BadUnb}
 use Rattle.script_answers.specs.Outcome.{Outcome, memory_refused}

@@ -5,9 +5,9 @@ use Rattle.dir_load.specs.declared.stop.Refusal.{Refusal}
 use Rattle.edi_ports.specs.declared.named.Unread.{Unread}
 use Rattle.error_ledger.specs.declared.error.ErrorLine.{ErrorLine}
 use Rattle.error_ledger.specs.Printing.{errors_text, tree_text}
-use Rattle.edi_engine.specs.Errors.{errors_of}
-use Rattle.edi_engine.specs.Summary.{contrl_to}
-use Rattle.edi_engine.specs.Tree.{tree_of}
+use Rattle.text_reading.specs.Errors.{errors_of}
+use Rattle.text_reading.specs.Summary.{contrl_to}
+use Rattle.text_reading.specs.Tree.{tree_of}
 use Rattle.contrl_writer.specs.declared.answer.Contrl.{Contrl}
 use Rattle.contrl_writer.specs.declared.answer.Contrl.TheVariants.{Octets, NoUnb, BadUnb}
 use Rattle.script_answers.specs.Outcome.{Outcome, done, found}

@@ -1,7 +1,7 @@
 use Rattle.std.proofs.Common.{subst}
 use Rattle.edi_engine.specs.Engine.{Reading}
-use Rattle.edi_engine.specs.Placed.{AreMessagesPlaced}
-use Rattle.edi_engine.proofs.PlacedLaws.{are_placed}
+use Rattle.text_reading.specs.Placed.{AreMessagesPlaced}
+use Rattle.text_reading.proofs.PlacedLaws.{are_placed}
 use Rattle.edi_engine.proofs.engine.Engine.directory.Goals as goal
 
 pub returns-clause-lawful_trees : goal.returns-clause-lawful_trees

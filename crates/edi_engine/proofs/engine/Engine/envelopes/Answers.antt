@@ -7,7 +7,7 @@ use Rattle.segment_walk.specs.Look.{seen_of}
 use Rattle.segment_walk.specs.Seen.{LiesIn, seen_in}
 use Rattle.segment_walk.specs.Told.{head_seen, head_when, mark_seen}
 use Rattle.segment_walk.proofs.Headed.{heads_are, mark_is, marks_are}
-use Rattle.edi_engine.proofs.Passing.{filter_done, filter_left, filter_past, map_done, map_left, rest_all}
+use Rattle.text_reading.proofs.Passing.{filter_done, filter_left, filter_past, map_done, map_left, rest_all}
 use Rattle.edi_engine.proofs.engine.Engine.envelopes.Goals as goal
 
 pub loop-seen-preserved-in-Continue-branch-4 : goal.loop-seen-preserved-in-Continue-branch-4

@@ -1,6 +1,6 @@
 use Rattle.std.proofs.Common.{◌∙◌, ap}
 use Rattle.error_ledger.specs.Order.{in_order}
-use Rattle.edi_engine.specs.Errors.{errors_of}
+use Rattle.text_reading.specs.Errors.{errors_of}
 use Rattle.edi_engine.proofs.engine.Engine.errors.Goals as goal
 
 pub returns-clause-exact : goal.returns-clause-exact

@@ -1,4 +1,4 @@
-use Rattle.edi_engine.proofs.Bounds.{gathered}
+use Rattle.text_reading.proofs.Bounds.{gathered}
 use Rattle.edi_engine.proofs.engine.Engine.find_errors.Goals as goal
 
 pub returns : goal.returns

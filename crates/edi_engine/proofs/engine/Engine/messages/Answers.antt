@@ -5,9 +5,9 @@ use Rattle.contrl_writer.specs.declared.summary.MessageHead.{MessageHead}
 use Rattle.segment_walk.specs.Look.{seen_of}
 use Rattle.segment_walk.specs.Seen.{LiesIn}
 use Rattle.segment_walk.specs.Spans.{IsNumbered, grouped, message_spans, heads_from, last_by, stops_message}
-use Rattle.edi_engine.proofs.Passing.{first_all, rest_all}
+use Rattle.text_reading.proofs.Passing.{first_all, rest_all}
 use Rattle.segment_walk.proofs.Spanned.{heads_done, heads_on, heads_stop}
-use Rattle.edi_engine.proofs.Summed.{few_left, few_same, grouped_next, messages_told, numbered_in}
+use Rattle.text_reading.proofs.Summed.{few_left, few_same, grouped_next, messages_told, numbered_in}
 use Rattle.edi_engine.proofs.engine.Engine.messages.Goals as goal
 
 pub loop-seen-init : goal.loop-seen-init

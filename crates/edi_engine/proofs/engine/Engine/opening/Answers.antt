@@ -5,9 +5,9 @@ use Rattle.edi_tables.specs.Rows.{has_name}
 use Rattle.seg_lexer.specs.Context.{context_of}
 use Rattle.segment_records.specs.Segments.{segments_in}
 use Rattle.segment_walk.specs.Look.{seen_of}
-use Rattle.edi_engine.specs.Summary.{opening_in}
-use Rattle.edi_engine.proofs.Bounds.{none_left}
-use Rattle.edi_engine.proofs.Summed.{opening_none, opening_other, opening_read}
+use Rattle.text_reading.specs.Summary.{opening_in}
+use Rattle.text_reading.proofs.Bounds.{none_left}
+use Rattle.text_reading.proofs.Summed.{opening_none, opening_other, opening_read}
 use Rattle.edi_engine.proofs.engine.Engine.opening.Goals as goal
 use Rattle.edi_engine.proofs.engine.Engine.opening.Goals.{in_default-via-in-Some+else-is_named, in_default-via-in_default}
 

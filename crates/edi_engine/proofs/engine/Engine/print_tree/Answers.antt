@@ -5,8 +5,8 @@ use Rattle.dir_compile.specs.Directory.{IsDirectory}
 use Rattle.error_ledger.specs.Printing.{IsWellPlaced, ended_lines, tree_lines}
 use Rattle.segment_walk.specs.Look.{seen_of}
 use Rattle.segment_walk.specs.Seen.{Follows, seen_in}
-use Rattle.edi_engine.proofs.Passing.{rest_all}
-use Rattle.edi_engine.proofs.Printed.{all_lines, count_left, lines_few, printed_done, printed_is, printed_lines, text_left, well_first}
+use Rattle.text_reading.proofs.Passing.{rest_all}
+use Rattle.text_reading.proofs.Printed.{all_lines, count_left, lines_few, printed_done, printed_is, printed_lines, text_left, well_first}
 use Rattle.edi_engine.proofs.engine.Engine.print_tree.Goals as goal
 
 pub loop-seen-init : goal.loop-seen-init

@@ -2,7 +2,7 @@ use Rattle.std.proofs.Common.{◌≡◌, ◌+◌, ◌≤◌, ◌++◌, length}
 use Rattle.std.specs.Prelude.{All}
 use Rattle.error_ledger.specs.Printing.{ended_lines}
 use Rattle.segment_walk.specs.Seen.{Follows}
-use Rattle.edi_engine.proofs.Printed.{all_lines}
+use Rattle.text_reading.proofs.Printed.{all_lines}
 use Rattle.edi_engine.proofs.engine.Engine.print_tree.Given as goal
 
 -- the lines of the segments to come are left to be put and counted; there are at most two for each of 4194304 segments

@@ -7,7 +7,7 @@ use Rattle.segment_walk.specs.Line.{lines_seen, local_seen, structure_seen}
 use Rattle.segment_walk.specs.Look.{seen_of}
 use Rattle.segment_walk.specs.Seen.{Follows, SeenSegment, seen_in}
 use Rattle.segment_walk.proofs.Likeness.{lines_are}
-use Rattle.edi_engine.proofs.Passing.{flat_done, flat_left, rest_all}
+use Rattle.text_reading.proofs.Passing.{flat_done, flat_left, rest_all}
 use Rattle.edi_engine.proofs.engine.Engine.put_segments.Goals as goal
 
 pub loop-seen-preserved : goal.loop-seen-preserved

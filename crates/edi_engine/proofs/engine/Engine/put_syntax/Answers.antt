@@ -6,7 +6,7 @@ use Rattle.segment_walk.specs.Look.{seen_of}
 use Rattle.error_ledger.specs.declared.error.ErrorLine.{ErrorLine}
 use Rattle.seg_lexer.specs.declared.service.Service.{Service}
 use Rattle.segment_walk.specs.Line.{opening_seen}
-use Rattle.edi_engine.proofs.Bounds.{none_left, opening_is, syntax_none, syntax_past}
+use Rattle.text_reading.proofs.Bounds.{none_left, opening_is, syntax_none, syntax_past}
 use Rattle.edi_engine.proofs.engine.Engine.put_syntax.Goals as goal
 
 pub returns-in-Some : goal.returns-in-Some

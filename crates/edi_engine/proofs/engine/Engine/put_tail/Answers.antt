@@ -1,5 +1,5 @@
 use Rattle.std.proofs.Common.{arith}
-use Rattle.edi_engine.proofs.Bounds.{few_counted}
+use Rattle.text_reading.proofs.Bounds.{few_counted}
 use Rattle.edi_engine.proofs.engine.Engine.put_tail.Goals as goal
 
 pub overflow_add-number : goal.overflow_add-number

@@ -5,9 +5,9 @@ use Rattle.dir_parts.specs.declared.parts.Parts.{Parts}
 use Rattle.segment_walk.specs.Look.{seen_of}
 use Rattle.segment_walk.specs.Seen.{Follows, seen_in}
 use Rattle.segment_walk.specs.Told.{line_in_tree}
-use Rattle.edi_engine.proofs.Passing.{map_done, map_left, rest_all}
+use Rattle.text_reading.proofs.Passing.{map_done, map_left, rest_all}
 use Rattle.segment_walk.proofs.TreePlaces.{well_all}
-use Rattle.edi_engine.proofs.Treed.{tree_is}
+use Rattle.text_reading.proofs.Treed.{tree_is}
 use Rattle.edi_engine.proofs.engine.Engine.tree.Goals as goal
 
 pub loop-seen-preserved : goal.loop-seen-preserved

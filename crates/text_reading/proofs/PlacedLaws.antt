@@ -31,8 +31,8 @@ use Rattle.segment_records.proofs.ModeLaws.{opened_within}
 use Rattle.segment_records.proofs.Prefixes.{length_range, length_reading, range_at}
 use Rattle.segment_records.proofs.Sites.{first_is}
 use Rattle.segment_records.proofs.Tables.{table_is}
-use Rattle.edi_engine.specs.Placed.{AreMessagesPlaced, IsMessagePlaced, entries_shown, entry_shown}
-use Rattle.edi_engine.specs.Tree.{tree_line, tree_of}
+use Rattle.text_reading.specs.Placed.{AreMessagesPlaced, IsMessagePlaced, entries_shown, entry_shown}
+use Rattle.text_reading.specs.Tree.{tree_line, tree_of}
 
 -- a place that an extent reaches is held by the place that opens it
 module _ (o c s : ℕ → Bool) (n a : ℕ) (marks : AreMarks o c s) (opens : o a ≡ true) where

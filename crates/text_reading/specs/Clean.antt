@@ -7,7 +7,7 @@ use Rattle.element_check.specs.Local.{local_errors_of}
 use Rattle.contrl_writer.specs.declared.answer.Contrl.{Contrl}
 use Rattle.contrl_writer.specs.declared.answer.Contrl.TheVariants.{Octets}
 use Rattle.segment_records.specs.Segments.{Segment, segments_in}
-use Rattle.edi_engine.specs.Errors.{errors_of}
+use Rattle.text_reading.specs.Errors.{errors_of}
 
 -- a segment has no local error, if it opens a functional group or a message
 abbrev pub IsGoodOpening : Parts → List ℕ → Segment → Type 0

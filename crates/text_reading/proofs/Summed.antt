@@ -34,11 +34,11 @@ use Rattle.segment_walk.specs.Count.{segment_count_of}
 use Rattle.segment_walk.specs.Seen.{SeenSegment, kept_in, seen_at, seen_from, seen_in}
 use Rattle.segment_walk.specs.Spans.{IsNumbered, begun_by, group_by, group_spans, grouped, heads_from, message_seen, message_spans, stops_group, stops_message}
 use Rattle.segment_walk.specs.Openers.{group_head_of, message_head_of, opening_by}
-use Rattle.edi_engine.specs.Summary.{group_of, groups_in, messages_in, opening_components, opening_in}
+use Rattle.text_reading.specs.Summary.{group_of, groups_in, messages_in, opening_components, opening_in}
 use Rattle.segment_walk.specs.Told.{components_seen}
-use Rattle.edi_engine.proofs.Bounds.{none_first, some_first}
+use Rattle.text_reading.proofs.Bounds.{none_first, some_first}
 use Rattle.segment_walk.proofs.Following.{stretch_in}
-use Rattle.edi_engine.proofs.Grouping.{below_next, group_is, opened_below, opened_next}
+use Rattle.text_reading.proofs.Grouping.{below_next, group_is, opened_below, opened_next}
 use Rattle.segment_walk.proofs.Headed.{components_alike, place_in}
 use Rattle.segment_walk.proofs.Looking.{first_left, next_left, seen_is}
 use Rattle.segment_walk.proofs.Rests.{same_count}

@@ -29,7 +29,7 @@ use Rattle.contrl_laws.proofs.Each.{Each, each-all, each-append, each-flat, each
 use Rattle.contrl_laws.proofs.Lawful.{IsPlaced}
 use Rattle.contrl_laws.proofs.Places.{NamesElement, local_names}
 use Rattle.segment_walk.specs.Errors.{error_of, fault_line, is_unknown, levels, local_line, nodes_in, segment_lines, structure_lines, versions}
-use Rattle.edi_engine.specs.Errors.{advice_lines, errors_found, errors_in, errors_of, opening_lines, syntax_lines, tail_lines}
+use Rattle.text_reading.specs.Errors.{advice_lines, errors_found, errors_in, errors_of, opening_lines, syntax_lines, tail_lines}
 use Rattle.segment_walk.specs.Heads.{heads_of, marks_of}
 
 each-when : (b : Bool) (e : ErrorLine) → IsPlaced e → Each IsPlaced (when b e)

@@ -26,11 +26,11 @@ use Rattle.contrl_laws.proofs.Openers.{unb_good, ung_good, unh_good}
 use Rattle.contrl_laws.proofs.Shape.{IsGoodSummary, IsGoodUnb}
 use Rattle.contrl_laws.proofs.Told.{IsNumbered, tag-named, text-numbered}
 use Rattle.contrl_laws.proofs.Values.{context_with}
-use Rattle.edi_engine.specs.Clean.{IsGoodOpening}
-use Rattle.edi_engine.specs.Errors.{errors_of}
+use Rattle.text_reading.specs.Clean.{IsGoodOpening}
+use Rattle.text_reading.specs.Errors.{errors_of}
 use Rattle.segment_walk.specs.Openers.{group_head_of, message_head_of, opening_by}
-use Rattle.edi_engine.specs.Summary.{group_of, groups_in, messages_in, opening_components, opening_in, summary_of}
-use Rattle.edi_engine.proofs.CleanPlaces.{each-ordered, errors_placed}
+use Rattle.text_reading.specs.Summary.{group_of, groups_in, messages_in, opening_components, opening_in, summary_of}
+use Rattle.text_reading.proofs.CleanPlaces.{each-ordered, errors_placed}
 
 -- what a segment of a text is known to have
 abbrev IsRead : Segment → Type 0

@@ -13,8 +13,8 @@ use Rattle.error_ledger.proofs.PrintLemmas.{lines_bounded}
 use Rattle.segment_walk.specs.Seen.{Follows, SeenSegment, seen_in}
 use Rattle.segment_walk.specs.Told.{line_in_tree}
 use Rattle.segment_walk.proofs.TreePlaces.{well_all}
-use Rattle.edi_engine.specs.Tree.{tree_of}
-use Rattle.edi_engine.proofs.Treed.{tree_is}
+use Rattle.text_reading.specs.Tree.{tree_of}
+use Rattle.text_reading.proofs.Treed.{tree_is}
 
 -- the lines of a segment and those of segments
 abbrev pub lines_seen : Parts → SeenSegment → List (List ℕ)

@@ -49,14 +49,14 @@ use Rattle.contrl_laws.proofs.Runs.{HaveTags, contrl_runs, runs_free}
 use Rattle.contrl_laws.proofs.Shape.{IsGoodSummary, IsShaped, contrl_shape, shaped}
 use Rattle.contrl_laws.proofs.Values.{context_with, decimal_back}
 use Rattle.contrl_laws.proofs.Walk.Spot.{AtHead}
-use Rattle.edi_engine.specs.Clean.{IsCleanAnswer, IsGoodOpening}
+use Rattle.text_reading.specs.Clean.{IsCleanAnswer, IsGoodOpening}
 use Rattle.segment_walk.specs.Errors.{fault_line, is_unknown, local_line, nodes_in, segment_lines, structure_lines, versions}
-use Rattle.edi_engine.specs.Errors.{advice_lines, errors_found, errors_in, errors_of, opening_lines, syntax_lines, tail_lines}
+use Rattle.text_reading.specs.Errors.{advice_lines, errors_found, errors_in, errors_of, opening_lines, syntax_lines, tail_lines}
 use Rattle.segment_walk.specs.Errors as errors
 use Rattle.segment_walk.specs.Heads.{heads_of, marks_of}
-use Rattle.edi_engine.specs.Summary.{contrl_to, summary_of}
-use Rattle.edi_engine.proofs.CleanHeads.{IsMessage, each-plain, message_free}
-use Rattle.edi_engine.proofs.CleanSummary.{IsOpened, summary_good, summary_opened}
+use Rattle.text_reading.specs.Summary.{contrl_to, summary_of}
+use Rattle.text_reading.proofs.CleanHeads.{IsMessage, each-plain, message_free}
+use Rattle.text_reading.proofs.CleanSummary.{IsOpened, summary_good, summary_opened}
 
 abbrev tag_with : List ℕ → Option Tag
 tag_with octets = Some (record { octets = octets })

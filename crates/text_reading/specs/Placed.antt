@@ -14,7 +14,7 @@ use Rattle.table_walk.specs.Reading.{first_free, member_at}
 use Rattle.segment_records.specs.Segments.{segments_in}
 use Rattle.segment_records.specs.Messages.{nodes_at, position_at, tags_of_message}
 use Rattle.segment_records.specs.Messages.Position.{Within}
-use Rattle.edi_engine.specs.Tree.{tree_of}
+use Rattle.text_reading.specs.Tree.{tree_of}
 
 -- the entry that a member of a tree shows, if it shows one
 abbrev pub entry_shown : TreePlace → Option ℕ

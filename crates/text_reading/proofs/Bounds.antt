@@ -18,7 +18,7 @@ use Rattle.seg_lexer.specs.declared.service.Service.{Service}
 use Rattle.segment_records.specs.Segments.{Segment, segments_in, value_in}
 use Rattle.segment_walk.specs.Count.{segment_count_of}
 use Rattle.segment_walk.specs.Errors.{error_with, is_unknown, levels, segment_lines, versions}
-use Rattle.edi_engine.specs.Errors.{advice_lines, errors_found, opening_lines, syntax_lines, tail_lines}
+use Rattle.text_reading.specs.Errors.{advice_lines, errors_found, opening_lines, syntax_lines, tail_lines}
 use Rattle.segment_walk.specs.Heads.{heads_of, marks_of}
 use Rattle.segment_walk.specs.Line.{opening_seen}
 use Rattle.segment_walk.specs.Look.{seen_of}

@@ -7,7 +7,7 @@ use Rattle.std.proofs.lemmas.Bool.{cases_Bool}
 use Rattle.edi_tables.specs.Extents.{Extent, lies_in}
 use Rattle.edi_tables.proofs.Openings.{AreMarks, first_of, holder, next_stop, opened, stretch, stretch_at, stretches}
 use Rattle.edi_tables.proofs.Searching.{find_given}
-use Rattle.edi_engine.specs.Summary.{group_of}
+use Rattle.text_reading.specs.Summary.{group_of}
 
 -- how many places below one open an extent
 abbrev pub opened_below : (ℕ → Bool) → ℕ → ℕ

@@ -12,7 +12,7 @@ use Rattle.segment_records.proofs.PlaceLaws.{steps_tell_places}
 use Rattle.segment_walk.specs.Seen.{seen_at, seen_in}
 use Rattle.segment_walk.specs.Told.{line_in_tree}
 use Rattle.segment_walk.proofs.Looking.{all_enumerated, map_alike, seen_is}
-use Rattle.edi_engine.specs.Tree.{tree_line, tree_of}
+use Rattle.text_reading.specs.Tree.{tree_line, tree_of}
 
 module _ (dir : Parts) (directory : IsDirectory dir) (text : List ℕ) where
   pub tree_is : map (line_in_tree dir) (seen_in dir text) ≡ tree_of dir text

@@ -1,0 +1,11 @@
+pub mod Bounds
+pub mod CleanHeads
+pub mod CleanLaws
+pub mod CleanPlaces
+pub mod CleanSummary
+pub mod Grouping
+pub mod Passing
+pub mod PlacedLaws
+pub mod Printed
+pub mod Summed
+pub mod Treed

@@ -1,0 +1,5 @@
+pub mod Clean
+pub mod Errors
+pub mod Placed
+pub mod Summary
+pub mod Tree

@@ -21,13 +21,13 @@ use Rattle.dir_parts.specs.declared.parts.Parts.{Parts}
 use Rattle.dir_parts.specs.Compile.{composite_name, segment_name, named_in, is_service_tag, item_faults, tag_faults, row_faults}
 use Rattle.edi_tables.proofs.AscendingLemmas.{before-trans, ascending-tail}
 use Rattle.dir_parts.proofs.AscendingLemmas.{Has, IsAscending}
-use Rattle.dir_store.specs.Lines.{Reading, lined}
-use Rattle.dir_store.specs.Rules.{is_between, kept, number_in, comes_after, part_of, composite_of, item_of, item_with, item_in, tag_of, called, row_of, row_with, row_in}
+use Rattle.store_lines.specs.Lines.{Reading, lined}
+use Rattle.store_lines.specs.Rules.{is_between, kept, number_in, comes_after, part_of, composite_of, item_of, item_with, item_in, tag_of, called, row_of, row_with, row_in}
 use Rattle.dir_store.specs.Spelling.{status_text, item_text, row_name, row_text}
 use Rattle.dir_store.specs.Store.{item_at, row_at}
-use Rattle.dir_store.specs.Words.{two_in, four_in}
-use Rattle.dir_store.proofs.LineLemmas.{some-is, and-both, IsPlain, IsLine, joined-line, two-takes, two-again, four-takes, four-again}
-use Rattle.dir_store.proofs.NumberLemmas.{digits-plain, tag-octets-plain, decimal-plain, number-takes, number-again}
+use Rattle.store_lines.specs.Words.{two_in, four_in}
+use Rattle.store_lines.proofs.LineLemmas.{some-is, and-both, IsPlain, IsLine, joined-line, two-takes, two-again, four-takes, four-again}
+use Rattle.store_lines.proofs.NumberLemmas.{digits-plain, tag-octets-plain, decimal-plain, number-takes, number-again}
 use Rattle.dir_store.proofs.ReprLemmas.{status-takes, status-again, status-plain}
 use Rattle.dir_store.proofs.SeveralLemmas.{Each, IsSpelled, kept-takes, kept-again, line-spelled}
 use Rattle.dir_store.proofs.KindLemmas.{passed-takes, mapped-takes, element-plain, unbroken, unbroken-again, unbroken-not, not-broken, part_of-takes, part_of-again, used_words, used-line}

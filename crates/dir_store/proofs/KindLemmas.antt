@@ -15,12 +15,12 @@ use Rattle.edi_tables.specs.Rows.{when}
 use Rattle.edi_octets.specs.Profile.{repr_in, status_in}
 use Rattle.dir_parts.specs.declared.parts.Parts.{Parts}
 use Rattle.dir_parts.specs.Compile.{element_name, value_name, named_in, is_same_class, is_same_bool, is_same_repr, part_against, part_faults}
-use Rattle.dir_store.specs.Rules.{comes_after, element_with, element_in, value_in, part_of, part_with, part_in}
+use Rattle.store_lines.specs.Rules.{comes_after, element_with, element_in, value_in, part_of, part_with, part_in}
 use Rattle.dir_store.specs.Spelling.{repr_text, status_text, element_text, value_text, part_text}
 use Rattle.dir_store.specs.Store.{element_at, value_at, part_at}
-use Rattle.dir_store.specs.Words.{two_in}
-use Rattle.dir_store.proofs.LineLemmas.{some-is, and-both, and-three, is_plain, IsPlain, IsLine, line-plain, joined-line, two-takes, two-again}
-use Rattle.dir_store.proofs.NumberLemmas.{digits-plain}
+use Rattle.store_lines.specs.Words.{two_in}
+use Rattle.store_lines.proofs.LineLemmas.{some-is, and-both, and-three, is_plain, IsPlain, IsLine, line-plain, joined-line, two-takes, two-again}
+use Rattle.store_lines.proofs.NumberLemmas.{digits-plain}
 use Rattle.dir_store.proofs.ReprLemmas.{repr-takes, repr-again, repr-plain, status-takes, status-again, status-plain}
 use Rattle.dir_store.proofs.SeveralLemmas.{IsSpelled, line-spelled}
 

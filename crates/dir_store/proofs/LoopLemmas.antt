@@ -1,8 +1,8 @@
 -- Members that are read one after another, as a loop reads them.
 use Rattle.std.proofs.Common.{◌≡◌, ◌+◌, ◌-◌, ◌≤◌, ◌<◌, ℕ, suc, List, [], ◌∷◌, ◌++◌, Option, Some, None, IfSome, Ok, Err, sym, ap, ◌∙◌, arith}
-use Rattle.dir_store.specs.declared.stop.Stop.{Stop}
-use Rattle.dir_store.specs.Lines.{◌>>=◌, Reading, last_of, several}
-use Rattle.dir_store.specs.Stop.{left_in}
+use Rattle.store_lines.specs.declared.stop.Stop.{Stop}
+use Rattle.store_lines.specs.Lines.{◌>>=◌, Reading, last_of, several}
+use Rattle.store_lines.specs.Stop.{left_in}
 
 module _ {A : Type 0} (member : Option A → List ℕ → Reading A) where
   step : (n : ℕ) (before : List A) (octets : List ℕ) (x : A) (after : List ℕ) → member (last_of before) octets ≡ Ok (x, after) → several (suc n) member before octets ≡ several n member (before ++ x ∷ []) after

@@ -6,13 +6,13 @@ use Rattle.std.specs.Option.{option_map}
 use Rattle.std.proofs.Math.Seq.{get_or-append_seam}
 use Rattle.std.proofs.lemmas.List.{append_assoc, append-nil, length-append}
 use Rattle.std.proofs.lemmas.Option.{slice_get-get_or, option_and_then_some}
-use Rattle.dir_store.specs.Lines.{◌>>=◌, Reading, last_of, several, found_at, lined}
-use Rattle.dir_store.specs.Rules.{kept, number_in, head_with, head_in}
-use Rattle.dir_store.specs.Words.{two_in}
+use Rattle.store_lines.specs.Lines.{◌>>=◌, Reading, last_of, several, found_at, lined}
+use Rattle.store_lines.specs.Rules.{kept, number_in, head_with, head_in}
+use Rattle.store_lines.specs.Words.{two_in}
 use Rattle.dir_store.specs.Spelling.{listed}
 use Rattle.dir_store.specs.Store.{headed}
-use Rattle.dir_store.proofs.LineLemmas.{bind_ok, ok-is, some-is, IsPlain, IsLine, joined-line, found-takes, lined-takes, lined-again, two-takes, two-again}
-use Rattle.dir_store.proofs.NumberLemmas.{decimal-plain, number-takes, number-again}
+use Rattle.store_lines.proofs.LineLemmas.{bind_ok, ok-is, some-is, IsPlain, IsLine, joined-line, found-takes, lined-takes, lined-again, two-takes, two-again}
+use Rattle.store_lines.proofs.NumberLemmas.{decimal-plain, number-takes, number-again}
 
 -- the last member of a list that ends with it
 pub last-pushed : {A : Type 0} (xs : List A) (x : A) → last_of (xs ++ x ∷ []) ≡ Some x

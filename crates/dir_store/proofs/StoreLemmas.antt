@@ -19,14 +19,14 @@ use Rattle.dir_parts.specs.Forms.{HasForms}
 use Rattle.dir_parts.specs.Ordered.{IsInOrder}
 use Rattle.dir_parts.proofs.AscendingLemmas.{IsAscending, apart-from-ascending, pairs-from-ascending}
 use Rattle.dir_parts.proofs.Apart.{none-from-apart}
-use Rattle.dir_store.specs.declared.labels.Labels.{Labels}
-use Rattle.dir_store.specs.Lines.{Reading, lined}
-use Rattle.dir_store.specs.Rules.{first_in, labels_with, labels_in}
+use Rattle.store_lines.specs.declared.labels.Labels.{Labels}
+use Rattle.store_lines.specs.Lines.{Reading, lined}
+use Rattle.store_lines.specs.Rules.{labels_with, labels_in}
 use Rattle.dir_store.specs.Spelling.{first_line, line_of, listed}
-use Rattle.dir_store.specs.Store.{section_of, section_at}
-use Rattle.dir_store.specs.Words.{three_in}
-use Rattle.dir_store.proofs.LineLemmas.{some-is, and-three, IsPlain, joined-line, lined-takes, lined-again, three-takes, three-again}
-use Rattle.dir_store.proofs.NumberLemmas.{tag-octets-plain}
+use Rattle.dir_store.specs.Store.{first_in, section_of, section_at}
+use Rattle.store_lines.specs.Words.{three_in}
+use Rattle.store_lines.proofs.LineLemmas.{some-is, and-three, IsPlain, joined-line, lined-takes, lined-again, three-takes, three-again}
+use Rattle.store_lines.proofs.NumberLemmas.{tag-octets-plain}
 use Rattle.dir_store.proofs.SeveralLemmas.{Each, IsSpelled, headed-takes, headed-again}
 use Rattle.dir_store.proofs.KindLemmas.{passed-takes, IsElement}
 use Rattle.dir_store.proofs.EntryLemmas.{all-good, none-good, each-weaker, nil-both, Rises, ascending-each}

@@ -1,6 +1,7 @@
 -- What octets give as a store.
 use Rattle.std.specs.Prelude.{◌-◌, ℕ, List, [], length, Option, Some, None, Result, Ok, Err, codes, if◌then◌else◌}
 use Rattle.std.specs.Result.{result_map_both}
+use Rattle.std.specs.Str.{bytes_eq}
 use Rattle.edi_tables.specs.declared.element.ElementDef.{ElementDef}
 use Rattle.edi_tables.specs.declared.element.CodeList.{CodeList}
 use Rattle.edi_tables.specs.declared.element.CompositeDef.{CompositeDef}
@@ -12,9 +13,14 @@ use Rattle.edi_tables.specs.declared.segment.MessageDef.{MessageDef}
 use Rattle.edi_tables.specs.Rows.{table_faults}
 use Rattle.dir_parts.specs.declared.parts.Parts.{Parts}
 use Rattle.dir_parts.specs.Compile.{is_filled_with}
-use Rattle.dir_store.specs.declared.labels.Labels.{Labels}
-use Rattle.dir_store.specs.Lines.{◌>>=◌, Reading, found_at, lined, several}
-use Rattle.dir_store.specs.Rules.{first_in, labels_in, section_in, element_in, list_in, value_in, composite_in, part_in, segment_in, item_in, message_in, row_in}
+use Rattle.dir_store.specs.Spelling.{first_line}
+use Rattle.store_lines.specs.declared.labels.Labels.{Labels}
+use Rattle.store_lines.specs.Lines.{◌>>=◌, Reading, found_at, lined, several}
+use Rattle.store_lines.specs.Rules.{labels_in, section_in, element_in, list_in, value_in, composite_in, part_in, segment_in, item_in, message_in, row_in}
+
+-- the first line is `EDIDIR1`
+abbrev pub first_in : List ℕ → Option (Unit {0})
+first_in line = if bytes_eq line first_line then Some tt else None
 
 -- what a head that keeps a rule and the members after it make; where they make nothing, the fault is at the head
 abbrev pub headed : {A B : Type 0}

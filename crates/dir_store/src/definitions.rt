@@ -1,25 +1,17 @@
 //! The lines of data elements, code lists and composites.
-ghost use Rattle.std.specs.Prelude.{◌≡◌, ◌==◌, ◌&&◌, ◌++◌, not, OnOk};
-ghost use Rattle.std.specs.List.{list_all};
-ghost use Rattle.std.specs.Option.{option_copied, option_map};
-ghost use Rattle.edi_tables.specs.Forms.{is_code_value as is_code_value_of};
-ghost use Rattle.dir_store.specs.Rules as rules;
+ghost use Rattle.std.specs.Prelude.{◌≡◌, ◌++◌, OnOk};
 ghost use Rattle.dir_store.specs.Spelling.{element_text, list_text, value_text, part_text, composite_text, used_text, repr_text, class_text, status_text};
 ghost use Rattle.dir_store.specs.Store.{element_at, list_at, value_at, part_at, composite_at};
 
 use crate::entry::{Entry, put_listed, read_several};
-use crate::known::Known;
-use crate::line::{comes_after, read_head, read_line};
-use crate::stop::Stop;
-use crate::words::two_words;
-use edi_octets::{put_decimal, read_composite_code, read_element_code, read_repr, read_status};
+use edi_octets::put_decimal;
 use edi_tables::{
     Chunk, Class, Code, CodeList, CompositeDef, ElementDef, List as Members, PartDef, Repr,
 };
 use std::alloc::{AllocError, Global};
-
-/// The most parts of a composite, and the most items of a segment.
-pub const MOST_MEMBERS: u64 = 99;
+use store_lines::{
+    Known, Stop, comes_after, composite_on, element_on, is_code_value, list_on, part_on, read_line,
+};
 
 impl Entry for ElementDef {
     ghost text = { element_text };
@@ -44,22 +36,6 @@ impl Entry for ElementDef {
         put_repr(out, self.repr)?;
         out.add(b"\n")
     }
-}
-
-// The data element on a line: a code in order, and a representation.
-fn element_on(line: &[u8], before: Option<&ElementDef>) -> Option<ElementDef>
-    ensures { result ≡ rules.element_in (option_copied before.entry) line.now }
-{
-    let (code, repr) = two_words(line)?;
-    let code = read_element_code(code)?;
-    if !comes_after(
-        before.map(|element| element.code.octets.as_slice()),
-        &code.octets,
-    ) {
-        return None;
-    }
-    let repr = read_repr(repr)?;
-    Some(ElementDef { code, repr })
 }
 
 fn put_repr(out: &mut Chunk, repr: Repr) -> Result<(), AllocError>
@@ -106,20 +82,6 @@ impl Entry for CodeList {
     }
 }
 
-// The element of a code list on a line, which is one of the store, in order, and how many codes follow.
-fn list_on(line: &[u8], known: &Known<'_>, before: Option<&CodeList>) -> Option<(Code, u64)>
-    ensures { option_map (λ h. (h.0.octets, h.1)) result
-        ≡ rules.list_in known.now.elements.now (option_copied before.entry) line.now }
-{
-    let (name, count) = read_head(line)?;
-    let code = read_element_code(name)?;
-    known.element(code)?;
-    if !comes_after(before.map(|list| list.element.octets.as_slice()), name) {
-        return None;
-    }
-    Some((code, count))
-}
-
 impl Entry for Chunk {
     ghost text = { value_text };
 
@@ -143,19 +105,6 @@ impl Entry for Chunk {
         out.add(self.octets())?;
         out.add(b"\n")
     }
-}
-
-// Whether a line is a code value: 1 to 35 octets, none of them a space.
-fn is_code_value(line: &[u8]) -> bool
-    ensures { result ≡ is_code_value_of line.now }
-{
-    1 <= line.len() && line.len() <= 35 && is_plain(line)
-}
-
-fn is_plain(line: &[u8]) -> bool
-    ensures { result ≡ list_all (λ x. not (x == 32) && not (x == 10)) line.now }
-{
-    line.iter().all(|octet| *octet != b' ' && *octet != b'\n')
 }
 
 impl Entry for CompositeDef {
@@ -182,32 +131,6 @@ impl Entry for CompositeDef {
     }
 }
 
-// The code of a composite on a line, in order, and how many parts follow: 1 to 99.
-fn composite_on(line: &[u8], before: Option<&CompositeDef>) -> Option<(Code, u64)>
-    ensures { option_map (λ h. (h.0.octets, h.1)) result
-        ≡ rules.composite_in (option_copied before.entry) line.now }
-{
-    let (name, count) = read_head(line)?;
-    let code = read_composite_code(name)?;
-    if !is_between(1, MOST_MEMBERS, count) {
-        return None;
-    }
-    if !comes_after(
-        before.map(|composite| composite.code.octets.as_slice()),
-        name,
-    ) {
-        return None;
-    }
-    Some((code, count))
-}
-
-/// Whether a number is in this range.
-pub fn is_between(low: u64, high: u64, n: u64) -> bool
-    ensures { result ≡ rules.is_between low high n }
-{
-    low <= n && n <= high
-}
-
 impl Entry for PartDef {
     ghost text = { part_text };
 
@@ -228,28 +151,6 @@ impl Entry for PartDef {
     fn put(&self, out: &mut Chunk) -> Result<(), AllocError> {
         put_used(out, self.code, self.must)
     }
-}
-
-// The part on a line: a data element of the store, and a status.
-fn part_on(line: &[u8], known: &Known<'_>) -> Option<PartDef>
-    ensures { result ≡ rules.part_in known.now.elements.now line.now }
-{
-    let (code, status) = two_words(line)?;
-    let must = read_status(status)?;
-    let code = read_element_code(code)?;
-    part_of(known, code, must)
-}
-
-/// The data element of the store of that code, where it is used.
-pub fn part_of(known: &Known<'_>, code: Code, must: bool) -> Option<PartDef>
-    ensures { result ≡ rules.part_of known.now.elements.now code.octets must }
-{
-    let element = known.element(code)?;
-    Some(PartDef {
-        code,
-        must,
-        repr: element.repr,
-    })
 }
 
 /// Puts the line of a data element or a composite where it is used.

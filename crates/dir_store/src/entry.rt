@@ -1,24 +1,21 @@
 //! What a store lists, read and put one after another.
 ghost use Rattle.std.specs.Prelude.{◌≡◌, ◌++◌, List, ℕ, Option, Result, [], OnOk, length};
 ghost use Rattle.std.specs.List.{flat_map};
-ghost use Rattle.std.specs.Option.{option_copied, option_map};
+ghost use Rattle.std.specs.Option.{option_copied};
 ghost use Rattle.edi_tables.specs.First.{Answers};
-ghost use Rattle.dir_store.specs.Lines.{several};
-ghost use Rattle.dir_store.specs.Rules.{section_in};
 ghost use Rattle.dir_store.specs.Spelling.{listed};
-ghost use Rattle.dir_store.specs.Stop.{left_in};
 ghost use Rattle.dir_store.specs.Store.{section_at};
+ghost use Rattle.store_lines.specs.Lines.{several};
+ghost use Rattle.store_lines.specs.Stop.{left_in};
 
-use crate::known::Known;
-use crate::line::{read_head, read_line};
-use crate::stop::Stop;
 use edi_octets::put_decimal;
 use edi_tables::Chunk;
 use std::alloc::{AllocError, Global};
+use store_lines::{Known, Stop, read_line, section_on};
 
 /// A member of one of a store's lists: it has a line, or a line and a list of its own.
 pub trait Entry: Sized + Drop {
-    ghost use Rattle.dir_store.specs.declared.known.Known.{Known};
+    ghost use Rattle.store_lines.specs.declared.known.Known.{Known};
 
     ghost text: { Self → List ℕ };
 
@@ -74,18 +71,6 @@ pub fn read_section<'o, T: Entry>(
     let (_, count) = section_on(line, letter).ok_or(Stop::at(octets))?;
     let (members, rest) = read_several(alloc, known, count, rest)?;
     Ok((members, rest))
-}
-
-// The head of the section of that letter on a line.
-fn section_on<'l>(line: &'l [u8], letter: &[u8]) -> Option<(&'l [u8], u64)>
-    ensures { option_map (λ h. (h.0.now, h.1)) result ≡ section_in letter.now line.now }
-{
-    let (name, count) = read_head(line)?;
-    if name == letter {
-        Some((name, count))
-    } else {
-        None
-    }
 }
 
 /// Puts members at the end.

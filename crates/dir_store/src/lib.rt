@@ -3,13 +3,9 @@
 
 mod definitions;
 mod entry;
-mod known;
-mod labels;
-mod line;
 mod reading;
 mod segments;
 mod stop;
-mod words;
 mod writing;
 
 pub use reading::read_store;

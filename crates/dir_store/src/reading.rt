@@ -3,20 +3,19 @@ ghost use Rattle.std.specs.Prelude.{◌≡◌, ◌≤◌, IfOk, length};
 ghost use Rattle.edi_tables.specs.First.{Answers};
 ghost use Rattle.dir_parts.specs.declared.parts.Parts.{Parts};
 ghost use Rattle.dir_compile.specs.Directory.{IsDirectory};
-ghost use Rattle.dir_store.specs.Lines.{lined};
-ghost use Rattle.dir_store.specs.Rules.{first_in, labels_in};
 ghost use Rattle.dir_store.specs.Spelling.{store_text};
-ghost use Rattle.dir_store.specs.Stop.{fault_in, left_in};
-ghost use Rattle.dir_store.specs.Store.{definitions_at, ended, parts_at, store_of};
+ghost use Rattle.dir_store.specs.Stop.{fault_in};
+ghost use Rattle.dir_store.specs.Store.{definitions_at, ended, first_in, parts_at, store_of};
+ghost use Rattle.store_lines.specs.Lines.{lined};
+ghost use Rattle.store_lines.specs.Rules.{labels_in};
+ghost use Rattle.store_lines.specs.Stop.{left_in};
 
 use crate::entry::read_section;
-use crate::known::Known;
-use crate::labels::{Labels, read_labels};
-use crate::line::read_line;
-use crate::stop::{Stop, StoreStop};
+use crate::stop::StoreStop;
 use dir_compile::{Directory, Parts, compile};
 use edi_tables::{CompositeDef, ElementDef, List, SegmentDef};
 use std::alloc::Global;
+use store_lines::{Known, Labels, Stop, read_labels, read_line};
 
 /// The directory that a store of at most 4,194,304 octets spells; else the place of its first fault.
 pub fn read_store(alloc: Global, file: &[u8]) -> Result<Directory, StoreStop>

@@ -1,23 +1,15 @@
 //! The lines of segments and messages.
-ghost use Rattle.std.specs.Prelude.{◌≡◌, ◌++◌, [], length, OnOk, slice_get, is_some};
-ghost use Rattle.std.specs.Option.{option_copied, option_map};
+ghost use Rattle.std.specs.Prelude.{◌≡◌, ◌++◌, OnOk};
 ghost use Rattle.edi_tables.specs.Rows.{table_faults};
-ghost use Rattle.dir_store.specs.Rules as rules;
 ghost use Rattle.dir_store.specs.Spelling.{segment_text, item_text, row_text, row_name, message_text};
 ghost use Rattle.dir_store.specs.Store.{segment_at, item_at, row_at, message_at};
 
-use crate::definitions::{MOST_MEMBERS, is_between, part_of, put_status, put_used};
+use crate::definitions::{put_status, put_used};
 use crate::entry::{Entry, put_listed, read_several};
-use crate::known::Known;
-use crate::line::{comes_after, read_head, read_line, read_number};
-use crate::stop::Stop;
-use crate::words::{four_words, two_words};
-use edi_octets::{
-    is_message_name, put_decimal, read_composite_code, read_element_code, read_status,
-};
+use edi_octets::put_decimal;
 use edi_tables::{Chunk, ItemDef, List as Members, MessageDef, SegmentDef, Table, TableRow, Tag};
-use service_tables::service_segment;
 use std::alloc::{AllocError, Global};
+use store_lines::{Known, Stop, item_on, message_on, read_line, row_on, segment_on};
 
 impl Entry for SegmentDef {
     ghost text = { segment_text };
@@ -43,22 +35,6 @@ impl Entry for SegmentDef {
     }
 }
 
-// The tag of a segment on a line, in order and not a service segment's, and how many items follow: 1 to 99.
-fn segment_on(line: &[u8], before: Option<&SegmentDef>) -> Option<(Tag, u64)>
-    ensures { option_map (λ h. (h.0.octets, h.1)) result
-        ≡ rules.segment_in (option_copied before.entry) line.now }
-{
-    let (name, count) = read_head(line)?;
-    let tag = Tag::read(name)?;
-    if !is_between(1, MOST_MEMBERS, count) || service_segment(tag).is_some() {
-        return None;
-    }
-    if !comes_after(before.map(|segment| segment.tag.octets.as_slice()), name) {
-        return None;
-    }
-    Some((tag, count))
-}
-
 impl Entry for ItemDef {
     ghost text = { item_text };
 
@@ -81,24 +57,6 @@ impl Entry for ItemDef {
             ItemDef::Alone { part } => put_used(out, part.code, part.must),
             ItemDef::Composite { code, must } => put_used(out, *code, *must),
         }
-    }
-}
-
-// The item on a line: a data element or a composite of the store, and a status.
-fn item_on(line: &[u8], known: &Known<'_>) -> Option<ItemDef>
-    ensures { result ≡ rules.item_in known.now.elements.now known.now.composites.now line.now }
-{
-    let (word, status) = two_words(line)?;
-    let must = read_status(status)?;
-    if let Some(code) = read_element_code(word) {
-        let part = part_of(known, code, must)?;
-        return Some(ItemDef::Alone { part });
-    }
-    let code = read_composite_code(word)?;
-    if known.has_composite(code) {
-        Some(ItemDef::Composite { code, must })
-    } else {
-        None
     }
 }
 
@@ -130,21 +88,6 @@ impl Entry for MessageDef {
     }
 }
 
-// The name of a message on a line, in order and not CONTRL, and how many rows follow: 2 to 2,000.
-fn message_on<'l>(line: &'l [u8], before: Option<&MessageDef>) -> Option<(&'l [u8], u64)>
-    ensures { option_map (λ h. (h.0.now, h.1)) result
-        ≡ rules.message_in (option_copied before.entry) line.now }
-{
-    let (name, count) = read_head(line)?;
-    if !is_message_name(name) || !is_between(2, 2000, count) || name == b"CONTRL".as_slice() {
-        return None;
-    }
-    if !comes_after(before.map(|message| message.name.octets()), name) {
-        return None;
-    }
-    Some((name, count))
-}
-
 impl Entry for TableRow {
     ghost text = { row_text };
 
@@ -171,50 +114,6 @@ impl Entry for TableRow {
         out.add(b" ")?;
         put_decimal(out, u64::from(self.max))?;
         out.add(b"\n")
-    }
-}
-
-// The row on a line: its depth, what it is called, a status, and its greatest count.
-fn row_on(line: &[u8], known: &Known<'_>) -> Option<TableRow>
-    ensures { result ≡ rules.row_in known.now.segments.now line.now }
-{
-    let (depth, word, status, max) = four_words(line)?;
-    let depth = read_between(0, 16, depth)?;
-    let tag = read_row_name(word, known)?;
-    let must = read_status(status)?;
-    let max = read_between(1, 999_999, max)?;
-    Some(TableRow {
-        tag,
-        must,
-        max: max as u32,
-        depth: depth as u8,
-    })
-}
-
-// A number in this range.
-fn read_between(low: u64, high: u64, word: &[u8]) -> Option<u64>
-    ensures { result ≡ rules.kept (rules.is_between low high) (rules.number_in word.now) }
-{
-    let n = read_number(word)?;
-    if is_between(low, high, n) {
-        Some(n)
-    } else {
-        None
-    }
-}
-
-// What a row is called: `-` for a group, or the tag of a segment of the store or a service segment.
-fn read_row_name(word: &[u8], known: &Known<'_>) -> Option<Option<Tag>>
-    ensures { result ≡ rules.called known.now.segments.now word.now }
-{
-    if word == b"-".as_slice() {
-        return Some(None);
-    }
-    let tag = Tag::read(word)?;
-    if known.has_segment(tag) || service_segment(tag).is_some() {
-        Some(Some(tag))
-    } else {
-        None
     }
 }
 

@@ -1,8 +1,7 @@
 //! Why octets are no store.
-ghost use Rattle.std.specs.Prelude.{◌≡◌, length};
-ghost use Rattle.dir_store.specs.declared.stop.Stop.TheVariants.{Fault};
+ghost use Rattle.std.specs.Prelude.{◌≡◌};
 
-use std::alloc::{AllocError, AllocFailed};
+use store_lines::Stop;
 use thiserror::Error;
 
 /// Why octets give no directory: the place of the first fault, or no memory.
@@ -16,48 +15,11 @@ pub enum StoreStop {
     Memory,
 }
 
-/// The same inside a store: how many octets there are from the fault on.
-#[derive(Clone, Copy, Debug)]
-pub enum Stop {
-    Fault { left: usize },
-    Memory,
-}
-
-impl Stop {
-    /// The stop for a fault where these octets begin.
-    pub fn at(octets: &[u8]) -> Stop
-        ensures { result ≡ Fault (length octets.now) }
-    {
-        Stop::Fault { left: octets.len() }
-    }
-}
-
-impl From<AllocError> for Stop {
-    ghost use Rattle.std.specs.Prelude.{◌≡◌};
-    ghost use Rattle.dir_store.specs.declared.stop.Stop.TheVariants.{Memory};
-
-    ghost from_gives = { λ _ e. e ≡ Memory };
-
-    fn from(_: AllocError) -> Stop {
-        Stop::Memory
-    }
-}
-
-impl<T: Drop> From<AllocFailed<T>> for Stop {
-    ghost use Rattle.std.specs.Prelude.{◌≡◌};
-    ghost use Rattle.dir_store.specs.declared.stop.Stop.TheVariants.{Memory};
-
-    ghost from_gives = { λ _ e. e ≡ Memory };
-
-    fn from(_: AllocFailed<T>) -> Stop {
-        Stop::Memory
-    }
-}
-
 impl StoreStop {
     ghost use Rattle.std.specs.Prelude.{ℕ, ◌-◌};
     ghost use Rattle.std.specs.Option.{option_map};
-    ghost use Rattle.dir_store.specs.Stop.{fault_in, left_in};
+    ghost use Rattle.dir_store.specs.Stop.{fault_in};
+    ghost use Rattle.store_lines.specs.Stop.{left_in};
 
     /// The stop of a store of so many octets, by one inside it.
     pub(crate) fn of(length: usize, stop: Stop) -> StoreStop

@@ -17,10 +17,10 @@ use Rattle.seg_lexer.specs.declared.context.Level.{Level}
 use Rattle.seg_lexer.specs.declared.context.Level.TheVariants as levels
 use Rattle.seg_lexer.specs.declared.service.Service.{Service}
 use Rattle.segment_records.specs.Segments.{Segment, segment_between, segments_by, segments_in, tag_read, value_in}
-use Rattle.contrl_writer.specs.Contrl.{level_word}
-use Rattle.contrl_writer.specs.ReadBack.{IsReadAs, components_read, values_read}
-use Rattle.contrl_writer.specs.Written as written
-use Rattle.contrl_writer.specs.Written.{Element, is_empty_element, is_empty_value, trimmed}
+use Rattle.contrl_segments.specs.Service.{level_word}
+use Rattle.contrl_segments.specs.ReadBack.{IsReadAs, components_read, values_read}
+use Rattle.contrl_segments.specs.Written as written
+use Rattle.contrl_segments.specs.Written.{Element, is_empty_element, is_empty_value, trimmed}
 use Rattle.contrl_laws.proofs.Items.{empty-is, lists_of, read-numbered}
 use Rattle.contrl_laws.proofs.Numbered.{numbered-tag, numbered-value}
 use Rattle.contrl_laws.proofs.Runs.{HaveTags}

@@ -25,8 +25,8 @@ use Rattle.element_check.specs.Local.{is_list_named}
 use Rattle.element_check.specs.Value.{counted_length, has_foreign, is_decimal, is_numeric}
 use Rattle.element_check.specs.declared.error.LocalError.{LocalError}
 use Rattle.element_check.proofs.BridgeLemmas.{elements-walk}
-use Rattle.contrl_writer.specs.ReadBack.{components_read, element_read, values_read}
-use Rattle.contrl_writer.specs.Written.{Element, Segment, alone, is_empty_element, is_empty_value, trimmed}
+use Rattle.contrl_segments.specs.ReadBack.{components_read, element_read, values_read}
+use Rattle.contrl_segments.specs.Written.{Element, Segment, alone, is_empty_element, is_empty_value, trimmed}
 use Rattle.contrl_laws.proofs.Numbered.{after-numbered, all_numbered, front-numbered, numbered-order, numbered-tag}
 
 -- the rules of a service segment

@@ -19,16 +19,16 @@ use Rattle.service_tables.specs.ServiceTables.{C, service_items_of, service_part
 use Rattle.seg_lexer.specs.declared.context.Context.{Context}
 use Rattle.seg_lexer.specs.declared.context.Level.{Level}
 use Rattle.element_check.specs.Local.{is_filled}
-use Rattle.contrl_writer.specs.Contrl.{group_party, interchange_party, uci, ucf, unb, unh, unt, unz}
-use Rattle.contrl_writer.specs.Details.{code_told, component_told, details_told, element_told, envelope_tag, has_position, is_envelope_tag, is_near, position_of, tag_told}
+use Rattle.contrl_segments.specs.Service.{acknowledged, group_party, interchange_party, rejected, ucf, uci, unb, unh, unt, unz}
+use Rattle.contrl_segments.specs.Details.{code_told, component_told, details_told, element_told, envelope_tag, has_position, is_envelope_tag, is_near, position_of, tag_told}
 use Rattle.contrl_writer.specs.Levels.{first_error}
-use Rattle.contrl_writer.specs.Report.{acknowledged, identifier_of, rejected, ucd, ucm, ucs, whole_errors}
-use Rattle.contrl_writer.specs.Stamp.{is_reference_of}
+use Rattle.contrl_writer.specs.Report.{identifier_of, ucd, ucm, ucs, whole_errors}
+use Rattle.contrl_segments.specs.Stamp.{is_reference_of}
 use Rattle.contrl_writer.specs.declared.level.Levelled.{Levelled}
-use Rattle.contrl_writer.specs.declared.stamp.Stamp.{Stamp}
-use Rattle.contrl_writer.specs.declared.summary.GroupHead.{GroupHead}
-use Rattle.contrl_writer.specs.declared.summary.MessageHead.{MessageHead}
-use Rattle.contrl_writer.specs.declared.summary.Party.{Party}
+use Rattle.contrl_segments.specs.declared.stamp.Stamp.{Stamp}
+use Rattle.contrl_segments.specs.declared.summary.GroupHead.{GroupHead}
+use Rattle.contrl_segments.specs.declared.summary.MessageHead.{MessageHead}
+use Rattle.contrl_segments.specs.declared.summary.Party.{Party}
 use Rattle.contrl_laws.proofs.Each.{Each}
 use Rattle.contrl_laws.proofs.Items.{AreGoodElements, IsGoodComposite, IsGoodValue, IsLawful}
 use Rattle.contrl_laws.proofs.Values.{IsNumber, context_with, decimal_number, empty_good, exactly, level_good, number_an, number_good, octets_good, up_to}

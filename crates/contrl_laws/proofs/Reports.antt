@@ -8,14 +8,15 @@ use Rattle.error_ledger.specs.declared.error.ErrorLine.{ErrorLine}
 use Rattle.seg_lexer.specs.declared.context.Context.{Context}
 use Rattle.edi_tables.specs.declared.element.Class.TheVariants.{An}
 use Rattle.contrl_writer.specs.Contrl.{group_answer, group_answers, is_member, lower_segments, members_of, report_where, reports_of}
-use Rattle.contrl_writer.specs.Details.{code_told, is_near}
+use Rattle.contrl_segments.specs.Details.{code_told, is_near}
 use Rattle.contrl_writer.specs.Levels.{errors_among, first_error, group_errors, is_among, is_level, message_errors}
-use Rattle.contrl_writer.specs.Report.{acknowledged, blocks_of, details_in, element_errors, errors_at, heads_of, message_blocks, positions_of, rejected, report, segment_blocks, segment_errors, ucd, ucs}
-use Rattle.contrl_writer.specs.Written.{Segment}
+use Rattle.contrl_writer.specs.Report.{blocks_of, details_in, element_errors, errors_at, heads_of, message_blocks, positions_of, report, segment_blocks, segment_errors, ucd, ucs}
+use Rattle.contrl_segments.specs.Service.{acknowledged, rejected}
+use Rattle.contrl_segments.specs.Written.{Segment}
 use Rattle.contrl_writer.specs.declared.level.ErrorLevel.TheVariants.{Message}
 use Rattle.contrl_writer.specs.declared.level.Levelled.{Levelled}
-use Rattle.contrl_writer.specs.declared.summary.GroupHead.{GroupHead}
-use Rattle.contrl_writer.specs.declared.summary.MessageHead.{MessageHead}
+use Rattle.contrl_segments.specs.declared.summary.GroupHead.{GroupHead}
+use Rattle.contrl_segments.specs.declared.summary.MessageHead.{MessageHead}
 use Rattle.contrl_laws.proofs.Each.{Each, each-all, each-both, each-filter, each-flat, each-kept, each-map, each-more, each-range, each-take}
 use Rattle.contrl_laws.proofs.Items.{IsGoodValue, IsLawful}
 use Rattle.contrl_laws.proofs.Lawful.{IsGoodGroup, IsGoodMessage, IsPlacedLevelled, acknowledged_good, code_number, rejected_good, ucd_lawful, ucf_lawful, ucm_lawful, ucs_lawful}

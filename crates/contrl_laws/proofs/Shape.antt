@@ -6,16 +6,16 @@ use Rattle.edi_octets.specs.Profile.{has_digits}
 use Rattle.error_ledger.specs.declared.error.ErrorLine.{ErrorLine}
 use Rattle.edi_tables.specs.declared.element.Class.TheVariants.{An}
 use Rattle.seg_lexer.specs.declared.context.Level.{Level}
-use Rattle.contrl_writer.specs.Contrl.{contrl_for, contrl_of, interchange_answer, level_word, lower_segments, message_of, uci, unb, unh, unt, unz}
+use Rattle.contrl_writer.specs.Contrl.{contrl_for, contrl_of, interchange_answer, lower_segments, message_of}
+use Rattle.contrl_segments.specs.Service.{acknowledged, level_word, rejected, uci, unb, unh, unt, unz}
 use Rattle.contrl_writer.specs.Levels.{first_error, interchange_errors, levelled}
-use Rattle.contrl_writer.specs.Report.{acknowledged, rejected}
-use Rattle.contrl_writer.specs.Stamp.{is_reference_of}
-use Rattle.contrl_writer.specs.Written.{Segment}
-use Rattle.contrl_writer.specs.declared.stamp.Stamp.{Stamp}
-use Rattle.contrl_writer.specs.declared.summary.Opening.{Opening}
-use Rattle.contrl_writer.specs.declared.summary.Opening.TheVariants.{Good}
-use Rattle.contrl_writer.specs.declared.summary.Party.{Party}
-use Rattle.contrl_writer.specs.declared.summary.Summary.{Summary}
+use Rattle.contrl_segments.specs.Stamp.{is_reference_of}
+use Rattle.contrl_segments.specs.Written.{Segment}
+use Rattle.contrl_segments.specs.declared.stamp.Stamp.{Stamp}
+use Rattle.contrl_segments.specs.declared.summary.Opening.{Opening}
+use Rattle.contrl_segments.specs.declared.summary.Opening.TheVariants.{Good}
+use Rattle.contrl_segments.specs.declared.summary.Party.{Party}
+use Rattle.contrl_segments.specs.declared.summary.Summary.{Summary}
 use Rattle.contrl_laws.proofs.Each.{Each, each-append, each-take}
 use Rattle.contrl_laws.proofs.Items.{IsGoodValue, IsLawful}
 use Rattle.contrl_laws.proofs.Lawful.{IsGoodGroup, IsGoodMessage, IsGoodParty, IsPlacedLevelled, acknowledged_good, reference_good, rejected_good, uci_lawful, unb_lawful, unh_lawful, unt_lawful, unz_lawful}

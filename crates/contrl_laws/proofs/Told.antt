@@ -31,7 +31,7 @@ use Rattle.element_check.specs.Streams.{after_front, composite_errors, first_val
 use Rattle.element_check.specs.declared.error.LocalError.{LocalError}
 use Rattle.element_check.proofs.BridgeLemmas.{elements-walk}
 use Rattle.segment_records.specs.Segments.{Segment, segment_between, segments_by, segments_in, tag_read, value_in}
-use Rattle.contrl_writer.proofs.PieceLemmas.{component_piece, components-are, element_pieces, pieces}
+use Rattle.contrl_segments.proofs.PieceLemmas.{component_piece, components-are, element_pieces, pieces}
 use Rattle.contrl_laws.proofs.Each.{Each}
 use Rattle.contrl_laws.proofs.Items.{AllFalse, IsGoodValue, Passes, errors-known, list-none, rules_for}
 use Rattle.contrl_laws.proofs.Numbered.{after-numbered, all_numbered, component_of, front-numbered, numbered-order, numbered-value}

@@ -7,11 +7,11 @@ use Rattle.error_ledger.specs.Kinds.{is_of_element, is_of_segment}
 use Rattle.contrl_writer.specs.declared.level.ErrorLevel.TheVariants.{Message}
 use Rattle.contrl_writer.specs.declared.level.Levelled.{Levelled}
 use Rattle.contrl_writer.specs.declared.lower.Lower.{Lower}
-use Rattle.contrl_writer.specs.Details.{code_told, is_near}
+use Rattle.contrl_segments.specs.Details.{code_told, is_near}
 use Rattle.contrl_writer.specs.Levels.{is_level}
 use Rattle.contrl_writer.specs.Lower.{details_at, heads_at, is_detail, is_head, is_whole, joined, told, with_segments}
 use Rattle.contrl_writer.specs.Report.{blocks_of, details_in, element_errors, heads_of, segment_blocks, segment_errors, ucd, ucs, whole_errors}
-use Rattle.contrl_writer.specs.Written.{Segment}
+use Rattle.contrl_segments.specs.Written.{Segment}
 use Rattle.contrl_writer.proofs.LowerLemmas.{take-nil, with_segments-nil}
 
 -- a test of what passes another

@@ -11,14 +11,15 @@ use Rattle.contrl_writer.specs.declared.level.ErrorLevel.TheVariants.{Group, Mes
 use Rattle.contrl_writer.specs.declared.level.Levelled.{Levelled}
 use Rattle.contrl_writer.specs.declared.lower.Lower.{Lower}
 use Rattle.contrl_writer.specs.declared.members.Member.{Member}
-use Rattle.contrl_writer.specs.declared.summary.GroupHead.{GroupHead}
-use Rattle.contrl_writer.specs.declared.summary.MessageHead.{MessageHead}
-use Rattle.contrl_writer.specs.Contrl.{group_answer, report_where, reports_of, ucf}
-use Rattle.contrl_writer.specs.Lent.{action_for}
+use Rattle.contrl_segments.specs.declared.summary.GroupHead.{GroupHead}
+use Rattle.contrl_segments.specs.declared.summary.MessageHead.{MessageHead}
+use Rattle.contrl_writer.specs.Contrl.{group_answer, report_where, reports_of}
+use Rattle.contrl_segments.specs.Service.{acknowledged, ucf}
+use Rattle.contrl_segments.specs.Lent.{action_for}
 use Rattle.contrl_writer.specs.Levels.{errors_among, first_error, group_errors, is_level, message_errors}
 use Rattle.contrl_writer.specs.Lower.{has_told, with_segments}
-use Rattle.contrl_writer.specs.Report.{acknowledged, report}
-use Rattle.contrl_writer.specs.Written.{Segment}
+use Rattle.contrl_writer.specs.Report.{report}
+use Rattle.contrl_segments.specs.Written.{Segment}
 use Rattle.contrl_writer.proofs.LowerLemmas.{with_segments-append, with_segments-nil}
 
 -- segments that are made from items one after another: the step of a loop over the items, and its end

@@ -19,8 +19,8 @@ use Rattle.error_ledger.specs.Order.{key_of, compare_keys, IsAscending}
 use Rattle.contrl_writer.specs.declared.level.ErrorLevel.{ErrorLevel}
 use Rattle.contrl_writer.specs.declared.level.ErrorLevel.TheVariants.{Interchange, Group, Message}
 use Rattle.contrl_writer.specs.declared.level.Levelled.{Levelled}
-use Rattle.contrl_writer.specs.declared.summary.GroupHead.{GroupHead}
-use Rattle.contrl_writer.specs.declared.summary.MessageHead.{MessageHead}
+use Rattle.contrl_segments.specs.declared.summary.GroupHead.{GroupHead}
+use Rattle.contrl_segments.specs.declared.summary.MessageHead.{MessageHead}
 use Rattle.error_ledger.specs.Order.{in_order}
 use Rattle.contrl_writer.specs.Levels.{is_among, is_at_ends, is_in_message, is_of_group, is_of_interchange, level_of, with_level}
 use Rattle.error_ledger.proofs.Sorting.{in_order-ascending}

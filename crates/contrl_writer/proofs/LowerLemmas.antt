@@ -6,7 +6,7 @@ use Rattle.std.proofs.lemmas.List.Elements.{filter_more}
 use Rattle.contrl_writer.specs.declared.level.Levelled.{Levelled}
 use Rattle.contrl_writer.specs.declared.lower.Lower.{Lower}
 use Rattle.contrl_writer.specs.Lower.{with_segments}
-use Rattle.contrl_writer.specs.Written.{Segment, contrl_text, segment_text}
+use Rattle.contrl_segments.specs.Written.{Segment, contrl_text, segment_text}
 
 pub take-nil : {X : Type 0} (n : ℕ) → take {A = X} n [] ≡ []
 take-nil zero = refl

@@ -10,7 +10,7 @@ use Rattle.std.proofs.lemmas.List.{append-nil, map-append}
 use Rattle.std.proofs.lemmas.List.Elements.{filter-append, filter_more}
 use Rattle.std.proofs.lemmas.List.Sorted.{length_permutation}
 use Rattle.contrl_writer.specs.declared.members.Member.{Member}
-use Rattle.contrl_writer.specs.declared.summary.MessageHead.{MessageHead}
+use Rattle.contrl_segments.specs.declared.summary.MessageHead.{MessageHead}
 use Rattle.contrl_writer.specs.Contrl.{is_member, members_of}
 use Rattle.contrl_writer.specs.Members.{group_of, heads_in}
 

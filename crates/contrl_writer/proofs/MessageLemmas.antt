@@ -5,17 +5,17 @@ use Rattle.error_ledger.specs.declared.error.ErrorLine.{ErrorLine}
 use Rattle.seg_lexer.specs.declared.context.Level.{Level}
 use Rattle.contrl_writer.specs.declared.answer.Contrl.TheVariants.{Octets}
 use Rattle.contrl_writer.specs.declared.lower.Lower.{Lower}
-use Rattle.contrl_writer.specs.declared.stamp.Stamp.{Stamp}
-use Rattle.contrl_writer.specs.declared.summary.Opening.{Opening}
-use Rattle.contrl_writer.specs.declared.summary.Opening.TheVariants.{Good}
-use Rattle.contrl_writer.specs.declared.summary.Party.{Party}
-use Rattle.contrl_writer.specs.declared.summary.Summary.{Summary}
-use Rattle.contrl_writer.specs.Contrl.{answer_by, answer_to, contrl_for, contrl_of, interchange_answer, lower_segments, message_of, uci, unb, unh, unt, unz}
-use Rattle.contrl_writer.specs.Lent.{action_for}
+use Rattle.contrl_segments.specs.declared.stamp.Stamp.{Stamp}
+use Rattle.contrl_segments.specs.declared.summary.Opening.{Opening}
+use Rattle.contrl_segments.specs.declared.summary.Opening.TheVariants.{Good}
+use Rattle.contrl_segments.specs.declared.summary.Party.{Party}
+use Rattle.contrl_segments.specs.declared.summary.Summary.{Summary}
+use Rattle.contrl_writer.specs.Contrl.{answer_by, answer_to, contrl_for, contrl_of, interchange_answer, lower_segments, message_of}
+use Rattle.contrl_segments.specs.Service.{acknowledged, rejected, uci, unb, unh, unt, unz}
+use Rattle.contrl_segments.specs.Lent.{action_for}
 use Rattle.contrl_writer.specs.Levels.{first_error, interchange_errors, levelled}
 use Rattle.contrl_writer.specs.Lower.{segments_below, with_segments}
-use Rattle.contrl_writer.specs.Report.{acknowledged, rejected}
-use Rattle.contrl_writer.specs.Written.{Segment, contrl_text, segment_text}
+use Rattle.contrl_segments.specs.Written.{Segment, contrl_text, segment_text}
 use Rattle.contrl_writer.proofs.LowerLemmas.{contrl_text-append, take-nil}
 
 answer-is : (u : List ℕ → Option ErrorLine → Segment) (first : Option ErrorLine) (lower : List Segment)

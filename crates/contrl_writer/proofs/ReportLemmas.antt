@@ -9,12 +9,12 @@ use Rattle.std.proofs.lemmas.Bool.{and_parts, cases_Bool, cases_eq, eq-eqb, leb-
 use Rattle.contrl_writer.specs.declared.level.ErrorLevel.TheVariants.{Message}
 use Rattle.contrl_writer.specs.declared.level.Levelled.{Levelled}
 use Rattle.contrl_writer.specs.declared.lower.Lower.{Lower}
-use Rattle.contrl_writer.specs.declared.summary.MessageHead.{MessageHead}
+use Rattle.contrl_segments.specs.declared.summary.MessageHead.{MessageHead}
 use Rattle.contrl_writer.specs.Levels.{is_level}
 use Rattle.contrl_writer.specs.Lower.{AreInMessage, joined, told, with_segments}
 use Rattle.contrl_writer.specs.Raising.{segment_of}
 use Rattle.contrl_writer.specs.Report.{errors_at, message_blocks, report, segment_blocks, ucm}
-use Rattle.contrl_writer.specs.Written.{Segment}
+use Rattle.contrl_segments.specs.Written.{Segment}
 use Rattle.contrl_writer.proofs.LowerLemmas.{take-append, take-nil, with_segments-append, with_segments-nil}
 
 -- what holds of each item

@@ -11,16 +11,16 @@ use Rattle.error_ledger.specs.Kinds.{number_of, code_of}
 use Rattle.seg_lexer.specs.declared.context.Level.TheVariants as levels
 use Rattle.contrl_writer.specs.declared.answer.Contrl.{Contrl}
 use Rattle.contrl_writer.specs.declared.answer.Contrl.TheVariants.{Octets}
-use Rattle.contrl_writer.specs.declared.stamp.Stamp.{Stamp}
-use Rattle.contrl_writer.specs.declared.summary.GroupHead.{GroupHead}
-use Rattle.contrl_writer.specs.declared.summary.MessageHead.{MessageHead}
-use Rattle.contrl_writer.specs.declared.summary.Opening.TheVariants.{Good}
-use Rattle.contrl_writer.specs.declared.summary.Party.{Party}
-use Rattle.contrl_writer.specs.declared.summary.Summary.{Summary}
+use Rattle.contrl_segments.specs.declared.stamp.Stamp.{Stamp}
+use Rattle.contrl_segments.specs.declared.summary.GroupHead.{GroupHead}
+use Rattle.contrl_segments.specs.declared.summary.MessageHead.{MessageHead}
+use Rattle.contrl_segments.specs.declared.summary.Opening.TheVariants.{Good}
+use Rattle.contrl_segments.specs.declared.summary.Party.{Party}
+use Rattle.contrl_segments.specs.declared.summary.Summary.{Summary}
 use Rattle.contrl_writer.specs.Contrl.{answer_to, contrl_of}
 use Rattle.error_ledger.specs.Order.{in_order}
 use Rattle.contrl_writer.specs.Report.{report}
-use Rattle.contrl_writer.specs.Written.{element_text, segment_text}
+use Rattle.contrl_segments.specs.Written.{element_text, segment_text}
 
 party : List ℕ → List ℕ → Party
 party id qualifier = record { id = id; qualifier = qualifier; route = [] }

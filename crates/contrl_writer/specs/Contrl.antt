@@ -1,73 +1,20 @@
 -- The acknowledgement of an interchange: a CONTRL message, and the interchange that it is sent in.
-use Rattle.std.specs.Prelude.{ℕ, ◌+◌, ◌==◌, Bool, false, List, [], ◌∷◌, ◌++◌, length, filter, take, Option, Some, None, codes, decimal}
+use Rattle.std.specs.Prelude.{ℕ, ◌+◌, ◌==◌, Bool, false, List, [], ◌∷◌, ◌++◌, length, filter, take, Option, Some, None}
 use Rattle.std.specs.List.{enumerate_from, flat_map}
 use Rattle.error_ledger.specs.declared.error.ErrorLine.{ErrorLine}
-use Rattle.seg_lexer.specs.declared.context.Level.{Level}
-use Rattle.seg_lexer.specs.declared.context.Level.TheVariants.{A, B, C, D, E, F}
 use Rattle.contrl_writer.specs.declared.answer.Contrl.{Contrl}
 use Rattle.contrl_writer.specs.declared.answer.Contrl.TheVariants as answers
 use Rattle.contrl_writer.specs.declared.level.Levelled.{Levelled}
-use Rattle.contrl_writer.specs.declared.stamp.Stamp.{Stamp}
-use Rattle.contrl_writer.specs.declared.summary.GroupHead.{GroupHead}
-use Rattle.contrl_writer.specs.declared.summary.MessageHead.{MessageHead}
-use Rattle.contrl_writer.specs.declared.summary.Opening.{Opening}
-use Rattle.contrl_writer.specs.declared.summary.Opening.TheVariants.{NoUnb, BadUnb, Good}
-use Rattle.contrl_writer.specs.declared.summary.Party.{Party}
-use Rattle.contrl_writer.specs.declared.summary.Summary.{Summary}
+use Rattle.contrl_segments.specs.declared.stamp.Stamp.{Stamp}
+use Rattle.contrl_segments.specs.declared.summary.GroupHead.{GroupHead}
+use Rattle.contrl_segments.specs.declared.summary.MessageHead.{MessageHead}
+use Rattle.contrl_segments.specs.declared.summary.Opening.{Opening}
+use Rattle.contrl_segments.specs.declared.summary.Opening.TheVariants.{NoUnb, BadUnb, Good}
+use Rattle.contrl_segments.specs.declared.summary.Summary.{Summary}
 use Rattle.contrl_writer.specs.Levels.{first_error, group_errors, interchange_errors, levelled, message_errors}
-use Rattle.contrl_writer.specs.Report.{acknowledged, answer, rejected, report}
-use Rattle.contrl_writer.specs.Written.{Element, Segment, alone, contrl_text}
-
--- the word of a level
-abbrev pub level_word : Level → List ℕ
-level_word A = codes "UNOA"
-level_word B = codes "UNOB"
-level_word C = codes "UNOC"
-level_word D = codes "UNOD"
-level_word E = codes "UNOE"
-level_word F = codes "UNOF"
-
--- S002 and S003: a party of an interchange
-abbrev pub interchange_party : Party → Element
-interchange_party p = p.id ∷ p.qualifier ∷ p.route ∷ []
-
--- S006 and S007: a party of a functional group
-abbrev pub group_party : Party → Element
-group_party p = p.id ∷ p.qualifier ∷ []
-
--- UNB: the level and version of the text that is answered, its recipient as sender, its sender as recipient, the stamp,
--- and a reference
-abbrev pub unb : Level → ℕ → Party → Party → Stamp → List ℕ → Segment
-unb level version sender recipient stamp reference = record {
-  tag = codes "UNB";
-  elements = (level_word level ∷ decimal version ∷ []) ∷ interchange_party recipient ∷ interchange_party sender
-      ∷ (stamp.date ∷ stamp.time ∷ []) ∷ alone reference ∷ [];
-}
-
--- UNH: message 1 of the interchange, by version D, release 3 of CONTRL
-abbrev pub unh : Segment
-unh = record {
-  tag = codes "UNH";
-  elements = alone (codes "1") ∷ (codes "CONTRL" ∷ codes "D" ∷ codes "3" ∷ codes "UN" ∷ []) ∷ [];
-}
-
--- UCI: the interchange that is answered, with its own sender and recipient
-abbrev pub uci : Party → Party → List ℕ → List ℕ → Option ErrorLine → Segment
-uci sender recipient reference action error =
-    answer (codes "UCI") (alone reference ∷ interchange_party sender ∷ interchange_party recipient ∷ []) action error
-
--- UCF: a functional group that is answered
-abbrev pub ucf : GroupHead → List ℕ → Option ErrorLine → Segment
-ucf g action error =
-    answer (codes "UCF") (alone g.reference ∷ group_party g.sender ∷ group_party g.recipient ∷ []) action error
-
--- UNT: the number of segments of the message
-abbrev pub unt : ℕ → Segment
-unt count = record { tag = codes "UNT"; elements = alone (decimal count) ∷ alone (codes "1") ∷ [] }
-
--- UNZ: one message
-abbrev pub unz : List ℕ → Segment
-unz reference = record { tag = codes "UNZ"; elements = alone (codes "1") ∷ alone reference ∷ [] }
+use Rattle.contrl_writer.specs.Report.{report}
+use Rattle.contrl_segments.specs.Service.{acknowledged, rejected, ucf, uci, unb, unh, unt, unz}
+use Rattle.contrl_segments.specs.Written.{Segment, contrl_text}
 
 -- the report of a message, where it has an error
 abbrev pub report_where : MessageHead → List Levelled → List Segment

@@ -8,9 +8,9 @@ use Rattle.error_ledger.specs.Kinds.{number_of}
 use Rattle.contrl_writer.specs.declared.level.ErrorLevel.{ErrorLevel}
 use Rattle.contrl_writer.specs.declared.level.ErrorLevel.TheVariants.{Interchange, Group, Message}
 use Rattle.contrl_writer.specs.declared.level.Levelled.{Levelled}
-use Rattle.contrl_writer.specs.declared.summary.GroupHead.{GroupHead}
-use Rattle.contrl_writer.specs.declared.summary.MessageHead.{MessageHead}
-use Rattle.contrl_writer.specs.declared.summary.Summary.{Summary}
+use Rattle.contrl_segments.specs.declared.summary.GroupHead.{GroupHead}
+use Rattle.contrl_segments.specs.declared.summary.MessageHead.{MessageHead}
+use Rattle.contrl_segments.specs.declared.summary.Summary.{Summary}
 use Rattle.error_ledger.specs.Order.{in_order}
 
 -- kinds that tell of the interchange, wherever they are found: 1 to 10

@@ -1,11 +1,7 @@
-pub mod Stamp
-pub mod Written
-pub mod ReadBack
 pub mod Levels
-pub mod Details
 pub mod Report
 pub mod Contrl
-pub mod Lent
+pub mod ReadBack
 pub mod Range
 pub mod Raising
 pub mod Lower

@@ -6,11 +6,11 @@ use Rattle.error_ledger.specs.Kinds.{is_of_element, is_of_segment}
 use Rattle.contrl_writer.specs.declared.level.ErrorLevel.TheVariants.{Message}
 use Rattle.contrl_writer.specs.declared.level.Levelled.{Levelled}
 use Rattle.contrl_writer.specs.declared.lower.Lower.{Lower}
-use Rattle.contrl_writer.specs.declared.summary.MessageHead.{MessageHead}
-use Rattle.contrl_writer.specs.Details.{code_told, is_near}
+use Rattle.contrl_segments.specs.declared.summary.MessageHead.{MessageHead}
+use Rattle.contrl_segments.specs.Details.{code_told, is_near}
 use Rattle.contrl_writer.specs.Levels.{errors_among, is_among, is_level}
 use Rattle.contrl_writer.specs.Report.{is_of_message, ucd, ucs}
-use Rattle.contrl_writer.specs.Written.{Segment, contrl_text}
+use Rattle.contrl_segments.specs.Written.{Segment, contrl_text}
 
 -- what is put and left after these segments
 abbrev pub with_segments : Lower → List Segment → Lower

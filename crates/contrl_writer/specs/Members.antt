@@ -1,7 +1,7 @@
 -- For bodies and their invariants: the messages of a group, in a list of messages with the places of their groups.
 use Rattle.std.specs.Prelude.{ℕ, ◌==◌, List, map, filter}
 use Rattle.contrl_writer.specs.declared.members.Member.{Member}
-use Rattle.contrl_writer.specs.declared.summary.MessageHead.{MessageHead}
+use Rattle.contrl_segments.specs.declared.summary.MessageHead.{MessageHead}
 
 abbrev pub group_of : Member → ℕ
 group_of x = x.group

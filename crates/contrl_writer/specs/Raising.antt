@@ -3,8 +3,8 @@ use Rattle.std.specs.Prelude.{ℕ, ◌||◌, codes, if◌then◌else◌}
 use Rattle.edi_tables.specs.Rows.{has_name}
 use Rattle.contrl_writer.specs.declared.level.ErrorLevel.TheVariants.{Group, Message}
 use Rattle.contrl_writer.specs.declared.level.Levelled.{Levelled}
-use Rattle.contrl_writer.specs.declared.summary.GroupHead.{GroupHead}
-use Rattle.contrl_writer.specs.declared.summary.MessageHead.{MessageHead}
+use Rattle.contrl_segments.specs.declared.summary.GroupHead.{GroupHead}
+use Rattle.contrl_segments.specs.declared.summary.MessageHead.{MessageHead}
 use Rattle.contrl_writer.specs.Levels.{is_among, is_at_ends, is_in_message, is_of_group, is_of_interchange}
 
 abbrev pub segment_of : Levelled → ℕ

@@ -1,26 +1,15 @@
 -- The report of a message: a UCM, and for each segment with errors its UCS and UCD.
-use Rattle.std.specs.Prelude.{ℕ, ◌+◌, ◌-◌, min, Bool, true, false, ◌==◌, List, [], ◌∷◌, ◌++◌, map, filter, take, Option, Some, None, codes, decimal}
+use Rattle.std.specs.Prelude.{ℕ, ◌+◌, ◌-◌, min, Bool, true, false, ◌==◌, List, [], ◌∷◌, map, filter, take, codes, decimal}
 use Rattle.std.specs.List.{flat_map, range_with_len}
-use Rattle.error_ledger.specs.declared.error.ErrorLine.{ErrorLine}
 use Rattle.error_ledger.specs.declared.kind.Kind.{Kind}
 use Rattle.error_ledger.specs.declared.kind.Kind.TheVariants.{NoTable, Reference, Count}
 use Rattle.error_ledger.specs.Kinds.{is_of_element, is_of_segment}
 use Rattle.contrl_writer.specs.declared.level.Levelled.{Levelled}
-use Rattle.contrl_writer.specs.declared.summary.MessageHead.{MessageHead}
-use Rattle.contrl_writer.specs.Written.{Element, Segment, alone}
-use Rattle.contrl_writer.specs.Details.{code_told, details_told, is_near, position_of}
+use Rattle.contrl_segments.specs.declared.summary.MessageHead.{MessageHead}
+use Rattle.contrl_segments.specs.Written.{Element, Segment, alone}
+use Rattle.contrl_segments.specs.Details.{code_told, is_near, position_of}
+use Rattle.contrl_segments.specs.Service.{answer, rejected}
 use Rattle.contrl_writer.specs.Levels.{first_error}
-
--- 0083: 4 rejects what a segment answers, 7 acknowledges it
-abbrev pub rejected : List ℕ
-rejected = codes "4"
-
-abbrev pub acknowledged : List ℕ
-acknowledged = codes "7"
-
--- UCI, UCF and UCM: what is answered, the action, and the error that it is rejected for, where one is told
-abbrev pub answer : List ℕ → List Element → List ℕ → Option ErrorLine → Segment
-answer tag subject action error = record { tag = tag; elements = subject ++ alone action ∷ details_told error }
 
 -- S009 of a message: its type, version, release, agency and association assigned code
 abbrev pub identifier_of : MessageHead → Element

@@ -10,7 +10,7 @@ ghost use Rattle.contrl_writer.specs.Range.{IsRange};
 ghost use Rattle.contrl_writer.specs.Raising.{closing_raised, first_raised, group_raised, last_raised, lower_raised, message_raised, part_raised, segment_of};
 
 use crate::level::{ErrorLevel, Levelled, is_of_group, is_of_interchange};
-use crate::summary::{GroupHead, MessageHead, Summary};
+use contrl_segments::{GroupHead, MessageHead, Summary};
 use edi_tables::Tag;
 use error_ledger::{ErrorLine, order_errors};
 use std::alloc::{AllocError, Global};

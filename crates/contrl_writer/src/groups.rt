@@ -2,8 +2,9 @@
 ghost use Rattle.std.specs.Prelude.{◌≡◌, ◌∷◌, [], OnOk, map};
 ghost use Rattle.std.specs.List.{list_any};
 ghost use Rattle.std.specs.Option.{option_copied};
-ghost use Rattle.contrl_writer.specs.Contrl.{group_answer, lower_segments, report_where, reports_of, ucf};
-ghost use Rattle.contrl_writer.specs.Lent.{action_for};
+ghost use Rattle.contrl_writer.specs.Contrl.{group_answer, lower_segments, report_where, reports_of};
+ghost use Rattle.contrl_segments.specs.Service.{ucf};
+ghost use Rattle.contrl_segments.specs.Lent.{action_for};
 ghost use Rattle.contrl_writer.specs.Levels.{first_error, group_errors, message_errors};
 ghost use Rattle.contrl_writer.specs.Lower.{has_told, with_segments};
 
@@ -12,9 +13,8 @@ use crate::level::ErrorLevel;
 use crate::lower::Lower;
 use crate::members::{Member, Members};
 use crate::report::put_report;
-use crate::segment::Value::Octets;
-use crate::service::group_party;
-use crate::summary::{GroupHead, MessageHead};
+use contrl_segments::Value::Octets;
+use contrl_segments::{GroupHead, MessageHead, group_party};
 use edi_tables::Tag;
 use error_ledger::ErrorLine;
 use std::alloc::{AllocError, Global};

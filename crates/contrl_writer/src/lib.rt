@@ -2,20 +2,16 @@
 #![tactic(auto)]
 
 mod answer;
-mod details;
 mod errors;
 mod groups;
 mod level;
 mod lower;
 mod members;
 mod report;
-mod segment;
-mod service;
-mod stamp;
-mod summary;
 mod write;
 
 pub use answer::Contrl;
-pub use stamp::{Stamp, is_reference, read_stamp};
-pub use summary::{GroupHead, MessageHead, Opening, Party, Summary};
+pub use contrl_segments::{
+    GroupHead, MessageHead, Opening, Party, Stamp, Summary, is_reference, read_stamp,
+};
 pub use write::write_contrl;

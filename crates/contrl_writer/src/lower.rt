@@ -1,10 +1,10 @@
 //! The segments below an interchange that is acknowledged, of which the first are put.
 ghost use Rattle.std.specs.Prelude.{◌≡◌, ◌-◌, ◌∷◌, [], OnOk};
-ghost use Rattle.contrl_writer.specs.Lent.{answer_lent, segment_lent};
+ghost use Rattle.contrl_segments.specs.Lent.{answer_lent, segment_lent};
 ghost use Rattle.contrl_writer.specs.Lower.{with_segments};
 ghost use Rattle.std.specs.Option.{option_copied};
 
-use crate::segment::{Element, put_answer, put_segment};
+use contrl_segments::{Element, put_answer, put_segment};
 use edi_tables::{Chunk, Tag};
 use error_ledger::ErrorLine;
 use std::alloc::AllocError;

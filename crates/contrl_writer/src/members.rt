@@ -4,7 +4,7 @@ ghost use Rattle.std.specs.List.Sorted.{IsNonDecreasingBy};
 ghost use Rattle.contrl_writer.specs.Contrl.{members_of};
 ghost use Rattle.contrl_writer.specs.Members.{group_of, heads_in};
 
-use crate::summary::MessageHead;
+use contrl_segments::MessageHead;
 use std::alloc::{AllocError, Global};
 use std::marker::Model;
 

@@ -2,17 +2,16 @@
 ghost use Rattle.std.specs.Prelude.{◌≡◌, ◌-◌, ◌<◌, ◌∷◌, [], OnOk, IfOk, filter, length, map, take};
 ghost use Rattle.std.specs.List.Sorted.{IsNonDecreasingBy};
 ghost use Rattle.std.specs.Option.{option_copied};
-ghost use Rattle.contrl_writer.specs.Lent.{value_lent};
+ghost use Rattle.contrl_segments.specs.Lent.{value_lent};
 ghost use Rattle.contrl_writer.specs.Levels.{first_error};
 ghost use Rattle.contrl_writer.specs.Lower.{AreInMessage, details_at, heads_at, is_detail as is_detail_of, is_head as is_head_of, is_whole as is_whole_of, joined, told, with_segments};
 ghost use Rattle.contrl_writer.specs.Raising.{segment_of};
 ghost use Rattle.contrl_writer.specs.Report.{identifier_of, report, segment_blocks, ucm};
 
-use crate::details::{is_near, told_code, told_position};
 use crate::level::{ErrorLevel, Levelled};
 use crate::lower::Lower;
-use crate::segment::Value::{self, Number, Octets};
-use crate::summary::MessageHead;
+use contrl_segments::Value::{self, Number, Octets};
+use contrl_segments::{MessageHead, is_near, told_code, told_position};
 use edi_tables::Tag;
 use error_ledger::{ErrorLine, Kind};
 use std::alloc::AllocError;

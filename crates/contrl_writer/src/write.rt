@@ -1,21 +1,22 @@
 //! The acknowledgement of a summary.
 ghost use Rattle.std.specs.Prelude.{◌≡◌, ◌++◌, IsTrue, IfOk, OnOk};
 ghost use Rattle.std.specs.Option.{option_copied};
-ghost use Rattle.contrl_writer.specs.Contrl.{answer_to, contrl_of, interchange_answer, lower_segments, message_of, uci};
+ghost use Rattle.contrl_writer.specs.Contrl.{answer_to, contrl_of, interchange_answer, lower_segments, message_of};
+ghost use Rattle.contrl_segments.specs.Service.{uci};
 ghost use Rattle.contrl_writer.specs.Levels.{first_error, interchange_errors, levelled};
 ghost use Rattle.contrl_writer.specs.Lower.{segments_below, with_segments};
 ghost use Rattle.contrl_writer.specs.ReadBack.{IsReadBack};
-ghost use Rattle.contrl_writer.specs.Stamp.{IsStamp, is_reference_of};
-ghost use Rattle.contrl_writer.specs.Written.{contrl_text};
+ghost use Rattle.contrl_segments.specs.Stamp.{IsStamp, is_reference_of};
+ghost use Rattle.contrl_segments.specs.Written.{contrl_text};
 
 use crate::answer::Contrl;
 use crate::errors::{Errors, first_told};
 use crate::groups::put_lower;
 use crate::level::ErrorLevel;
 use crate::lower::Lower;
-use crate::service::{put_uci, put_unb, put_unh, put_unt, put_unz};
-use crate::stamp::Stamp;
-use crate::summary::{Opening, Party, Summary};
+use contrl_segments::{
+    Opening, Party, Stamp, Summary, put_uci, put_unb, put_unh, put_unt, put_unz,
+};
 use edi_tables::Chunk;
 use error_ledger::ErrorLine;
 use std::alloc::{AllocError, Global};

@@ -1,6 +1,6 @@
 //! What an acknowledgement tells of the text of an engine.
 ghost use Rattle.std.specs.Prelude.{◌≡◌, IfOk, IsTrue, slice_get};
-ghost use Rattle.contrl_writer.specs.Stamp.{IsStamp, is_reference_of};
+ghost use Rattle.contrl_segments.specs.Stamp.{IsStamp, is_reference_of};
 ghost use Rattle.dir_compile.specs.Directory.{IsDirectory};
 ghost use Rattle.seg_lexer.specs.Context.{context_of};
 ghost use Rattle.segment_records.specs.Segments.{segments_in};

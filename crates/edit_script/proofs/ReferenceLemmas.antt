@@ -5,7 +5,7 @@ use Rattle.std.proofs.lemmas.Bool.{and_parts}
 use Rattle.std.proofs.lemmas.List.{append-nil}
 use Rattle.std.specs.List.{list_all}
 use Rattle.edi_tables.specs.Tag.{is_tag_octet_of}
-use Rattle.contrl_writer.specs.Stamp.{is_reference_of}
+use Rattle.contrl_segments.specs.Stamp.{is_reference_of}
 use Rattle.edit_script.specs.Beginnings.{IsPartOf, BeginsNoneOf}
 use Rattle.edit_script.specs.Reading.{IsSomeText}
 use Rattle.edit_script.specs.Texts.{IsReferenceText}

@@ -2,7 +2,7 @@
 use Rattle.std.specs.Prelude.{◌≡◌, ◌<◌, ◌≤◌, ◌^◌, ℕ, IsTrue, ⊤, List, [], ◌∷◌, ◌++◌, length, codes, decimal}
 use Rattle.edit_script.specs.declared.command.Command.{Command}
 use Rattle.edit_script.specs.declared.command.Command.TheVariants.{Replace, Errors, Tree, Contrl, Text, End}
-use Rattle.contrl_writer.specs.Stamp.{IsStamp, stamp_text, is_reference_of}
+use Rattle.contrl_segments.specs.Stamp.{IsStamp, stamp_text, is_reference_of}
 use Rattle.edit_script.specs.Beginnings.{IsPartOf, BeginsNoneOf, IsBadOf}
 
 -- the text of a command: a line of words separated by one space, ended by LF; for `replace` then its octets, and LF

@@ -2,8 +2,8 @@
 use Rattle.std.specs.Prelude.{◌≡◌, ◌<◌, ◌≤◌, ◌+◌, ◌-◌, ◌*◌, ℕ, IsTrue, List, [], ◌∷◌, ◌++◌, length, codes, decimal}
 use Rattle.std.specs.Char.{is_ascii_digit}
 use Rattle.edi_octets.specs.Profile.{has_digits}
-use Rattle.contrl_writer.specs.declared.stamp.Stamp.{Stamp}
-use Rattle.contrl_writer.specs.Stamp.{IsStamp, stamp_text, is_reference_of}
+use Rattle.contrl_segments.specs.declared.stamp.Stamp.{Stamp}
+use Rattle.contrl_segments.specs.Stamp.{IsStamp, stamp_text, is_reference_of}
 use Rattle.edit_script.specs.declared.command.Command.{Command}
 use Rattle.edit_script.specs.declared.command.Command.TheVariants as command
 use Rattle.edit_script.specs.declared.name.Name.{Name}

@@ -1,5 +1,5 @@
 //! The commands of a script.
-use contrl_writer::Stamp;
+use contrl_segments::Stamp;
 use edi_tables::Chunk;
 
 /// One command. Places and lengths are in octets, places from 0.

@@ -1,14 +1,14 @@
 //! The further words of a command's line.
 ghost use Rattle.std.specs.Prelude.{◌≡◌, ◌<◌, ◌≤◌, ◌^◌, ◌&&◌, ◌∷◌, [], ℕ, nat_lt, length, IsFalse, IsErrOf, MatchOption};
 ghost use Rattle.std.specs.Char.{is_ascii_digit};
-ghost use Rattle.contrl_writer.specs.Stamp.{is_reference_of};
+ghost use Rattle.contrl_segments.specs.Stamp.{is_reference_of};
 ghost use Rattle.edi_ports.specs.Faults.{HasRisen};
 ghost use Rattle.edit_script.specs.Reading.{Reads};
 ghost use Rattle.edit_script.specs.Texts.{IsNumberText, IsLonger, IsStampText, IsDigitsText, IsReferenceText};
 
 use crate::allowance::Allowance;
 use crate::stop::Halt;
-use contrl_writer::{Stamp, is_reference};
+use contrl_segments::{Stamp, is_reference};
 use edi_ports::Source;
 use edi_tables::Chunk;
 use std::alloc::Global;

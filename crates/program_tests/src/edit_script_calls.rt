@@ -1,7 +1,7 @@
 //! Scripts that are whole, cut, changed, over a limit and from a source that fails, one octet a call.
 ghost use Rattle.std.specs.Prelude.{◌≤◌};
 
-use contrl_writer::Stamp;
+use contrl_segments::Stamp;
 use edi_ports::MemSource;
 use edit_script::{Command, ScriptReader, ScriptStop};
 use std::alloc::{AllocError, Global};

@@ -3,7 +3,7 @@ ghost use Rattle.std.specs.Prelude.{◌≡◌, ◌≤◌, ◌-◌, ℕ, [], ◌�
 ghost use Rattle.std.specs.Bool.{OnFalse};
 ghost use Rattle.edi_ports.specs.Faults.{HasRisen};
 ghost use Rattle.error_ledger.specs.Printing.{errors_text, tree_text};
-ghost use Rattle.contrl_writer.specs.Stamp.{IsStamp, is_reference_of};
+ghost use Rattle.contrl_segments.specs.Stamp.{IsStamp, is_reference_of};
 ghost use Rattle.edit_script.specs.Command.{IsCommand};
 ghost use Rattle.edit_script.specs.declared.command.Command.TheVariants.{Replace};
 ghost use Rattle.text_reading.specs.Errors.{errors_of};

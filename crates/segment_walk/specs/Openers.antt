@@ -4,11 +4,11 @@ use Rattle.edi_tables.specs.Extents.{Extent}
 use Rattle.seg_lexer.specs.Fields.{Component}
 use Rattle.seg_lexer.specs.declared.context.Context.{Context}
 use Rattle.element_check.specs.declared.error.LocalError.{LocalError}
-use Rattle.contrl_writer.specs.declared.summary.GroupHead.{GroupHead}
-use Rattle.contrl_writer.specs.declared.summary.MessageHead.{MessageHead}
-use Rattle.contrl_writer.specs.declared.summary.Opening.{Opening}
-use Rattle.contrl_writer.specs.declared.summary.Opening.TheVariants.{BadUnb, Good}
-use Rattle.contrl_writer.specs.declared.summary.Party.{Party}
+use Rattle.contrl_segments.specs.declared.summary.GroupHead.{GroupHead}
+use Rattle.contrl_segments.specs.declared.summary.MessageHead.{MessageHead}
+use Rattle.contrl_segments.specs.declared.summary.Opening.{Opening}
+use Rattle.contrl_segments.specs.declared.summary.Opening.TheVariants.{BadUnb, Good}
+use Rattle.contrl_segments.specs.declared.summary.Party.{Party}
 use Rattle.segment_records.specs.Segments.{value_in}
 
 -- a party in an element of UNB or UNG, by its first two components, with this route

@@ -4,8 +4,8 @@ use Rattle.std.specs.List.{list_any}
 use Rattle.edi_tables.specs.declared.tag.Tag.{Tag}
 use Rattle.edi_tables.specs.Rows.{has_name}
 use Rattle.seg_lexer.specs.declared.service.Service.{Service}
-use Rattle.contrl_writer.specs.declared.summary.GroupHead.{GroupHead}
-use Rattle.contrl_writer.specs.declared.summary.MessageHead.{MessageHead}
+use Rattle.contrl_segments.specs.declared.summary.GroupHead.{GroupHead}
+use Rattle.contrl_segments.specs.declared.summary.MessageHead.{MessageHead}
 use Rattle.segment_walk.specs.Seen.{SeenSegment}
 use Rattle.segment_walk.specs.Openers.{group_head_of, message_head_of}
 use Rattle.segment_walk.specs.Told.{components_seen}

@@ -8,7 +8,7 @@ ghost use Rattle.segment_walk.specs.Spans.{ended_by, group_ended, group_seen, la
 
 use crate::seen::Seen;
 use crate::values::copy_party;
-use contrl_writer::GroupHead;
+use contrl_segments::GroupHead;
 use edi_octets::Octets;
 use edi_tables::{Chunk, Tag};
 use seg_lexer::Service;

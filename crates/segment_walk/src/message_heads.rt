@@ -8,7 +8,7 @@ ghost use Rattle.segment_walk.specs.Spans.{begun_by as begun_by_of, ended_by, gr
 
 use crate::group_heads::stops_group;
 use crate::seen::Seen;
-use contrl_writer::MessageHead;
+use contrl_segments::MessageHead;
 use edi_octets::Octets;
 use edi_tables::Tag;
 use seg_lexer::Service;

@@ -15,7 +15,7 @@ ghost use Rattle.segment_walk.specs.Told.{components_seen};
 
 use crate::seen::Seen;
 use crate::values::copy_party;
-use contrl_writer::{Opening, Party};
+use contrl_segments::{Opening, Party};
 use edi_octets::Octets;
 use error_ledger::{ErrorLine, Kind};
 use seg_lexer::{Context, Fields, Service, Value};

@@ -8,7 +8,7 @@ ghost use Rattle.segment_walk.specs.Openers.{party_in};
 ghost use Rattle.segment_walk.specs.Told.{components_seen};
 
 use crate::seen::Seen;
-use contrl_writer::Party;
+use contrl_segments::Party;
 use edi_octets::Octets;
 use edi_tables::Chunk;
 use seg_lexer::{Fields, Service, fields};

@@ -7,7 +7,7 @@ ghost use Rattle.edi_ports.specs.declared.named.Unread.{Unread};
 ghost use Rattle.dir_parts.specs.declared.parts.Parts.{Parts};
 ghost use Rattle.dir_load.specs.declared.stop.Refusal.{Refusal};
 ghost use Rattle.dir_load.specs.Load.{load_of};
-ghost use Rattle.contrl_writer.specs.Stamp.{IsStamp, is_reference_of};
+ghost use Rattle.contrl_segments.specs.Stamp.{IsStamp, is_reference_of};
 ghost use Rattle.text_reading.specs.Summary.{contrl_to};
 ghost use Rattle.script_answers.specs.Outcome.{memory_refused};
 ghost use Rattle.word_forms.specs.Form.{question_shown};

@@ -28,18 +28,19 @@ use Rattle.envelope_check.specs.Envelope.{envelope_errors_of}
 use Rattle.envelope_check.specs.Heads.{kind_of}
 use Rattle.segment_records.specs.Messages.{faults_at, position_at, table_for}
 use Rattle.segment_records.specs.Segments.{Segment, segments_in, value_in}
-use Rattle.contrl_writer.specs.Contrl.{answer_by, contrl_of, level_word, unh, unt, unz}
-use Rattle.contrl_writer.specs.ReadBack.{IsReadAs, components_read}
-use Rattle.contrl_writer.specs.Stamp.{IsStamp, is_reference_of}
-use Rattle.contrl_writer.specs.Written as written
-use Rattle.contrl_writer.specs.Written.{contrl_text}
+use Rattle.contrl_writer.specs.Contrl.{answer_by, contrl_of}
+use Rattle.contrl_segments.specs.Service.{level_word, unh, unt, unz}
+use Rattle.contrl_segments.specs.ReadBack.{IsReadAs, components_read}
+use Rattle.contrl_segments.specs.Stamp.{IsStamp, is_reference_of}
+use Rattle.contrl_segments.specs.Written as written
+use Rattle.contrl_segments.specs.Written.{contrl_text}
 use Rattle.contrl_writer.specs.declared.answer.Contrl.{Contrl}
 use Rattle.contrl_writer.specs.declared.answer.Contrl.TheVariants as answers
-use Rattle.contrl_writer.specs.declared.stamp.Stamp.{Stamp}
-use Rattle.contrl_writer.specs.declared.summary.Opening.{Opening}
-use Rattle.contrl_writer.specs.declared.summary.Opening.TheVariants.{NoUnb, BadUnb, Good}
-use Rattle.contrl_writer.specs.declared.summary.Summary.{Summary}
-use Rattle.contrl_writer.proofs.ReadLemmas.{written-read}
+use Rattle.contrl_segments.specs.declared.stamp.Stamp.{Stamp}
+use Rattle.contrl_segments.specs.declared.summary.Opening.{Opening}
+use Rattle.contrl_segments.specs.declared.summary.Opening.TheVariants.{NoUnb, BadUnb, Good}
+use Rattle.contrl_segments.specs.declared.summary.Summary.{Summary}
+use Rattle.contrl_segments.proofs.ReadLemmas.{written-read}
 use Rattle.contrl_writer.proofs.TaggedLemmas.{all-written, no-advice}
 use Rattle.contrl_laws.proofs.Back.{AllTagged, AreRead, context-back, have-tags, length-read, segments-back, splits-back, value-back}
 use Rattle.contrl_laws.proofs.Each.{Each, each-get}

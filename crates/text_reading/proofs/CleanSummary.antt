@@ -15,8 +15,8 @@ use Rattle.seg_lexer.specs.declared.context.Context.{Context}
 use Rattle.element_check.specs.Local.{local_errors_of}
 use Rattle.element_check.specs.declared.error.LocalError.{LocalError}
 use Rattle.contrl_writer.specs.Levels.{with_level}
-use Rattle.contrl_writer.specs.declared.summary.Opening.{Opening}
-use Rattle.contrl_writer.specs.declared.summary.Opening.TheVariants.{NoUnb, BadUnb, Good}
+use Rattle.contrl_segments.specs.declared.summary.Opening.{Opening}
+use Rattle.contrl_segments.specs.declared.summary.Opening.TheVariants.{NoUnb, BadUnb, Good}
 use Rattle.error_ledger.specs.Order.{in_order}
 use Rattle.segment_records.specs.Segments.{Segment, segments_in, tag_read, tags_in}
 use Rattle.contrl_laws.proofs.Back.{cons_parts, tags-read}

@@ -17,10 +17,10 @@ use Rattle.envelope_check.specs.declared.head.HeadKind.{HeadKind}
 use Rattle.envelope_check.specs.declared.head.HeadKind.TheVariants.{Unb, Ung, Unh, Unt, Une, Unz}
 use Rattle.envelope_check.proofs.Extents.{closes_group, closes_message, ends_group_at, ends_message, group_marks, message_marks, opens_group, opens_message}
 use Rattle.envelope_check.proofs.TagKinds.{Sort, known, named, other, sort_of}
-use Rattle.contrl_writer.specs.declared.summary.GroupHead.{GroupHead}
-use Rattle.contrl_writer.specs.declared.summary.MessageHead.{MessageHead}
+use Rattle.contrl_segments.specs.declared.summary.GroupHead.{GroupHead}
+use Rattle.contrl_segments.specs.declared.summary.MessageHead.{MessageHead}
 use Rattle.element_check.specs.Local.{local_errors_of}
-use Rattle.contrl_writer.specs.declared.summary.Opening.TheVariants.{NoUnb}
+use Rattle.contrl_segments.specs.declared.summary.Opening.TheVariants.{NoUnb}
 use Rattle.seg_lexer.specs.Context.{context_of}
 use Rattle.seg_lexer.specs.Fields.{Component}
 use Rattle.seg_lexer.specs.Service.{service_of}

@@ -10,12 +10,12 @@ use Rattle.seg_lexer.specs.Fields.{Component}
 use Rattle.seg_lexer.specs.declared.context.Context.{Context}
 use Rattle.element_check.specs.Local.{local_errors_of}
 use Rattle.contrl_writer.specs.declared.answer.Contrl.{Contrl}
-use Rattle.contrl_writer.specs.declared.stamp.Stamp.{Stamp}
-use Rattle.contrl_writer.specs.declared.summary.GroupHead.{GroupHead}
-use Rattle.contrl_writer.specs.declared.summary.MessageHead.{MessageHead}
-use Rattle.contrl_writer.specs.declared.summary.Opening.{Opening}
-use Rattle.contrl_writer.specs.declared.summary.Opening.TheVariants.{NoUnb}
-use Rattle.contrl_writer.specs.declared.summary.Summary.{Summary}
+use Rattle.contrl_segments.specs.declared.stamp.Stamp.{Stamp}
+use Rattle.contrl_segments.specs.declared.summary.GroupHead.{GroupHead}
+use Rattle.contrl_segments.specs.declared.summary.MessageHead.{MessageHead}
+use Rattle.contrl_segments.specs.declared.summary.Opening.{Opening}
+use Rattle.contrl_segments.specs.declared.summary.Opening.TheVariants.{NoUnb}
+use Rattle.contrl_segments.specs.declared.summary.Summary.{Summary}
 use Rattle.contrl_writer.specs.Contrl.{answer_to}
 use Rattle.segment_records.specs.Segments.{Segment, segments_in, tags_in}
 use Rattle.segment_walk.specs.Openers.{group_head_of, message_head_of, opening_by}

@@ -4,8 +4,8 @@ use Rattle.std.specs.Str.{bytes_eq}
 use Rattle.std.specs.Option.{option_and_then, option_map}
 use Rattle.edi_octets.specs.Decimal.{decimal_in}
 use Rattle.edi_octets.specs.Name.{is_name_of}
-use Rattle.contrl_writer.specs.Stamp.{is_reference_of, stamp_in}
-use Rattle.contrl_writer.specs.declared.stamp.Stamp.{Stamp}
+use Rattle.contrl_segments.specs.Stamp.{is_reference_of, stamp_in}
+use Rattle.contrl_segments.specs.declared.stamp.Stamp.{Stamp}
 use Rattle.text_printer.specs.declared.text.Detail.{Detail}
 use Rattle.text_printer.specs.declared.text.Detail.TheVariants.{Segments, Values}
 use Rattle.word_forms.specs.declared.form.Form.{Form}

@@ -1,6 +1,6 @@
 -- For bodies: what follows of what words ask for, by `form_of`.
 use Rattle.std.specs.Prelude.{⊤, IsTrue}
-use Rattle.contrl_writer.specs.Stamp.{IsStamp, is_reference_of}
+use Rattle.contrl_segments.specs.Stamp.{IsStamp, is_reference_of}
 use Rattle.drill_printer.specs.Drill.{IsDrill}
 use Rattle.word_forms.specs.Form.{Asked, Question, Errors, Answer, About, Drill}
 

@@ -4,7 +4,7 @@ ghost use Rattle.std.specs.Option.{option_map};
 ghost use Rattle.word_forms.specs.Form.{form_of, form_shown, lone_word, number_in, with_manifest, with_numbers, with_stamp, with_text};
 ghost use Rattle.word_forms.specs.Lawful.{IsLawful};
 
-use contrl_writer::{Stamp, is_reference, read_stamp};
+use contrl_segments::{Stamp, is_reference, read_stamp};
 use edi_octets::{is_name, read_decimal};
 use edi_tables::Chunk;
 use text_printer::Detail;

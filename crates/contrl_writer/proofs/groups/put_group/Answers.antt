@@ -5,11 +5,11 @@ use Rattle.std.proofs.lemmas.Result.{on_ok_weaker}
 use Rattle.error_ledger.specs.declared.error.ErrorLine.{ErrorLine}
 use Rattle.contrl_writer.specs.declared.lower.Lower.{Lower}
 use Rattle.contrl_writer.specs.declared.members.Member.{Member}
-use Rattle.contrl_writer.specs.Contrl.{reports_of, ucf}
-use Rattle.contrl_writer.specs.Lent.{action_for}
+use Rattle.contrl_writer.specs.Contrl.{reports_of}
+use Rattle.contrl_segments.specs.Service.{acknowledged, ucf}
+use Rattle.contrl_segments.specs.Lent.{action_for}
 use Rattle.contrl_writer.specs.Levels.{first_error, group_errors}
 use Rattle.contrl_writer.specs.Lower.{with_segments}
-use Rattle.contrl_writer.specs.Report.{acknowledged}
 use Rattle.contrl_writer.proofs.GroupLemmas.{flat-end, flat-step, found-is, found-some, group-acknowledged, group-rejected, group-untold, member_report}
 use Rattle.contrl_writer.proofs.LowerLemmas.{with_segments-append, with_segments-nil}
 use Rattle.contrl_writer.proofs.groups.put_group.Goals as goal

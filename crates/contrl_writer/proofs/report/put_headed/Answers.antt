@@ -1,7 +1,7 @@
 use Rattle.std.proofs.Common.{◌<◌, ◌≤◌, length, List, take, sym, ap, subst, ◌∙◌, arith}
 use Rattle.contrl_writer.specs.declared.lower.Lower.{Lower}
 use Rattle.contrl_writer.specs.Lower.{details_at, heads_at, with_segments}
-use Rattle.contrl_writer.specs.Written.{Segment}
+use Rattle.contrl_segments.specs.Written.{Segment}
 use Rattle.contrl_writer.proofs.BlockLemmas.{headed-all, headed-few}
 use Rattle.contrl_writer.proofs.LowerLemmas.{with_segments-append}
 use Rattle.contrl_writer.proofs.report.put_headed.Goals as goal

@@ -1,5 +1,5 @@
 use Rattle.std.proofs.Common.{◌&&◌, sym, ◌∙◌}
-use Rattle.contrl_writer.specs.Details.{code_told, is_near}
+use Rattle.contrl_segments.specs.Details.{code_told, is_near}
 use Rattle.contrl_writer.specs.Lower.{is_detail, is_head}
 use Rattle.contrl_writer.specs.Report.{ucd, ucs}
 use Rattle.contrl_writer.proofs.LowerLemmas.{picked-end, picked-step}

@@ -4,7 +4,7 @@ use Rattle.std.proofs.lemmas.Result.{on_ok_weaker}
 use Rattle.contrl_writer.specs.declared.lower.Lower.{Lower}
 use Rattle.contrl_writer.specs.Lower.{details_at, joined, with_segments}
 use Rattle.contrl_writer.specs.Report.{ucs}
-use Rattle.contrl_writer.specs.Written.{Segment}
+use Rattle.contrl_segments.specs.Written.{Segment}
 use Rattle.contrl_writer.proofs.BlockLemmas.{plain-block}
 use Rattle.contrl_writer.proofs.LowerLemmas.{with_segments-append}
 use Rattle.contrl_writer.proofs.report.put_plain.Goals as goal

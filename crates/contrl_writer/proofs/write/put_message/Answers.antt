@@ -3,10 +3,11 @@ use Rattle.std.specs.Option.{option_copied}
 use Rattle.error_ledger.specs.declared.error.ErrorLine.{ErrorLine}
 use Rattle.contrl_writer.specs.declared.level.Levelled.{Levelled}
 use Rattle.contrl_writer.specs.declared.lower.Lower.{Lower}
-use Rattle.contrl_writer.specs.Contrl.{interchange_answer, lower_segments, message_of, uci, unt}
+use Rattle.contrl_writer.specs.Contrl.{interchange_answer, lower_segments, message_of}
+use Rattle.contrl_segments.specs.Service.{uci, unt}
 use Rattle.contrl_writer.specs.Levels.{first_error, interchange_errors, levelled}
 use Rattle.contrl_writer.specs.Lower.{segments_below, with_segments}
-use Rattle.contrl_writer.specs.Written.{contrl_text, segment_text}
+use Rattle.contrl_segments.specs.Written.{contrl_text, segment_text}
 use Rattle.contrl_writer.proofs.MessageLemmas.{message-text}
 use Rattle.contrl_writer.proofs.write.put_message.Goals as goal
 

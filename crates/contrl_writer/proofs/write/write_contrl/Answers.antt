@@ -1,10 +1,11 @@
 use Rattle.std.proofs.Common.{◌≡◌, ℕ, ◌++◌, List, sym, ap, subst, ◌∙◌}
-use Rattle.contrl_writer.specs.Contrl.{contrl_of, interchange_answer, lower_segments, message_of, uci}
+use Rattle.contrl_writer.specs.Contrl.{contrl_of, interchange_answer, lower_segments, message_of}
+use Rattle.contrl_segments.specs.Service.{uci}
 use Rattle.contrl_writer.specs.Levels.{first_error, interchange_errors, levelled}
-use Rattle.contrl_writer.specs.ReadBack.{IsReadAs}
-use Rattle.contrl_writer.specs.Written.{contrl_text}
+use Rattle.contrl_segments.specs.ReadBack.{IsReadAs}
+use Rattle.contrl_segments.specs.Written.{contrl_text}
 use Rattle.contrl_writer.proofs.MessageLemmas.{answer-octets, contrl-text}
-use Rattle.contrl_writer.proofs.ReadLemmas.{written-read}
+use Rattle.contrl_segments.proofs.ReadLemmas.{written-read}
 use Rattle.contrl_writer.proofs.TaggedLemmas.{all-written, no-advice}
 use Rattle.contrl_writer.proofs.write.write_contrl.Goals as goal
 

@@ -1,6 +1,6 @@
 use Rattle.std.proofs.Common.{◌++◌, [], ◌∷◌, arith, sym, ap, ◌∙◌}
 use Rattle.std.proofs.lemmas.Result.{err_from_is_err_and}
-use Rattle.contrl_writer.specs.Stamp.{is_reference_of}
+use Rattle.contrl_segments.specs.Stamp.{is_reference_of}
 use Rattle.edit_script.specs.Texts.{IsReferenceText}
 use Rattle.edit_script.proofs.ReferenceLemmas.{reference_part, reference_follow, reference_bad, reference_unended}
 use Rattle.edit_script.proofs.ReadingLemmas.{takes_then, takes_same, reads_no_more, reads_bad, reads_whole, reads_refused}

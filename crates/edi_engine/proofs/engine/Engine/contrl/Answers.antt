@@ -1,6 +1,6 @@
 use Rattle.std.proofs.Common.{◌≡◌, IfOk, subst}
 use Rattle.contrl_writer.specs.Contrl.{answer_to}
-use Rattle.contrl_writer.specs.declared.summary.Summary.{Summary}
+use Rattle.contrl_segments.specs.declared.summary.Summary.{Summary}
 use Rattle.text_reading.specs.Summary.{contrl_to}
 use Rattle.text_reading.proofs.CleanLaws.{answer_clean}
 use Rattle.edi_engine.proofs.engine.Engine.contrl.Goals as goal

@@ -1,7 +1,7 @@
 use Rattle.std.proofs.Common.{◌∙◌, ◌++◌, List, ℕ, None, sym, ap, subst}
 use Rattle.std.specs.Prelude.{All, codes}
 use Rattle.edi_tables.specs.Rows.{has_name}
-use Rattle.contrl_writer.specs.declared.summary.GroupHead.{GroupHead}
+use Rattle.contrl_segments.specs.declared.summary.GroupHead.{GroupHead}
 use Rattle.segment_walk.specs.Look.{seen_of}
 use Rattle.segment_walk.specs.Seen.{LiesIn}
 use Rattle.segment_walk.specs.Spans.{IsNumbered, group_spans, heads_from, last_by, stops_group}

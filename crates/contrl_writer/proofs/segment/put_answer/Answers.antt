@@ -1,7 +1,0 @@
-use Rattle.std.proofs.Common.{rules}
-use Rattle.std.proofs.lemmas.List.{append_assoc}
-use Rattle.contrl_writer.proofs.TextLemmas.{answer_text}
-use Rattle.contrl_writer.proofs.segment.put_answer.Goals as goal
-
-pub returns : goal.returns
-returns c = rw (c.in-Some.is, answer_text c.args.tag c.args.subject.now c.in-Some.error.now) (search (rules, append_assoc))

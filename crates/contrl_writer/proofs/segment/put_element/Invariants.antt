@@ -1,8 +1,0 @@
-use Rattle.std.proofs.Common.{◌≡◌, ◌++◌, ◌∷◌, take}
-use Rattle.std.specs.List.{flat_map}
-use Rattle.contrl_writer.specs.Written.{value_text}
-use Rattle.contrl_writer.specs.Lent.{value_lent}
-use Rattle.contrl_writer.proofs.segment.put_element.Given as goal
-
-abbrev pub invariant-loop-value : goal.invariant-loop-value
-invariant-loop-value l = l.out ≡ l.initial.out ++ flat_map (λ v. 58 ∷ value_text (value_lent v)) (take l.value-index l.later)

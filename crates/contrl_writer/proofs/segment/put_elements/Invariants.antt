@@ -1,7 +1,0 @@
-use Rattle.std.proofs.Common.{◌≡◌, ◌++◌, map, take}
-use Rattle.contrl_writer.specs.Lent.{element_lent}
-use Rattle.contrl_writer.specs.Written.{elements_text}
-use Rattle.contrl_writer.proofs.segment.put_elements.Given as goal
-
-abbrev pub invariant-loop-element : goal.invariant-loop-element
-invariant-loop-element l = l.out ≡ l.fn.out ++ elements_text (map element_lent (take l.element-index l.elements))

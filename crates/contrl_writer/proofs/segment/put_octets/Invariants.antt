@@ -1,6 +1,0 @@
-use Rattle.std.proofs.Common.{◌≡◌, ◌++◌, take}
-use Rattle.contrl_writer.specs.Written.{value_text}
-use Rattle.contrl_writer.proofs.segment.put_octets.Given as goal
-
-abbrev pub invariant-loop-octet : goal.invariant-loop-octet
-invariant-loop-octet l = l.out ≡ l.fn.out ++ value_text (take l.octet-index l.octets)

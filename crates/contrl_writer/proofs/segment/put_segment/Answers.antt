@@ -1,8 +1,0 @@
-use Rattle.std.proofs.Common.{rules}
-use Rattle.std.proofs.lemmas.List.{append_assoc}
-use Rattle.contrl_writer.specs.Written.{segment_text}
-use Rattle.contrl_writer.proofs.segment.put_segment.Goals as goal
-
-pub returns : goal.returns
-unfolding segment_text
-returns c = search (rules, append_assoc)

@@ -18,11 +18,11 @@ use Rattle.seg_lexer.specs.Fields.{Component}
 use Rattle.seg_lexer.specs.Tag.{tag_of}
 use Rattle.seg_lexer.specs.declared.context.Context.{Context}
 use Rattle.element_check.specs.Local.{elements_errors, error_at, errors_by, errors_tagged, is_filled, local_errors_of}
-use Rattle.element_check.specs.Repertoire.{is_admitted}
+use Rattle.value_check.specs.Repertoire.{is_admitted}
 use Rattle.element_check.specs.Rules.{SegmentRules, list_of, parts_of, rules_of, service_rules}
-use Rattle.element_check.specs.Streams.{after_front, alone_errors, composite_errors, item_errors, items_errors, part_errors, parts_errors, test_results, told_errors}
+use Rattle.element_check.specs.Streams.{after_front, alone_errors, composite_errors, item_errors, items_errors, part_errors, parts_errors, told_errors}
 use Rattle.element_check.specs.Local.{is_list_named}
-use Rattle.element_check.specs.Value.{counted_length, has_foreign, is_decimal, is_numeric}
+use Rattle.value_check.specs.Value.{counted_length, has_foreign, is_decimal, is_numeric, test_results}
 use Rattle.element_check.specs.declared.error.LocalError.{LocalError}
 use Rattle.element_check.proofs.BridgeLemmas.{elements-walk}
 use Rattle.contrl_segments.specs.ReadBack.{components_read, element_read, values_read}

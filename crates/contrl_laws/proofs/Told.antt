@@ -27,7 +27,8 @@ use Rattle.seg_lexer.specs.Fields.{value_of}
 use Rattle.seg_lexer.proofs.ServiceLemmas.{service_of-usable}
 use Rattle.element_check.specs.Local.{elements_errors, error_at, is_filled, is_list_named, local_errors_of}
 use Rattle.element_check.specs.Rules.{SegmentRules, list_of, parts_of, rules_of, service_rules}
-use Rattle.element_check.specs.Streams.{after_front, composite_errors, first_value, front_values, item_errors, items_errors, later_values, part_errors, parts_errors, surplus_components, test_results, told_errors}
+use Rattle.element_check.specs.Streams.{after_front, composite_errors, first_value, front_values, item_errors, items_errors, later_values, part_errors, parts_errors, surplus_components, told_errors}
+use Rattle.value_check.specs.Value.{test_results}
 use Rattle.element_check.specs.declared.error.LocalError.{LocalError}
 use Rattle.element_check.proofs.BridgeLemmas.{elements-walk}
 use Rattle.segment_records.specs.Segments.{Segment, segment_between, segments_by, segments_in, tag_read, value_in}

@@ -20,8 +20,8 @@ use Rattle.seg_lexer.specs.declared.context.Level.{Level}
 use Rattle.seg_lexer.specs.declared.context.Level.TheVariants as levels
 use Rattle.seg_lexer.specs.declared.service.Service.{Service}
 use Rattle.element_check.specs.Local.{is_filled}
-use Rattle.element_check.specs.Repertoire.{is_admitted, is_in_level_a, is_printable, is_small, signs}
-use Rattle.element_check.specs.Value.{counted_length, has_foreign, is_counted, is_decimal, is_digits, is_foreign, is_mark, is_sign, is_unsigned}
+use Rattle.value_check.specs.Repertoire.{is_admitted, is_in_level_a, is_printable, is_small, signs}
+use Rattle.value_check.specs.Value.{counted_length, has_foreign, is_counted, is_decimal, is_digits, is_foreign, is_mark, is_sign, is_unsigned}
 use Rattle.contrl_segments.specs.Service.{level_word}
 use Rattle.contrl_laws.proofs.Items.{IsGoodValue, Passes}
 

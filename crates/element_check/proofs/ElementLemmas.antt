@@ -10,10 +10,10 @@ use Rattle.edi_tables.specs.declared.segment.ItemDef.TheVariants.{Alone, Composi
 use Rattle.edi_tables.specs.declared.element.Code.{Code}
 use Rattle.error_ledger.specs.declared.kind.Kind.{Kind}
 use Rattle.error_ledger.specs.declared.kind.Kind.TheVariants.{TooManyElements, TooManyComponents, Missing}
-use Rattle.element_check.specs.Local.{element_errors, element_kinds, error_at, errors_at, errors_whole, is_broken_part, is_filled, is_list_named, list_in, parts_in, value_at, value_kinds}
+use Rattle.element_check.specs.Local.{element_errors, element_kinds, error_at, errors_at, errors_whole, is_broken_part, is_filled, is_list_named, list_in, parts_in, value_at}
 use Rattle.element_check.specs.Rules.{SegmentRules, list_of, parts_of}
 use Rattle.element_check.specs.Streams.{alone_errors, composite_errors, first_value, item_errors, later_values, part_errors, parts_errors, surplus_components, told_errors}
-use Rattle.element_check.specs.Value.{fails}
+use Rattle.value_check.specs.Value.{fails, value_kinds}
 use Rattle.element_check.specs.declared.error.LocalError.{LocalError}
 
 and_false : (b : Bool) → (b && false) ≡ false

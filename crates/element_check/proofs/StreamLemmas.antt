@@ -18,7 +18,8 @@ use Rattle.seg_lexer.specs.Fields.{Component}
 use Rattle.seg_lexer.specs.declared.context.Context.{Context}
 use Rattle.element_check.specs.Local.{error_at, is_filled, is_list_named, names_list}
 use Rattle.element_check.specs.Rules.{SegmentRules, list_of}
-use Rattle.element_check.specs.Streams.{after_front, alone_errors, first_value, front_values, item_errors, items_errors, later_values, part_errors, parts_errors, surplus_components, surplus_elements, test_results, told_errors}
+use Rattle.element_check.specs.Streams.{after_front, alone_errors, first_value, front_values, item_errors, items_errors, later_values, part_errors, parts_errors, surplus_components, surplus_elements, told_errors}
+use Rattle.value_check.specs.Value.{test_results}
 use Rattle.element_check.specs.declared.error.LocalError.{LocalError}
 use Rattle.element_check.proofs.ErrorsLemmas.{full_step}
 

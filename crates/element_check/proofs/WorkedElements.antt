@@ -1,5 +1,5 @@
 -- Worked segments, each computed by hand first: the local errors that the definitions give, by a small directory.
-use Rattle.std.proofs.Common.{◌≡◌, ℕ, true, false, List, [], ◌∷◌, refl}
+use Rattle.std.proofs.Common.{◌≡◌, ℕ, List, [], ◌∷◌, refl}
 use Rattle.std.specs.Prelude.{codes}
 use Rattle.edi_tables.specs.declared.element.Class.TheVariants.{N, An}
 use Rattle.error_ledger.specs.declared.kind.Kind.TheVariants.{BadTag, UnknownSegment, TooManyElements, TooManyComponents, Missing, Repertoire, WrongType, Decimal, TooLong, TooShort, Code}
@@ -12,9 +12,9 @@ use Rattle.seg_lexer.specs.declared.context.Level.{Level}
 use Rattle.seg_lexer.specs.declared.context.Level.TheVariants.{A, B}
 use Rattle.service_tables.specs.ServiceTables.{C, M, alone, composite, exactly, part, service_items_of, service_parts_of, up_to}
 use Rattle.element_check.specs.Local.{element_errors, elements_errors, error_at, local_errors_of}
-use Rattle.element_check.specs.Repertoire.{is_in_level_a}
+use Rattle.value_check.specs.Repertoire.{is_in_level_a}
 use Rattle.element_check.specs.Rules.{list_of, parts_of, rules_of}
-use Rattle.element_check.specs.Value.{is_decimal, is_mark}
+use Rattle.value_check.specs.Value.{is_decimal}
 use Rattle.element_check.specs.declared.error.LocalError.{LocalError}
 
 -- a directory of three segments, two composites and one code list
@@ -116,11 +116,3 @@ errors-tag = refl
 errors-unknown : errors_in B (codes "XYZ+1") ≡ error_at 0 0 UnknownSegment ∷ []
 unfolding local_errors_of elements_errors element_errors rules_of parts_of list_of is_in_level_a is_decimal service_items_of service_parts_of tag_of fields_of value_of places_that stretches is_released run_before
 errors-unknown = refl
-
--- a mark that is a separator too is no mark
-mark-separator : is_mark (record default_service { mark = 58 }) 58 ≡ false
-mark-separator = refl
-
--- any other octet may be one
-mark-letter : is_mark (record default_service { mark = 65 }) 65 ≡ true
-mark-letter = refl

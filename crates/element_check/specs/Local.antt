@@ -7,13 +7,13 @@ use Rattle.edi_tables.specs.declared.element.PartDef.{PartDef}
 use Rattle.edi_tables.specs.declared.segment.ItemDef.{ItemDef}
 use Rattle.edi_tables.specs.declared.segment.ItemDef.TheVariants.{Alone, Composite}
 use Rattle.error_ledger.specs.declared.kind.Kind.{Kind}
-use Rattle.error_ledger.specs.declared.kind.Kind.TheVariants.{BadTag, UnknownSegment, TooManyElements, TooManyComponents, Missing, Repertoire, WrongType, Decimal, TooLong, TooShort, Code}
+use Rattle.error_ledger.specs.declared.kind.Kind.TheVariants.{BadTag, UnknownSegment, TooManyElements, TooManyComponents, Missing}
 use Rattle.dir_parts.specs.declared.parts.Parts.{Parts}
 use Rattle.seg_lexer.specs.Fields.{Component}
 use Rattle.seg_lexer.specs.Tag.{tag_of}
 use Rattle.seg_lexer.specs.declared.context.Context.{Context}
 use Rattle.element_check.specs.Rules.{SegmentRules, rules_of, parts_of, list_of}
-use Rattle.element_check.specs.Value.{fails}
+use Rattle.value_check.specs.Value.{fails, value_kinds}
 use Rattle.element_check.specs.declared.error.LocalError.{LocalError}
 
 -- an error of a kind at a component of an element; component 0 is the element as a whole
@@ -89,9 +89,6 @@ is_broken_at rules (Some item) values component kind =
     is_broken_part rules item values component (slice_get (parts_in rules item) (component - 1)) kind
 
 -- the kinds of errors of an element or a component, by their numbers
-abbrev pub value_kinds : List Kind
-value_kinds = Repertoire ∷ WrongType ∷ Decimal ∷ TooLong ∷ TooShort ∷ Code ∷ []
-
 abbrev pub element_kinds : List Kind
 element_kinds = TooManyElements ∷ TooManyComponents ∷ Missing ∷ value_kinds
 

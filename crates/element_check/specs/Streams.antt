@@ -1,11 +1,9 @@
 -- For bodies and their invariants: the errors of a segment as one way through its components finds them.
-use Rattle.std.specs.Prelude.{ℕ, ◌+◌, Bool, false, ◌&&◌, ◌==◌, nat_lt, List, [], ◌∷◌, ◌++◌, map, Option, Some, None, if◌then◌else◌}
+use Rattle.std.specs.Prelude.{ℕ, ◌+◌, Bool, false, ◌&&◌, ◌==◌, nat_lt, List, [], ◌∷◌, ◌++◌, Option, Some, None, if◌then◌else◌}
 use Rattle.std.specs.List.{list_any}
 use Rattle.edi_octets.specs.declared.octets.Octets.{Ghosts}
 use Rattle.edi_tables.specs.Rows.{when}
-use Rattle.edi_tables.specs.declared.element.CodeList.{CodeList}
 use Rattle.edi_tables.specs.declared.element.PartDef.{PartDef}
-use Rattle.edi_tables.specs.declared.element.Repr.{Repr}
 use Rattle.edi_tables.specs.declared.segment.ItemDef.{ItemDef}
 use Rattle.edi_tables.specs.declared.segment.ItemDef.TheVariants.{Alone, Composite}
 use Rattle.dir_parts.specs.declared.parts.Parts.{Parts}
@@ -15,9 +13,9 @@ use Rattle.seg_lexer.specs.Fields.{Component, unplaced}
 use Rattle.seg_lexer.specs.Left.{components_left, placed_in}
 use Rattle.seg_lexer.specs.declared.components.Component.{Component as ReadComponent}
 use Rattle.seg_lexer.specs.declared.context.Context.{Context}
-use Rattle.element_check.specs.Local.{error_at, is_filled, is_list_named, value_kinds}
+use Rattle.element_check.specs.Local.{error_at, is_filled, is_list_named}
 use Rattle.element_check.specs.Rules.{SegmentRules, list_of, parts_of, rules_of}
-use Rattle.element_check.specs.Value.{fails}
+use Rattle.value_check.specs.Value.{test_results}
 use Rattle.element_check.specs.declared.error.LocalError.{LocalError}
 use Rattle.element_check.specs.declared.values.Ahead.{Ahead}
 
@@ -65,10 +63,6 @@ later_values (v ∷ vs) = vs
 abbrev pub told_errors : ℕ → ℕ → List (Kind × Bool) → List LocalError
 told_errors element component [] = []
 told_errors element component (p ∷ ps) = when p.1 (error_at element component p.0) ++ told_errors element component ps
-
--- which tests a value fails
-abbrev pub test_results : Context → Repr → Option CodeList → List ℕ → List (Kind × Bool)
-test_results context repr list value = map (λ kind. (kind, fails context repr list value kind)) value_kinds
 
 -- the errors of a value that may be empty
 abbrev pub part_errors : SegmentRules → ℕ → ℕ → PartDef → Bool → List ℕ → List LocalError

@@ -6,15 +6,15 @@ ghost use Rattle.seg_lexer.specs.Value.{octets_of};
 ghost use Rattle.element_check.specs.Local.{is_filled as is_filled_of, is_list_named as is_list_named_of, names_list};
 ghost use Rattle.element_check.specs.Streams.{after_front, alone_errors, components_ahead, composite_errors, item_errors, part_errors, parts_errors, surplus_components, values_left};
 
-use crate::error::Errors;
+use crate::error::{Errors, put_failed};
 use crate::rules::Rules;
-use crate::value::{put_failed, test_value};
 use crate::values::Ahead;
 use edi_octets::Octets;
 use edi_tables::{ItemDef, PartDef};
 use error_ledger::Kind;
 use seg_lexer::Value;
 use std::alloc::AllocError;
+use value_check::test_value;
 
 /// Puts the errors of an element that has this item, of which these are all values.
 pub(crate) fn check_item<O: Octets>(

@@ -2,11 +2,13 @@
 ghost use Rattle.std.specs.Prelude.{[], ◌≡◌, ◌+◌, ◌++◌, ◌<◌, length, OnOk, OnErr};
 ghost use Rattle.edi_tables.specs.Rows.{when};
 ghost use Rattle.element_check.specs.Local.{error_at};
+ghost use Rattle.element_check.specs.Streams.{told_errors};
 
 use error_ledger::Kind;
 use smallvec::SmallVec;
 use std::alloc::{AllocError, Global};
 use std::marker::Model;
+use value_check::is_any_failed;
 
 /// What is wrong at an element or a component of a segment: component 0 is the element as a whole, and element 0 the
 /// segment.
@@ -84,4 +86,25 @@ impl Errors {
     {
         self.list
     }
+}
+
+/// Puts the kinds of the tests that were failed. Most often none was.
+pub(crate) fn put_failed(
+    errors: &mut Errors,
+    element: u32,
+    component: u32,
+    results: &[(Kind, bool)],
+) -> Result<(), AllocError>
+    ensures ok { OnOk result (errors.new
+        ≡ errors.old ++ told_errors element component results.now) }
+    ensures full { OnErr result
+        (4 < length errors.old + length (told_errors element component results.now)) }
+{
+    if !is_any_failed(results) {
+        return Ok(());
+    }
+    for &(kind, failed) in results {
+        errors.put_if(failed, element, component, kind)?;
+    }
+    Ok(())
 }

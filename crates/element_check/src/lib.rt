@@ -4,13 +4,10 @@
 mod check;
 mod element;
 mod error;
-mod repertoire;
 mod rules;
-mod tally;
-mod value;
 mod values;
 
 pub use check::{check_components, check_segment};
 pub use error::LocalError;
 pub use rules::Rules;
-pub use value::passes;
+pub use value_check::passes;

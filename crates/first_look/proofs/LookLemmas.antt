@@ -21,8 +21,8 @@ use Rattle.seg_lexer.specs.declared.context.Context.{Context}
 use Rattle.seg_lexer.specs.declared.service.Separators.{Separators}
 use Rattle.element_check.specs.Local.{errors_by, errors_tagged, error_at, is_filled, local_errors_of}
 use Rattle.element_check.specs.Rules.{SegmentRules, list_of, rules_of}
-use Rattle.element_check.specs.Streams.{after_front, alone_errors, front_values, items_errors, part_errors, parts_errors, surplus_components, test_results, told_errors}
-use Rattle.element_check.specs.Value.{fails}
+use Rattle.element_check.specs.Streams.{after_front, alone_errors, front_values, items_errors, part_errors, parts_errors, surplus_components, told_errors}
+use Rattle.value_check.specs.Value.{fails, test_results}
 use Rattle.element_check.proofs.BridgeLemmas.{elements-walk, front-is}
 use Rattle.element_check.proofs.StreamLemmas.{IsNext, alone-next, parts-next, parts_errors-end, told-none}
 use Rattle.element_check.specs.declared.error.LocalError.{LocalError}

@@ -1,6 +1,6 @@
 use Rattle.std.proofs.Common.{ap}
 use Rattle.std.specs.Option.{option_copied}
-use Rattle.element_check.proofs.CodeLemmas.{named-ascending}
+use Rattle.element_check.proofs.RulesLemmas.{named-ascending}
 use Rattle.element_check.proofs.rules.Rules.list.Goals as goal
 
 pub returns-clause-ordered : goal.returns-clause-ordered

@@ -1,0 +1,4 @@
+mod CodeLemmas
+mod NumberLemmas
+mod TallyLemmas
+mod WorkedValues

@@ -1,0 +1,3 @@
+pub mod Repertoire
+pub mod Tally
+pub mod Value

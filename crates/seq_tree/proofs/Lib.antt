@@ -1,4 +1,3 @@
-pub mod Heights
 pub mod Parts
 pub mod Stacks
 mod Worked

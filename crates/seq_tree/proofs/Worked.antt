@@ -1,5 +1,4 @@
 use Rattle.std.proofs.Common.{◌≡◌, ℕ, ◌<◌, ◌≤◌, List, [], ◌∷◌, take, sum, insert, refl, lit<, lit≤}
-use Rattle.seq_tree.specs.Shape.{FillsHeight}
 
 -- the items 5, 6, 7, each of which weighs itself
 abbrev row : List ℕ
@@ -16,7 +15,3 @@ find_five = (lit≤ tt, lit< tt)
 -- an item put at the end
 pub insert_last : insert row 3 8 ≡ 5 ∷ 6 ∷ 7 ∷ 8 ∷ []
 insert_last = refl
-
--- the smallest balanced tree of height 3 has 5 leaves, 3 and 2
-pub height_three : FillsHeight 3 5
-height_three = lit≤ tt

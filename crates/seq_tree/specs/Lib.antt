@@ -1,4 +1,2 @@
-pub mod Shape
-pub mod Tree
 pub mod Seq
 pub mod Walk

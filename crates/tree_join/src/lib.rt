@@ -1,14 +1,14 @@
 //! Two trees as one: down the higher side to a tree of about the other's height, and balanced again on the way up.
+#![tactic(auto)]
 
 ghost use Rattle.std.specs.Prelude.{◌≡◌, ◌+◌, ◌^◌, ◌<◌, ◌≤◌, ◌++◌, length, IfOk};
-ghost use Rattle.seq_tree.specs.Shape.{IsJoinHeight};
+ghost use Rattle.tree_join.specs.Join.{IsJoinHeight};
 
-use crate::measure::Measured;
-use crate::tree::{Node, Tree};
+use shared_tree::{Measured, Node, Tree};
 use std::alloc::{AllocError, Global};
 
 /// The items of `left` and then those of `right`, whatever the two heights are.
-pub(crate) fn join<T: Measured>(
+pub fn join<T: Measured>(
     alloc: Global,
     left: &Tree<T>,
     right: &Tree<T>,

@@ -1,4 +1,4 @@
-use Rattle.std.specs.Prelude.{◌≡◌, ℕ, ◌+◌, ◌/◌, ◌^◌, ◌≤◌, max}
+use Rattle.std.specs.Prelude.{ℕ, ◌+◌, ◌/◌, ◌^◌, ◌≤◌}
 
 -- the heights of the two sides of a fork: neither is more than one level above the other
 abbrev pub IsBalancedPair : ℕ → ℕ → Type 0
@@ -7,7 +7,3 @@ IsBalancedPair a b = (a ≤ b + 1) × (b ≤ a + 1)
 -- n items are enough for a balanced tree of height h: two to the power of half the height, rounded up
 abbrev pub FillsHeight : ℕ → ℕ → Type 0
 FillsHeight h n = 2 ^ ((h + 1) / 2) ≤ n
-
--- the height of two trees joined: that of the higher one or a level more, and a level more where they are balanced
-abbrev pub IsJoinHeight : ℕ → ℕ → ℕ → Type 0
-IsJoinHeight a b h = (max a b ≤ h) × (h ≤ max a b + 1) × (IsBalancedPair a b → h ≡ max a b + 1)

@@ -2,7 +2,7 @@
 //! visits.
 
 ghost use Rattle.std.specs.Prelude.{◌≡◌, ◌+◌, ◌<◌, ◌≤◌, length, take, sum_by, slice_get, Some};
-ghost use Rattle.seq_tree.specs.Shape.{FillsHeight};
+ghost use Rattle.shared_tree.specs.Shape.{FillsHeight};
 
 use crate::measure::Measured;
 use crate::run::{locate_in, weigh};
@@ -20,7 +20,7 @@ pub struct Located<'a, T: Measured> {
 
 impl<T: Measured> Tree<T> {
     /// The item at place `i`, counted from 0.
-    pub(crate) fn at<L: Ledger>(&self, i: usize, visited: &mut Steps<L>) -> &T
+    pub fn at<L: Ledger>(&self, i: usize, visited: &mut Steps<L>) -> &T
         requires within { i < length self.now.0 }
         ensures is { slice_get self.now.0 i ≡ Some result.now }
         ensures cost { visited.new ≤ visited.old + (self.now.1 + 1) }
@@ -42,7 +42,7 @@ impl<T: Measured> Tree<T> {
 
     /// The sum of the first `i` weights.
     #[tactic(auto, using(crate::proofs::Parts::sum_by_take_right))]
-    pub(crate) fn before<L: Ledger>(&self, i: usize, visited: &mut Steps<L>) -> u64
+    pub fn before<L: Ledger>(&self, i: usize, visited: &mut Steps<L>) -> u64
         requires within { i ≤ length self.now.0 }
         ensures is { result ≡ sum_by T.measure (take i self.now.0) }
         ensures bound { result ≤ sum_by T.measure self.now.0 }
@@ -65,7 +65,7 @@ impl<T: Measured> Tree<T> {
 
     /// The first item up to which, itself included, the items weigh more than `bound`.
     #[tactic(auto, using(crate::proofs::Parts::sum_by_take_right))]
-    pub(crate) fn locate<L: Ledger>(&self, bound: u64, visited: &mut Steps<L>) -> Located<'_, T>
+    pub fn locate<L: Ledger>(&self, bound: u64, visited: &mut Steps<L>) -> Located<'_, T>
         requires below { bound < sum_by T.measure self.now.0 }
         ensures is { slice_get self.now.0 result.place ≡ Some result.item.now }
         ensures offset { sum_by T.measure (take result.place self.now.0) + result.offset ≡ bound }

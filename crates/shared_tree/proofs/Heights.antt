@@ -1,7 +1,7 @@
 use Rattle.std.proofs.Common.{◌≡◌, ℕ, ◌+◌, ◌*◌, ◌/◌, ◌^◌, ◌<◌, ◌≤◌, suc, max, arith}
 use Rattle.std.proofs.Math.Nat.{lt_of_not-le, pow-suc}
 use Rattle.std.proofs.Math.Pow.{pow_mono}
-use Rattle.seq_tree.specs.Shape.{IsBalancedPair, FillsHeight}
+use Rattle.shared_tree.specs.Shape.{IsBalancedPair, FillsHeight}
 
 -- a tree of fewer than 2 to the power 32 items is lower than 64
 pub height_fits : (h n : ℕ) → FillsHeight h n → n < 2 ^ 32 → h < 64

@@ -1,7 +1,7 @@
 //! The tree under a sequence: the items are at the leaves, and a tree says how many they are and what they weigh.
 
 ghost use Rattle.std.specs.Prelude.{◌≡◌, ◌+◌, ◌*◌, ◌^◌, ◌<◌, ◌≤◌, max, [], ◌∷◌, ◌++◌, length, sum_by, IfOk};
-ghost use Rattle.seq_tree.specs.Shape.{IsBalancedPair, FillsHeight};
+ghost use Rattle.shared_tree.specs.Shape.{IsBalancedPair, FillsHeight};
 
 use crate::measure::Measured;
 use crate::run::{Run, weigh};
@@ -14,18 +14,20 @@ use std::rc::Rc;
 /// A tree is a handle of its node: its length and its weight are read without a look at the node.
 #[cycle(shared)]
 #[derive(Drop)]
-pub(crate) struct Tree<T: Measured> {
-    pub(crate) node: Node<T>,
+pub struct Tree<T: Measured> {
+    pub node: Node<T>,
     height: u32,
     len: u32,
     total: u64,
 }
 
+/// What a tree is made of: a run of items, or two trees side by side.
+///
 /// No node holds an item itself, so a new way down to a leaf copies none; and a fork is as large as two handles, however
 /// large the items are.
 #[cycle(shared)]
 #[derive(Drop)]
-pub(crate) enum Node<T: Measured> {
+pub enum Node<T: Measured> {
     Leaf(Run<T>),
     Fork(Rc<Sides<T>>),
 }
@@ -33,9 +35,9 @@ pub(crate) enum Node<T: Measured> {
 /// The two sides of a fork.
 #[cycle(shared)]
 #[derive(Drop)]
-pub(crate) struct Sides<T: Measured> {
-    pub(crate) left: Tree<T>,
-    pub(crate) right: Tree<T>,
+pub struct Sides<T: Measured> {
+    pub left: Tree<T>,
+    pub right: Tree<T>,
 }
 
 impl<T: Measured> Model for Tree<T> {
@@ -43,7 +45,7 @@ impl<T: Measured> Model for Tree<T> {
 
     ghost Value = { List T × ℕ };
 
-    ghost use Rattle.seq_tree.specs.Tree.{items, Counts, HasSides};
+    ghost use Rattle.shared_tree.specs.Tree.{items, Counts, HasSides};
 
     ghost view = { λ t. (items t.node, t.height) };
 
@@ -58,7 +60,7 @@ impl<T: Measured> Model for Tree<T> {
 
 impl<T: Measured> Tree<T> {
     /// How many levels of forks are above the lowest leaf.
-    pub(crate) fn height(&self) -> u32
+    pub fn height(&self) -> u32
         ensures is { result ≡ self.now.1 }
         ensures small { result < 64 }
         ensures enough { FillsHeight result (length self.now.0) }
@@ -67,7 +69,7 @@ impl<T: Measured> Tree<T> {
     }
 
     /// How many items there are.
-    pub(crate) fn len(&self) -> usize
+    pub fn len(&self) -> usize
         ensures is { result ≡ length self.now.0 }
         ensures fits { result < 2 ^ 32 }
     {
@@ -75,7 +77,7 @@ impl<T: Measured> Tree<T> {
     }
 
     /// The sum of the items' weights.
-    pub(crate) fn total(&self) -> u64
+    pub fn total(&self) -> u64
         ensures is { result ≡ sum_by T.measure self.now.0 }
         ensures bound { result ≤ 4294967295 * length self.now.0 }
     {
@@ -83,7 +85,7 @@ impl<T: Measured> Tree<T> {
     }
 
     /// A tree of this item.
-    pub(crate) fn leaf(alloc: Global, item: T) -> Result<Tree<T>, AllocError>
+    pub fn leaf(alloc: Global, item: T) -> Result<Tree<T>, AllocError>
         ensures items { IfOk result (λ t. t.0 ≡ item ∷ []) }
     {
         let mut items = Vec::with_capacity(alloc, 1)?;
@@ -94,7 +96,7 @@ impl<T: Measured> Tree<T> {
     }
 
     /// A tree of the items of a run.
-    pub(crate) fn of_run(run: Run<T>) -> Tree<T>
+    pub fn of_run(run: Run<T>) -> Tree<T>
         ensures items { result.0 ≡ run }
     {
         let items = run.items();
@@ -109,7 +111,7 @@ impl<T: Measured> Tree<T> {
     }
 
     /// The two sides under one fork.
-    pub(crate) fn fork(alloc: Global, left: Tree<T>, right: Tree<T>) -> Result<Tree<T>, AllocError>
+    pub fn fork(alloc: Global, left: Tree<T>, right: Tree<T>) -> Result<Tree<T>, AllocError>
         requires fits { length left.0 + length right.0 < 2 ^ 32 }
         requires balanced { IsBalancedPair left.1 right.1 }
         ensures items { IfOk result (λ t. t.0 ≡ left.0 ++ right.0) }
@@ -128,7 +130,7 @@ impl<T: Measured> Tree<T> {
     }
 
     /// The same tree once more. It takes no memory: the error is that of an `Rc` whose count is full.
-    pub(crate) fn share(&self) -> Result<Tree<T>, AllocError>
+    pub fn share(&self) -> Result<Tree<T>, AllocError>
         ensures { IfOk result (λ t. t ≡ self.now) }
     {
         let node = match &self.node {

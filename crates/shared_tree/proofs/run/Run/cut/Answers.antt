@@ -1,6 +1,6 @@
 use Rattle.std.proofs.Common.{◌+◌, ◌-◌, ◌≤◌, length, take, drop, length-take, ap, ◌∙◌, arith}
-use Rattle.seq_tree.proofs.Parts.{range_front, range_back}
-use Rattle.seq_tree.proofs.run.Run.cut.Goals as goal
+use Rattle.shared_tree.proofs.Parts.{range_front, range_back}
+use Rattle.shared_tree.proofs.run.Run.cut.Goals as goal
 
 pub returns : goal.returns
 returns g c =

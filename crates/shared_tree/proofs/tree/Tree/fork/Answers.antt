@@ -1,7 +1,7 @@
 use Rattle.std.proofs.Common.{arith, length-append}
 use Rattle.std.proofs.lemmas.List.Sums.{sum_by-append}
-use Rattle.seq_tree.proofs.Heights.{fork_enough}
-use Rattle.seq_tree.proofs.tree.Tree.fork.Goals as goal
+use Rattle.shared_tree.proofs.Heights.{fork_enough}
+use Rattle.shared_tree.proofs.tree.Tree.fork.Goals as goal
 
 pub invariant_of-result : goal.invariant_of-result
 invariant_of-result g c = (

@@ -10,7 +10,7 @@ use std::rc::Rc;
 
 /// One item or more, side by side in a list that is shared, seen as these items.
 #[derive(Drop)]
-pub(crate) struct Run<T: Measured> {
+pub struct Run<T: Measured> {
     list: Rc<Vec<T>>,
     from: u32,
     to: u32,
@@ -29,7 +29,7 @@ impl<T: Measured> Model for Run<T> {
 impl<T: Measured> Run<T> {
     /// The items of this list from place `from` up to place `to`. It takes no memory: the error is that of an `Rc` whose
     /// count is full.
-    pub(crate) fn of(list: &Rc<Vec<T>>, from: usize, to: usize) -> Result<Run<T>, AllocError>
+    pub fn of(list: &Rc<Vec<T>>, from: usize, to: usize) -> Result<Run<T>, AllocError>
         requires some { from < to }
         requires within { to ≤ length list.now.value.items }
         requires fits { to < 2 ^ 32 }
@@ -43,7 +43,7 @@ impl<T: Measured> Run<T> {
     }
 
     /// Its items.
-    pub(crate) fn items(&self) -> &[T]
+    pub fn items(&self) -> &[T]
         ensures is { result.now ≡ self.now }
         ensures some { 0 < length self.now }
         ensures fits { length self.now < 2 ^ 32 }
@@ -59,7 +59,7 @@ impl<T: Measured> Run<T> {
     }
 
     /// The first `i` items, and the others. It takes no memory.
-    pub(crate) fn cut(&self, i: usize) -> Result<(Run<T>, Run<T>), AllocError>
+    pub fn cut(&self, i: usize) -> Result<(Run<T>, Run<T>), AllocError>
         requires some { 0 < i }
         requires within { i < length self.now }
         ensures { IfOk result (λ p. (p.0 ≡ take i self.now) × (p.1 ≡ drop i self.now)) }

@@ -1,7 +1,7 @@
-use Rattle.std.specs.Prelude.{◌≡◌, ℕ, ◌+◌, ◌*◌, ◌^◌, ◌<◌, ◌≤◌, max, List, [], ◌∷◌, ◌++◌, length, sum_by}
-use Rattle.seq_tree.specs.declared.tree.Node.{Node}
-use Rattle.seq_tree.specs.declared.tree.Node.TheVariants.{Leaf, Fork}
-use Rattle.seq_tree.specs.Shape.{IsBalancedPair, FillsHeight}
+use Rattle.std.specs.Prelude.{◌≡◌, ℕ, ◌+◌, ◌*◌, ◌^◌, ◌<◌, ◌≤◌, max, List, ◌++◌, length, sum_by}
+use Rattle.shared_tree.specs.declared.tree.Node.{Node}
+use Rattle.shared_tree.specs.declared.tree.Node.TheVariants.{Leaf, Fork}
+use Rattle.shared_tree.specs.Shape.{IsBalancedPair, FillsHeight}
 
 -- the items of a node from left to right, where a side is known by its items and its height
 abbrev pub items : {T : Type 0} → Node T → List T

@@ -3,7 +3,7 @@ use Rattle.std.specs.Prelude.{◌≡◌, ◌<◌, ◌≤◌, ◌^◌, ℕ, IsTru
 use Rattle.edit_script.specs.declared.command.Command.{Command}
 use Rattle.edit_script.specs.declared.command.Command.TheVariants.{Replace, Errors, Tree, Contrl, Text, End}
 use Rattle.contrl_segments.specs.Stamp.{IsStamp, stamp_text, is_reference_of}
-use Rattle.edit_script.specs.Beginnings.{IsPartOf, BeginsNoneOf, IsBadOf}
+use Rattle.script_words.specs.Beginnings.{IsPartOf, BeginsNoneOf, IsBadOf}
 
 -- the text of a command: a line of words separated by one space, ended by LF; for `replace` then its octets, and LF
 abbrev pub command_text : Command → List ℕ

@@ -1,19 +1,16 @@
 -- What a reader of a script answers.
-use Rattle.std.specs.Prelude.{◌≡◌, ◌<◌, ◌+◌, ℕ, List, [], length, Option, Some, IfSome, Result, Ok, Err}
+use Rattle.std.specs.Prelude.{◌≡◌, ◌<◌, ◌+◌, ℕ, List, length, Option, Result, Ok, Err}
 use Rattle.edi_ports.specs.Read.{HasTaken}
 use Rattle.edit_script.specs.declared.command.Command.{Command}
-use Rattle.edit_script.specs.declared.stop.ScriptStop.{ScriptStop}
-use Rattle.edit_script.specs.declared.stop.ScriptStop.TheVariants.{BadLine, CutShort, TooLong, Fault, Memory}
+use Rattle.script_words.specs.declared.stop.ScriptStop.{ScriptStop}
+use Rattle.script_words.specs.declared.stop.ScriptStop.TheVariants.{BadLine, CutShort, TooLong, Fault, Memory}
+use Rattle.script_words.specs.Reading.{IsAtEnd}
 use Rattle.edit_script.specs.Command.{IsTextOf, IsPart, IsBadLine}
 
 -- a reader: how many octets it may still take, and the number of the next command, from 1
 pub record Reader : Type 0 where
   pub left : ℕ
   pub number : ℕ
-
--- where the source tells what it holds, nothing is left of it
-abbrev pub IsAtEnd : Option (List ℕ) → Option (List ℕ) → Type 0
-IsAtEnd before now = IfSome before (λ _. now ≡ Some [])
 
 -- what was taken: the command's text; a bad line, as far as it tells itself; a part of a command, at the source's end;
 -- one after which no octet may be taken; one at a fault, after which some may; one for which memory was refused

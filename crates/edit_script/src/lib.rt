@@ -1,14 +1,9 @@
 //! The script of an edit: its commands, read from any source.
 #![tactic(auto)]
 
-mod allowance;
 mod command;
-mod data;
-mod name;
 mod reader;
-mod stop;
-mod words;
 
 pub use command::Command;
 pub use reader::ScriptReader;
-pub use stop::ScriptStop;
+pub use script_words::ScriptStop;

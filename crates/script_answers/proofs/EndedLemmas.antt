@@ -5,13 +5,14 @@ use Rattle.std.specs.Prelude.{⊤}
 use Rattle.edi_ports.specs.Faults.{HasRisen}
 use Rattle.edi_ports.specs.Sink.{IsCut}
 use Rattle.edit_script.specs.Command.{command_text, IsCommand}
-use Rattle.edit_script.specs.Next.{IsAnswer, IsAtEnd, IsNext, Reader}
+use Rattle.edit_script.specs.Next.{IsAnswer, IsNext, Reader}
+use Rattle.script_words.specs.Reading.{IsAtEnd}
 use Rattle.edit_script.specs.Script.{AreCommands, script_text}
 use Rattle.edit_script.specs.declared.command.Command.{Command}
 use Rattle.edit_script.specs.declared.command.Command.TheVariants.{End}
-use Rattle.edit_script.specs.declared.stop.ScriptStop.{ScriptStop}
-use Rattle.edit_script.specs.declared.stop.ScriptStop.TheVariants as stop
-use Rattle.edit_script.proofs.OnceLemmas.{fronts}
+use Rattle.script_words.specs.declared.stop.ScriptStop.{ScriptStop}
+use Rattle.script_words.specs.declared.stop.ScriptStop.TheVariants as stop
+use Rattle.script_words.proofs.OnceLemmas.{fronts}
 use Rattle.edit_script.proofs.ScriptLemmas.{bad_no_command, part_no_command, same_command}
 use Rattle.script_answers.specs.declared.status.Status.{Status}
 use Rattle.script_answers.specs.declared.status.Status.TheVariants.{Done, Memory, ReadFault, WriteFault}

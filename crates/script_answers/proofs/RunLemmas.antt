@@ -7,13 +7,14 @@ use Rattle.edi_ports.specs.Read.{HasTaken}
 use Rattle.edi_ports.specs.Sink.{IsCut}
 use Rattle.dir_parts.specs.declared.parts.Parts.{Parts}
 use Rattle.edit_script.specs.Command.{command_text}
-use Rattle.edit_script.specs.Next.{IsAnswer, IsAtEnd, IsNext, Reader}
+use Rattle.edit_script.specs.Next.{IsAnswer, IsNext, Reader}
+use Rattle.script_words.specs.Reading.{IsAtEnd}
 use Rattle.edit_script.specs.Script.{AreCommands, script_text}
 use Rattle.edit_script.specs.declared.command.Command.{Command}
 use Rattle.edit_script.specs.declared.command.Command.TheVariants.{End}
-use Rattle.edit_script.specs.declared.stop.ScriptStop.{ScriptStop}
-use Rattle.edit_script.specs.declared.stop.ScriptStop.TheVariants as stop
-use Rattle.edit_script.proofs.ReadingLemmas.{taken_left}
+use Rattle.script_words.specs.declared.stop.ScriptStop.{ScriptStop}
+use Rattle.script_words.specs.declared.stop.ScriptStop.TheVariants as stop
+use Rattle.script_words.proofs.ReadingLemmas.{taken_left}
 use Rattle.edit_script.proofs.ScriptLemmas.{are_more, script_more}
 use Rattle.script_answers.specs.declared.status.Status.{Status}
 use Rattle.script_answers.specs.declared.status.Status.TheVariants.{Done, WriteFault}

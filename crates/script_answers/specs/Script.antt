@@ -6,8 +6,8 @@ use Rattle.edit_script.specs.Command.{IsCommandText, IsPart, IsBadLine}
 use Rattle.edit_script.specs.Script.{AreCommands, script_text}
 use Rattle.edit_script.specs.declared.command.Command.{Command}
 use Rattle.edit_script.specs.declared.command.Command.TheVariants.{End}
-use Rattle.edit_script.specs.declared.stop.ScriptStop.{ScriptStop}
-use Rattle.edit_script.specs.declared.stop.ScriptStop.TheVariants as stop
+use Rattle.script_words.specs.declared.stop.ScriptStop.{ScriptStop}
+use Rattle.script_words.specs.declared.stop.ScriptStop.TheVariants as stop
 use Rattle.script_answers.specs.declared.status.Status.{Status}
 use Rattle.script_answers.specs.declared.status.Status.TheVariants.{Done, BadScript, Memory, ReadFault, WriteFault}
 use Rattle.script_answers.specs.Held.{Held}

@@ -1,0 +1,10 @@
+pub mod ChainLemmas
+pub mod DataLemmas
+pub mod DigitLemmas
+pub mod EndedLemmas
+pub mod NameLemmas
+pub mod NumberLemmas
+pub mod OnceLemmas
+pub mod PartLemmas
+pub mod ReadingLemmas
+pub mod ReferenceLemmas

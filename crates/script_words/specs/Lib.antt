@@ -1,0 +1,4 @@
+pub mod Beginnings
+pub mod Reading
+pub mod Stop
+pub mod Texts

@@ -8,7 +8,7 @@ use Rattle.edi_octets.specs.Lines.{lines_from, cells_of}
 use Rattle.edi_octets.specs.Name.{is_name_of}
 use Rattle.edi_octets.specs.Profile.{fields_of, indentation_of, entries_of, repr_in}
 use Rattle.dir_lists.specs.Elements.{elements_in}
-use Rattle.dir_segments.specs.Composites.{composites_in}
+use Rattle.dir_composites.specs.Composites.{composites_in}
 use Rattle.dir_parts.specs.declared.stop.CompileKind.TheVariants.{UnknownElement}
 use Rattle.dir_parts.specs.Compile.{compile_faults}
 use Rattle.dir_compile.specs.Directory.{directory_of}

@@ -14,7 +14,7 @@ use Rattle.edi_ports.specs.declared.shelf.ShelfFile.{ShelfFile}
 use Rattle.edi_ports.specs.Named.{octets_named}
 use Rattle.dir_lists.specs.Elements.{elements_in}
 use Rattle.dir_lists.specs.Codes.{codes_in}
-use Rattle.dir_segments.specs.Composites.{composites_in}
+use Rattle.dir_composites.specs.Composites.{composites_in}
 use Rattle.dir_segments.specs.Segments.{segments_in}
 use Rattle.dir_messages.specs.Message.{message_in}
 use Rattle.dir_parts.specs.declared.parts.Parts.{Parts}

@@ -15,17 +15,10 @@ use Rattle.edi_tables.specs.First.{Answers, unless_faulty}
 use Rattle.edi_octets.specs.DirStop.{fault_in}
 use Rattle.edi_octets.specs.Lines.{Line}
 use Rattle.edi_octets.specs.Profile.{fields_of, first_field}
-use Rattle.dir_segments.specs.Parts.{is_item_line, part_in, is_placed, fields_behind, is_element_form, is_composite_form, composite_status, element_fault, composite_fault, fault_list}
-use Rattle.dir_segments.specs.Composites.{part_lines}
+use Rattle.dir_composites.specs.Parts.{is_item_line, part_in, is_placed, fields_behind, is_element_form, is_composite_form, composite_status, element_fault, composite_fault, fault_list}
 use Rattle.dir_segments.specs.Segments.{item_at, items_of, details_of, is_part_line, detail_faults, repeated_parts, line_faults, alone_item, composite_item, item_in}
-use Rattle.dir_segments.proofs.StopLemmas.{stops}
-use Rattle.dir_segments.proofs.FrontLemmas.{goes_on, goes_at, goes_all}
-
-pub part_lines-item : (line : Line) (lines : List Line) → is_item_line line ≡ true → part_lines (line ∷ lines) ≡ line ∷ part_lines lines
-part_lines-item line lines item = rw item refl
-
-pub part_lines-text : (line : Line) (lines : List Line) → is_item_line line ≡ false → part_lines (line ∷ lines) ≡ part_lines lines
-part_lines-text line lines text = rw text refl
+use Rattle.dir_composites.proofs.StopLemmas.{stops}
+use Rattle.dir_composites.proofs.FrontLemmas.{goes_on, goes_at, goes_all}
 
 pub items_of-item : (line : Line) (lines : List Line) → is_item_line line ≡ true → items_of (line ∷ lines) ≡ item_at line lines ∷ items_of lines
 items_of-item line lines item = rw item refl

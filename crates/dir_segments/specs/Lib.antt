@@ -1,3 +1,1 @@
-pub mod Composites
-pub mod Parts
 pub mod Segments

@@ -19,7 +19,7 @@ use Rattle.edi_octets.specs.Profile.{fields_of, first_field, position_of, entrie
 use Rattle.edi_tables.specs.First.{unless_faulty}
 use Rattle.edi_octets.specs.DirStop.{at_line}
 use Rattle.edi_octets.specs.Head.{head_faults, head_field}
-use Rattle.dir_segments.specs.Parts.{is_item_line, fields_behind, is_placed, last_of, count_faults, is_element_form, is_composite_form, part_in, composite_status, element_fault, composite_fault, fault_list}
+use Rattle.dir_composites.specs.Parts.{is_item_line, fields_behind, is_placed, last_of, count_faults, is_element_form, is_composite_form, part_in, composite_status, element_fault, composite_fault, fault_list}
 
 -- an item: its line, and the detail lines behind it, up to the next item line
 pub record Item : Type 0 where

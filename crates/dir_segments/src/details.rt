@@ -6,11 +6,11 @@ ghost use Rattle.edi_tables.specs.First.{Answers, unless_faulty};
 ghost use Rattle.edi_octets.specs.DirStop.{fault_in};
 ghost use Rattle.edi_octets.specs.Left.{line_shown, body_left};
 ghost use Rattle.edi_octets.specs.Profile.{fields_of};
-ghost use Rattle.dir_segments.specs.Parts.{Passes, fields_behind, is_composite_form, part_in};
+ghost use Rattle.dir_composites.specs.Parts.{Passes, fields_behind, is_composite_form, part_in};
 ghost use Rattle.dir_segments.specs.Segments as segments;
 
-use crate::fields::{is_item_line, read_element};
 use crate::known::KnownComposites;
+use dir_composites::{is_item_line, read_element};
 use edi_octets::{Body, DirKind, DirStop, LineText, is_element_code};
 use edi_tables::{ItemDef, PartDef};
 use std::alloc::Global;

@@ -7,14 +7,14 @@ ghost use Rattle.edi_octets.specs.DirStop.{fault_in};
 ghost use Rattle.edi_octets.specs.Left.{line_shown, body_left, entry_shown};
 ghost use Rattle.edi_octets.specs.Lines.{Line};
 ghost use Rattle.edi_octets.specs.Head.{head_field};
-ghost use Rattle.dir_segments.specs.Parts as parts;
+ghost use Rattle.dir_composites.specs.Parts as parts;
 ghost use Rattle.dir_segments.specs.Segments as segments;
 
 use crate::details::{is_composite_item, judge_end, read_details};
-use crate::fields::is_item_line;
 use crate::head::read_tag_head;
+use crate::item_line::read_item;
 use crate::known::KnownComposites;
-use crate::part_line::{judge_count, read_item};
+use dir_composites::{is_item_line, judge_count};
 use edi_octets::{Body, DirStop, Entries, Entry, LineText, Seen};
 use edi_tables::{CompositeDef, ItemDef, List, SegmentDef};
 use std::alloc::Global;

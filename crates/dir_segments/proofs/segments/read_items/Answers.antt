@@ -2,10 +2,10 @@ use Rattle.std.proofs.Common.{◌≡◌, ℕ, true, length, Vec, Global, sym, ap
 use Rattle.std.proofs.lemmas.Result.{err_from_is_err_and}
 use Rattle.edi_tables.specs.declared.segment.ItemDef.{ItemDef}
 use Rattle.edi_octets.specs.Left.{line_shown, body_left}
-use Rattle.dir_segments.specs.Parts.{is_item_line, count_faults}
+use Rattle.dir_composites.specs.Parts.{is_item_line, count_faults}
 use Rattle.dir_segments.specs.Segments.{item_at, item_faults, items_of, items_in, place_of, item_of}
-use Rattle.dir_segments.proofs.StopLemmas.{placed, placed_none, placed_value}
-use Rattle.dir_segments.proofs.FrontLemmas.{read_more, read_stops}
+use Rattle.dir_composites.proofs.StopLemmas.{placed, placed_none, placed_value}
+use Rattle.dir_composites.proofs.FrontLemmas.{read_more, read_stops}
 use Rattle.dir_segments.proofs.ItemLemmas.{items_of-item}
 use Rattle.dir_segments.proofs.segments.read_items.Goals as goal
 

@@ -1,7 +1,7 @@
 use Rattle.std.proofs.Common.{length}
 use Rattle.edi_octets.specs.Left.{body_left}
 use Rattle.dir_segments.specs.Segments.{item_faults, place_of, item_of, items_of}
-use Rattle.dir_segments.proofs.FrontLemmas.{IsRead}
+use Rattle.dir_composites.proofs.FrontLemmas.{IsRead}
 use Rattle.dir_segments.proofs.segments.read_items.Given as goal
 
 -- the items so far

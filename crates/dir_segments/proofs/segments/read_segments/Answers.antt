@@ -9,8 +9,8 @@ use Rattle.edi_octets.specs.Lines.{lines_of}
 use Rattle.edi_octets.specs.Profile.{entries_of}
 use Rattle.dir_segments.specs.Segments.{segment_faults, segment_of, segments_in}
 use Rattle.dir_segments.proofs.FormLemmas.{segments_in-formed}
-use Rattle.dir_segments.proofs.FrontLemmas.{entries_more, entries_stop, entries_all}
-use Rattle.dir_segments.proofs.StopLemmas.{no_faults, value_given}
+use Rattle.dir_composites.proofs.FrontLemmas.{entries_more, entries_stop, entries_all}
+use Rattle.dir_composites.proofs.StopLemmas.{no_faults, value_given}
 use Rattle.dir_segments.proofs.segments.read_segments.Goals as goal
 
 pub returns-in_err-segment-clause-answers : goal.returns-in_err-segment-clause-answers

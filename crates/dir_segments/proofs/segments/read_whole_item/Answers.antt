@@ -7,9 +7,9 @@ use Rattle.edi_tables.specs.First.{Answers, unless_faulty}
 use Rattle.edi_octets.specs.DirStop.{fault_in}
 use Rattle.edi_octets.specs.Left.{line_shown, body_left}
 use Rattle.edi_octets.specs.Profile.{position_of}
-use Rattle.dir_segments.specs.Parts.{Passes, fields_behind, is_composite_form}
+use Rattle.dir_composites.specs.Parts.{Passes, fields_behind, is_composite_form}
 use Rattle.dir_segments.specs.Segments.{item_in, item_end_faults, line_faults, details_of, detail_faults, repeated_parts}
-use Rattle.dir_segments.proofs.StopLemmas.{placed, placed_none, placed_value, no_faults, value_given, passed, gives, stops}
+use Rattle.dir_composites.proofs.StopLemmas.{placed, placed_none, placed_value, no_faults, value_given, passed, gives, stops}
 use Rattle.dir_segments.proofs.segments.read_whole_item.Goals as goal
 
 pub returns-in_err-position : goal.returns-in_err-position

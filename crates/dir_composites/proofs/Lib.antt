@@ -1,0 +1,6 @@
+pub mod FieldLemmas
+pub mod FormLemmas
+pub mod FrontLemmas
+mod PartLemmas
+pub mod StopLemmas
+pub mod Worked

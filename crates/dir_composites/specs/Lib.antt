@@ -1,0 +1,2 @@
+pub mod Composites
+pub mod Parts

@@ -1,0 +1,59 @@
+//! Item lines, judged after the position before them.
+ghost use Rattle.std.specs.Prelude.{◌≡◌, Some, IsTrue};
+ghost use Rattle.edi_tables.specs.First.{Answers, unless_faulty};
+ghost use Rattle.edi_octets.specs.DirStop.{fault_in};
+ghost use Rattle.edi_octets.specs.Left.{line_shown};
+ghost use Rattle.edi_octets.specs.Profile as profile;
+ghost use Rattle.dir_composites.specs.Parts as parts;
+ghost use Rattle.dir_segments.specs.Segments as segments;
+
+use dir_composites::{
+    CompositeFields, POSITION_DIGITS, fields_behind, judge_element, judge_status, read_composite,
+    read_element,
+};
+use edi_octets::{DirKind, DirStop, LineText, read_position};
+use edi_tables::ItemDef;
+
+/// Reads an item line after the position before: its position and its item.
+pub(crate) fn read_item(before: Option<u64>, line: &LineText<'_>) -> Result<(u64, ItemDef), DirStop>
+    ensures { let shown = line_shown line.now in
+        parts.GivesPlaced result (segments.line_faults before shown)
+        (profile.position_of shown) (segments.item_in (parts.fields_behind shown)) }
+{
+    let Some(position) = read_position(line, POSITION_DIGITS) else {
+        return Err(line.breaks(DirKind::BadLine));
+    };
+    let fields = fields_behind(line);
+    if let Some(element) = read_element(fields) {
+        let part = judge_element(before, position, line, &element)?;
+        return Ok((position, ItemDef::Alone { part }));
+    }
+    let Some(composite) = read_composite(fields) else {
+        return Err(line.breaks(DirKind::BadLine));
+    };
+    let item = judge_composite(before, position, line, &composite)?;
+    Ok((position, item))
+}
+
+/// Judges the composite of a line with this position: its item.
+fn judge_composite(
+    before: Option<u64>,
+    position: u64,
+    line: &LineText<'_>,
+    composite: &CompositeFields,
+) -> Result<ItemDef, DirStop>
+    requires position { position ≡ profile.position_of (line_shown line.now) }
+    requires form { IsTrue (parts.is_composite_form (parts.fields_behind (line_shown line.now))) }
+    requires composite { parts.IsComposite composite.now
+        (parts.fields_behind (line_shown line.now)) }
+    ensures { let shown = line_shown line.now in
+        Answers (λ item. Some item) fault_in result
+        (unless_faulty (parts.fault_list shown (parts.composite_fault before shown))
+        (segments.item_in (parts.fields_behind shown))) }
+{
+    let must = judge_status(before, position, line, composite.must)?;
+    Ok(ItemDef::Composite {
+        code: composite.code,
+        must,
+    })
+}

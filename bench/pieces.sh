@@ -6,7 +6,7 @@
 set -eu
 top=$(cd "$(dirname "$0")/.." && pwd)
 . "$top/bench/program.sh"
-new_program piece_text seg_lexer step_counter edi_octets
+new_program piece_text seg_lexer value_lexer step_counter edi_octets
 cat >"$work/repository/crates/bench/src/main.rt" <<'P'
 //! Times readings and edits of the text in the file `text`: processor time of this thread, the least of several runs.
 //! Each line has a name, how often something was done, how many pieces there are, and nanoseconds.

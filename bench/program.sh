@@ -30,7 +30,7 @@ new_program() {
     cat >"$crate/src/segments.rt" <<'P'
 //! The segments of a text, one after another.
 ghost use Rattle.std.specs.Prelude.{◌≡◌, ◌<◌, ◌≤◌, length};
-ghost use Rattle.seg_lexer.specs.declared.TheConstants.{LONGEST_TEXT};
+ghost use Rattle.value_lexer.specs.declared.TheConstants.{LONGEST_TEXT};
 
 use edi_octets::Octets;
 use seg_lexer::{Lexed, next_segment, read_service};

@@ -11,7 +11,7 @@ use Rattle.seg_lexer.specs.Context.{context_in, context_of, is_tagged, level_in,
 use Rattle.seg_lexer.specs.Fields.{Component, components_of, octets_at, separators_of}
 use Rattle.seg_lexer.specs.Segments.{boundaries_of, ends_of, segment_in, segments_of}
 use Rattle.seg_lexer.specs.Service.{default_service, service_of}
-use Rattle.seg_lexer.specs.Stretch.{Stretch, octets_in}
+use Rattle.value_lexer.specs.Stretch.{Stretch, octets_in}
 use Rattle.seg_lexer.specs.Tag.{tag_of}
 use Rattle.seg_lexer.specs.declared.context.Level.{Level}
 use Rattle.seg_lexer.specs.declared.context.Level.TheVariants as levels

@@ -23,7 +23,7 @@ use Rattle.seg_lexer.specs.Tag.{tag_of}
 use Rattle.seg_lexer.specs.declared.context.Context.{Context}
 use Rattle.seg_lexer.specs.declared.service.Separators.{Separators}
 use Rattle.seg_lexer.specs.declared.service.Service.{Service}
-use Rattle.seg_lexer.specs.Fields.{value_of}
+use Rattle.value_lexer.specs.Released.{value_of}
 use Rattle.seg_lexer.proofs.ServiceLemmas.{service_of-usable}
 use Rattle.element_check.specs.Local.{elements_errors, error_at, is_filled, is_list_named, local_errors_of}
 use Rattle.element_check.specs.Rules.{SegmentRules, list_of, parts_of, rules_of, service_rules}

@@ -4,8 +4,9 @@ use Rattle.std.specs.Prelude.{codes}
 use Rattle.edi_tables.specs.declared.element.Class.TheVariants.{N, An}
 use Rattle.error_ledger.specs.declared.kind.Kind.TheVariants.{BadTag, UnknownSegment, TooManyElements, TooManyComponents, Missing, Repertoire, WrongType, Decimal, TooLong, TooShort, Code}
 use Rattle.dir_parts.specs.declared.parts.Parts.{Parts}
-use Rattle.seg_lexer.specs.Fields.{components_of, fields_of, places_that, separators_of, stretches, value_of}
-use Rattle.seg_lexer.specs.Released.{is_released, run_before}
+use Rattle.seg_lexer.specs.Fields.{components_of, fields_of, separators_of, stretches}
+use Rattle.value_lexer.specs.Stretch.{places_that}
+use Rattle.value_lexer.specs.Released.{is_released, run_before, value_of}
 use Rattle.seg_lexer.specs.Service.{default_service}
 use Rattle.seg_lexer.specs.Tag.{tag_of}
 use Rattle.seg_lexer.specs.declared.context.Level.{Level}

@@ -5,7 +5,7 @@ ghost use Rattle.seg_lexer.specs.Fields.{IsInOrder, components_at};
 ghost use Rattle.seg_lexer.specs.Left.{components_left};
 ghost use Rattle.seg_lexer.specs.Service.{IsUsable};
 ghost use Rattle.seg_lexer.specs.Tag.{tag_of};
-ghost use Rattle.seg_lexer.specs.declared.TheConstants.{LONGEST_TEXT};
+ghost use Rattle.value_lexer.specs.declared.TheConstants.{LONGEST_TEXT};
 ghost use Rattle.element_check.specs.Ascending.{AreAscending};
 ghost use Rattle.element_check.specs.Local.{local_errors_of};
 ghost use Rattle.element_check.specs.Streams.{components_ahead, errors_past, items_errors, surplus_elements};

@@ -2,7 +2,7 @@
 ghost use Rattle.std.specs.Prelude.{[], ◌≡◌, ◌+◌, ◌++◌, ◌<◌, ◌^◌, length, unwrap_or, OnOk, OnErr};
 ghost use Rattle.std.specs.List.{list_any};
 ghost use Rattle.std.specs.Option.{option_map};
-ghost use Rattle.seg_lexer.specs.Value.{octets_of};
+ghost use Rattle.value_lexer.specs.Value.{octets_of};
 ghost use Rattle.element_check.specs.Local.{is_filled as is_filled_of, is_list_named as is_list_named_of, names_list};
 ghost use Rattle.element_check.specs.Streams.{after_front, alone_errors, components_ahead, composite_errors, item_errors, part_errors, parts_errors, surplus_components, values_left};
 

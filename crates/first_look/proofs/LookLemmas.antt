@@ -13,7 +13,8 @@ use Rattle.edi_tables.specs.declared.element.Repr.{Repr}
 use Rattle.error_ledger.specs.declared.kind.Kind.{Kind}
 use Rattle.error_ledger.specs.declared.kind.Kind.TheVariants.{Missing, Repertoire, WrongType, Decimal, TooLong, TooShort}
 use Rattle.dir_parts.specs.declared.parts.Parts.{Parts}
-use Rattle.seg_lexer.specs.Fields.{Component, PlacedComponent, component_in, element_in, places_that, stretches, is_cut, unplaced}
+use Rattle.seg_lexer.specs.Fields.{Component, PlacedComponent, component_in, element_in, stretches, is_cut, unplaced}
+use Rattle.value_lexer.specs.Stretch.{places_that}
 use Rattle.seg_lexer.specs.Place.{fields_after, fields_from}
 use Rattle.seg_lexer.specs.Tag.{tag_in, tag_of}
 use Rattle.seg_lexer.specs.Fields.{IsInOrder}

@@ -7,13 +7,13 @@ use Rattle.std.proofs.lemmas.Bool.{and_from, and_parts, cases_Bool, eq-eqb, eqb-
 use Rattle.std.proofs.lemmas.List.Edits.{split_between}
 use Rattle.std.proofs.lemmas.List.Folds.{list_any-append, list_any_at}
 use Rattle.memchr.specs.Find.{NoneBefore, Nowhere}
-use Rattle.seg_lexer.specs.Fields.{Component, components_of, is_cut, unplaced, value_of}
+use Rattle.seg_lexer.specs.Fields.{Component, components_of, is_cut, unplaced}
+use Rattle.value_lexer.specs.Released.{is_release, is_released, value_of}
 use Rattle.seg_lexer.specs.Place.{fields_from}
-use Rattle.seg_lexer.specs.Released.{is_release, is_released}
 use Rattle.seg_lexer.specs.declared.service.Separators.{Separators}
 use Rattle.seg_lexer.proofs.FieldsLemmas.{fields_from-component, fields_from-element, fields_from-last, fields_of-from}
-use Rattle.seg_lexer.proofs.ForwardLemmas.{value_of-all}
-use Rattle.seg_lexer.proofs.ReleasedLemmas.{is_released-more, is_released-start}
+use Rattle.value_lexer.proofs.ForwardLemmas.{value_of-all}
+use Rattle.value_lexer.proofs.ReleasedLemmas.{is_released-more, is_released-start}
 use Rattle.first_look.specs.Start.{IsSeparator, IsStart, plain_rest}
 use Rattle.first_look.specs.declared.fields.Start.{Start}
 

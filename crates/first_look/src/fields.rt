@@ -6,8 +6,8 @@ ghost use Rattle.std.specs.Option.{ForSome};
 ghost use Rattle.edi_tables.specs.Tag.{is_tag_of};
 ghost use Rattle.memchr.specs.Find.{IsFirst};
 ghost use Rattle.seg_lexer.specs.Fields.{components_of};
-ghost use Rattle.seg_lexer.specs.Released.{is_release as is_release_of};
-ghost use Rattle.seg_lexer.specs.declared.TheConstants.{LONGEST_TEXT};
+ghost use Rattle.value_lexer.specs.Released.{is_release as is_release_of};
+ghost use Rattle.value_lexer.specs.declared.TheConstants.{LONGEST_TEXT};
 ghost use Rattle.element_check.specs.Streams.{after_front, front_values};
 ghost use Rattle.first_look.specs.Start.{IsSeparator, IsStart};
 

@@ -3,7 +3,7 @@ ghost use Rattle.std.specs.Prelude.{Bool, ℕ, Some, [], ◌≡◌, ◌∷◌, �
 ghost use Rattle.std.specs.Option.{option_map};
 ghost use Rattle.seg_lexer.specs.Fields.{components_of, separators_of};
 ghost use Rattle.seg_lexer.specs.Tag.{tag_of};
-ghost use Rattle.seg_lexer.specs.declared.TheConstants.{LONGEST_TEXT};
+ghost use Rattle.value_lexer.specs.declared.TheConstants.{LONGEST_TEXT};
 ghost use Rattle.element_check.specs.Local.{local_errors_of};
 ghost use Rattle.element_check.specs.Streams.{after_front, composite_errors, front_values, item_errors, items_errors, part_errors, parts_errors};
 ghost use Rattle.first_look.specs.Plain.{plain_left};

@@ -6,7 +6,7 @@ use Rattle.seg_lexer.specs.Context.{context_in, context_of, opening_in, opening_
 use Rattle.seg_lexer.specs.Fields.{components_at}
 use Rattle.seg_lexer.specs.Segments.{IsLexed, boundaries_of, segments_of}
 use Rattle.seg_lexer.specs.Service.{service_of}
-use Rattle.seg_lexer.specs.Stretch.{Stretch}
+use Rattle.value_lexer.specs.Stretch.{Stretch}
 use Rattle.seg_lexer.specs.declared.segment.Lexed.{Lexed}
 use Rattle.seg_lexer.specs.declared.segment.Lexed.TheVariants.{Tail, Nothing}
 use Rattle.seg_lexer.specs.declared.service.Service.{Service}

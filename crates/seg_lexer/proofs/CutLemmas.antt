@@ -6,14 +6,14 @@ use Rattle.std.proofs.lemmas.List.Edits.{length-between, get_or-between}
 use Rattle.memchr.specs.Find.{NoneBefore, Nowhere}
 use Rattle.seg_lexer.specs.Fields.{component_in, is_cut}
 use Rattle.seg_lexer.specs.Place.{AreApart, IsPlace, fields_from, rest_of}
-use Rattle.seg_lexer.specs.Released.{is_release, is_released}
-use Rattle.seg_lexer.specs.Scan.{IsFree}
+use Rattle.value_lexer.specs.Released.{is_release, is_released}
+use Rattle.value_lexer.specs.Scan.{IsFree}
 use Rattle.seg_lexer.specs.declared.components.Place.{Place}
-use Rattle.seg_lexer.specs.declared.scan.Sought.TheVariants.{Two}
+use Rattle.value_lexer.specs.declared.scan.Sought.TheVariants.{Two}
 use Rattle.seg_lexer.specs.declared.service.Separators.{Separators}
 use Rattle.seg_lexer.proofs.FieldsLemmas.{fields_from-component, fields_from-element, fields_from-last}
 use Rattle.memchr.proofs.lemmas.FindLemmas.{Nowhere-more}
-use Rattle.seg_lexer.proofs.ReleasedLemmas.{is_released-between, is_released-from, is_released-more}
+use Rattle.value_lexer.proofs.ReleasedLemmas.{is_released-between, is_released-from, is_released-more}
 
 -- start..end of the text is a segment, in which a component may begin at place a
 pub record Stands (release : Option ℕ) (text : List ℕ) (start end a : ℕ) : Type 0 where

@@ -8,7 +8,7 @@ use Rattle.edi_octets.specs.declared.octets.Octets.{Ghosts}
 use Rattle.seg_lexer.specs.Fields.{Component, IsInOrder, PlacedComponent, component_in, components_of, cut, element_in, fields_of, octets_at, placed, unplaced}
 use Rattle.seg_lexer.specs.Left.{components_left, fields_left}
 use Rattle.seg_lexer.specs.Place.{fields_after, fields_from, rest_of}
-use Rattle.seg_lexer.specs.Stretch.{Stretch}
+use Rattle.value_lexer.specs.Stretch.{Stretch}
 use Rattle.seg_lexer.specs.declared.components.Fields.{Fields}
 use Rattle.seg_lexer.specs.declared.components.Place.{Place}
 use Rattle.seg_lexer.specs.declared.service.Separators.{Separators}

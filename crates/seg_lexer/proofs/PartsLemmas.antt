@@ -3,16 +3,17 @@ use Rattle.std.proofs.Common.{◌≡◌, ◌+◌, ◌-◌, ◌≤◌, [], ◌∷
 use Rattle.std.specs.List.{between}
 use Rattle.std.proofs.lemmas.List.Edits.{length-between}
 use Rattle.edi_octets.specs.declared.octets.Octets.{Ghosts}
-use Rattle.seg_lexer.specs.Fields.{PlacedComponent, component_in, placed, value_of}
+use Rattle.seg_lexer.specs.Fields.{PlacedComponent, component_in, placed}
+use Rattle.value_lexer.specs.Released.{value_of}
 use Rattle.seg_lexer.specs.Left.{fields_left}
 use Rattle.seg_lexer.specs.Place.{IsPlace, placed_at, rest_of}
-use Rattle.seg_lexer.specs.Stretch.{Stretch}
-use Rattle.seg_lexer.specs.Value.{octets_of, span_of}
-use Rattle.seg_lexer.specs.declared.value.Value.{Value}
+use Rattle.value_lexer.specs.Stretch.{Stretch}
+use Rattle.value_lexer.specs.Value.{octets_of, span_of}
+use Rattle.value_lexer.specs.declared.value.Value.{Value}
 use Rattle.seg_lexer.specs.declared.components.Fields.{Fields}
 use Rattle.seg_lexer.specs.declared.components.Place.{Place}
 use Rattle.seg_lexer.proofs.CutLemmas.{Stands}
-use Rattle.seg_lexer.proofs.ReleasedLemmas.{between-between, is_released-start}
+use Rattle.value_lexer.proofs.ReleasedLemmas.{between-between, is_released-start}
 
 -- the next component begins at place p of the segment, and its numbers are small
 pub record Reads {O : Type 0} {o : Ghosts O} (f : Fields O o) (p : Place) : Type 0 where

@@ -1,8 +1,9 @@
 -- Worked segments, each computed by hand first: the components, values and tags that the definitions give.
 use Rattle.std.proofs.Common.{◌≡◌, [], ◌∷◌, Some, None, refl}
 use Rattle.std.specs.Prelude.{codes}
-use Rattle.seg_lexer.specs.Fields.{components_of, fields_of, places_that, separators_of, stretches, value_of}
-use Rattle.seg_lexer.specs.Released.{run_before, is_released}
+use Rattle.seg_lexer.specs.Fields.{components_of, fields_of, separators_of, stretches}
+use Rattle.value_lexer.specs.Stretch.{places_that}
+use Rattle.value_lexer.specs.Released.{is_released, run_before, value_of}
 use Rattle.seg_lexer.specs.Service.{default_service}
 use Rattle.seg_lexer.specs.Tag.{tag_of}
 
@@ -24,11 +25,6 @@ fields-released : fields_of (separators_of default_service) (codes "A?+B++C")
     ∷ []
 unfolding fields_of value_of places_that stretches is_released run_before
 fields-released = refl
-
--- a release character that is released itself is an octet of the value
-value-even_run : value_of (Some 63) (codes "A??") ≡ codes "A?"
-unfolding value_of places_that is_released run_before
-value-even_run = refl
 
 -- the tag is a value, so it may be written with a release character
 tag-released : tag_of (components_of (separators_of default_service) (codes "U?NB+1")) ≡ Some (codes "UNB")

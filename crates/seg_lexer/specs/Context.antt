@@ -5,7 +5,7 @@ use Rattle.std.specs.Str.{bytes_eq}
 use Rattle.seg_lexer.specs.Fields.{Component, components_at, octets_at}
 use Rattle.seg_lexer.specs.Segments.{segments_of}
 use Rattle.seg_lexer.specs.Service.{service_of}
-use Rattle.seg_lexer.specs.Stretch.{Stretch}
+use Rattle.value_lexer.specs.Stretch.{Stretch}
 use Rattle.seg_lexer.specs.Tag.{tag_of}
 use Rattle.seg_lexer.specs.declared.service.Service.{Service}
 use Rattle.seg_lexer.specs.declared.context.Context.{Context}

@@ -1,28 +1,16 @@
 -- Components of a segment (ISO 9735): elements are separated by unreleased element separators, and their components
 -- by unreleased component separators. All of it is said over a segment's own octets.
-use Rattle.std.specs.Prelude.{◌≤◌, ⊤, ℕ, ◌+◌, ◌-◌, Bool, not, ◌&&◌, ◌==◌, List, [], ◌∷◌, length, map, filter, find, slice_index, slice_range, Option}
-use Rattle.std.specs.List.{enumerate_from, flat_map, range_with_len}
+use Rattle.std.specs.Prelude.{◌≤◌, ⊤, ℕ, ◌+◌, Bool, not, ◌&&◌, ◌==◌, List, [], ◌∷◌, length, map, find, slice_index, slice_range, Option}
+use Rattle.std.specs.List.{enumerate_from, flat_map}
 use Rattle.std.specs.Option.{option_map}
-use Rattle.seg_lexer.specs.Released.{is_release, is_released}
-use Rattle.seg_lexer.specs.Stretch.{Stretch, moved, octets_in}
+use Rattle.value_lexer.specs.Released.{is_released, value_of}
+use Rattle.value_lexer.specs.Stretch.{Stretch, moved, octets_in, places_that}
 use Rattle.seg_lexer.specs.declared.service.Separators.{Separators}
 use Rattle.seg_lexer.specs.declared.service.Service.{Service}
 
 -- what a segment is cut by, of the service characters
 abbrev pub separators_of : Service → Separators
 separators_of s = record { release = s.release; element = s.element; component = s.component }
-
--- the places from a up to b that pass a test
-unfoldable pub places_that : (ℕ → Bool) → ℕ → ℕ → List ℕ
-places_that p a b = filter p (range_with_len a (b - a))
-
--- place i holds an unreleased release character
-abbrev pub is_releasing : Option ℕ → List ℕ → ℕ → Bool
-is_releasing release xs i = is_release release (slice_index xs i) && not (is_released release xs 0 i)
-
--- the value of a component: its octets without the unreleased release characters
-unfoldable pub value_of : Option ℕ → List ℕ → List ℕ
-value_of release xs = map (slice_index xs) (places_that (λ i. not (is_releasing release xs i)) 0 (length xs))
 
 -- place i holds an unreleased separator
 abbrev pub is_cut : Option ℕ → List ℕ → ℕ → ℕ → Bool

@@ -1,13 +1,8 @@
 pub mod Fields
 pub mod Left
-pub mod Lent
 pub mod Place
-pub mod Released
-pub mod Scan
 pub mod Segments
 pub mod Service
-pub mod Stretch
-pub mod Value
 pub mod Tag
 pub mod Context
 pub mod Whole

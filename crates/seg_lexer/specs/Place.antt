@@ -3,8 +3,8 @@ use Rattle.std.specs.Prelude.{ℕ, ◌+◌, ◌≡◌, ◌≢◌, ◌≤◌, fal
 use Rattle.std.specs.List.{enumerate_from, flat_map}
 use Rattle.std.specs.Option.{ForSome}
 use Rattle.seg_lexer.specs.Fields.{PlacedComponent, component_in, components_in, cut, element_in}
-use Rattle.seg_lexer.specs.Released.{is_released}
-use Rattle.seg_lexer.specs.Stretch.{Stretch}
+use Rattle.value_lexer.specs.Released.{is_released}
+use Rattle.value_lexer.specs.Stretch.{Stretch}
 use Rattle.seg_lexer.specs.declared.components.Place.{Place}
 use Rattle.seg_lexer.specs.declared.service.Separators.{Separators}
 

@@ -1,8 +1,9 @@
 -- Segments of a text (ISO 9735): what unreleased terminators end, and what is left after the last of them.
-use Rattle.std.specs.Prelude.{ℕ, ◌+◌, ◌-◌, ◌≡◌, ◌≤◌, ◌<◌, Bool, not, ◌&&◌, ◌||◌, ◌==◌, nat_lt, List, ◌∷◌, length, map, filter, slice_get, slice_index, slice_range, Option, Some, None, if◌then◌else◌}
-use Rattle.std.specs.List.{prefix_len, range_with_len, zip}
-use Rattle.seg_lexer.specs.Released.{is_released}
-use Rattle.seg_lexer.specs.Stretch.{Stretch}
+use Rattle.std.specs.Prelude.{ℕ, ◌+◌, ◌-◌, ◌≡◌, ◌≤◌, ◌<◌, Bool, not, ◌&&◌, ◌==◌, nat_lt, List, ◌∷◌, length, map, filter, slice_get, slice_index, Option, Some, None, if◌then◌else◌}
+use Rattle.std.specs.List.{range_with_len, zip}
+use Rattle.value_lexer.specs.Breaks.{lead}
+use Rattle.value_lexer.specs.Released.{is_released}
+use Rattle.value_lexer.specs.Stretch.{Stretch}
 use Rattle.seg_lexer.specs.declared.service.Service.{Service}
 use Rattle.seg_lexer.specs.declared.segment.Lexed.{Lexed}
 use Rattle.seg_lexer.specs.declared.segment.Lexed.TheVariants.{Ended, Tail, Nothing}
@@ -22,14 +23,6 @@ ends_of s text = filter (is_end s text) (places_of s text)
 -- where a segment, or the tail, may begin: the body's start and the octet after each end
 unfoldable pub boundaries_of : Service → List ℕ → List ℕ
 boundaries_of s text = s.body ∷ map (λ e. e + 1) (ends_of s text)
-
--- CR or LF
-abbrev pub is_break : ℕ → Bool
-is_break x = x == 13 || x == 10
-
--- the first place from a up to b that holds neither CR nor LF, or else b
-unfoldable pub lead : List ℕ → ℕ → ℕ → ℕ
-lead text a b = a + prefix_len is_break (slice_range text a b)
 
 -- the segment between a boundary and the next end: the stretch from its first octet that is neither CR nor LF
 -- to its terminator

@@ -1,9 +1,9 @@
 -- Texts that are put together: whole segments, what comes after them, and what an edit puts in place.
 use Rattle.std.specs.Prelude.{ℕ, ◌+◌, ◌≡◌, ◌≤◌, false, List, [], ◌∷◌, length, map}
 use Rattle.std.specs.List.{splice}
-use Rattle.seg_lexer.specs.Released.{is_released}
+use Rattle.value_lexer.specs.Released.{is_released}
 use Rattle.seg_lexer.specs.Segments.{ends_of, segments_of}
-use Rattle.seg_lexer.specs.Stretch.{octets_in}
+use Rattle.value_lexer.specs.Stretch.{octets_in}
 use Rattle.seg_lexer.specs.declared.service.Service.{Service}
 
 -- the same characters, for a text whose body begins at its first octet

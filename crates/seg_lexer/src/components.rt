@@ -3,13 +3,12 @@ ghost use Rattle.std.specs.Prelude.{Some, ⊤, ◌≡◌, ◌∷◌, ◌+◌, �
 ghost use Rattle.std.specs.Option.{ForSome};
 ghost use Rattle.seg_lexer.specs.Fields.{separators_of};
 ghost use Rattle.seg_lexer.specs.Place.{AreApart, IsPlace, component_to, rest_of};
-ghost use Rattle.seg_lexer.specs.declared.TheConstants.{LONGEST_TEXT};
+ghost use Rattle.value_lexer.specs.declared.TheConstants.{LONGEST_TEXT};
 
-use crate::scan::{Sought, find_free};
 use crate::service::{Separators, Service};
-use crate::value::Value;
 use edi_octets::Octets;
 use std::alloc::AllocError;
+use value_lexer::{Sought, Value, find_free};
 
 /// A component of a segment: the number of its element, which is 0 for the tag field, its own number, from 1 in each
 /// element, and its value.
@@ -105,7 +104,7 @@ impl<'a, O: Octets> Fields<'a, O> {
     ghost use Rattle.seg_lexer.specs.Left.{components_left, fields_left};
     ghost use Rattle.seg_lexer.specs.Place.{placed_at};
     ghost use Rattle.seg_lexer.specs.Tag.{past_tag_field, tag_field};
-    ghost use Rattle.seg_lexer.specs.Value.{octets_of, span_of};
+    ghost use Rattle.value_lexer.specs.Value.{octets_of, span_of};
 
     /// The components of the segment `start..end` of a text.
     pub(crate) fn new(text: &'a O, service: &Service, start: usize, end: usize) -> Fields<'a, O>

@@ -3,19 +3,13 @@
 
 mod components;
 mod context;
-mod scan;
 mod segment;
 mod service;
-mod stretch;
 mod tag;
-mod value;
 
 pub use components::{Component, Fields};
 pub use context::{Context, Level, read_context};
 pub use segment::{Lexed, fields, next_segment};
 pub use service::{Separators, Service, read_service};
 pub use tag::read_tag;
-pub use value::{Value, ValueOctets, has_release};
-
-/// The most octets that a text may have, by this project's own limit.
-pub const LONGEST_TEXT: usize = 4_194_304;
+pub use value_lexer::{LONGEST_TEXT, Value, ValueOctets, has_release};

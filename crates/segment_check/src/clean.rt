@@ -5,7 +5,7 @@ ghost use Rattle.dir_parts.specs.declared.parts.Parts.{Parts};
 ghost use Rattle.seg_lexer.specs.Fields.{components_at};
 ghost use Rattle.seg_lexer.specs.Service.{IsUsable};
 ghost use Rattle.seg_lexer.specs.Tag.{tag_of};
-ghost use Rattle.seg_lexer.specs.declared.TheConstants.{LONGEST_TEXT};
+ghost use Rattle.value_lexer.specs.declared.TheConstants.{LONGEST_TEXT};
 ghost use Rattle.seg_lexer.specs.declared.context.Context.{Context};
 ghost use Rattle.element_check.specs.Local.{local_errors_of};
 ghost use Rattle.segment_check.specs.Clean.{AreClean};

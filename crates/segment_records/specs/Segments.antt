@@ -4,7 +4,8 @@ use Rattle.std.specs.List.{zip}
 use Rattle.std.specs.Option.{option_map}
 use Rattle.edi_tables.specs.declared.tag.Tag.{Tag}
 use Rattle.seg_lexer.specs.Fields.{Component, components_at, octets_at}
-use Rattle.seg_lexer.specs.Segments.{boundaries_of, ends_of, lead}
+use Rattle.seg_lexer.specs.Segments.{boundaries_of, ends_of}
+use Rattle.value_lexer.specs.Breaks.{lead}
 use Rattle.seg_lexer.specs.Service.{service_of}
 use Rattle.seg_lexer.specs.Tag.{tag_of}
 use Rattle.seg_lexer.specs.declared.service.Service.{Service}

@@ -2,7 +2,7 @@
 ghost use Rattle.std.specs.Prelude.{◌≡◌, ◌+◌, ◌<◌, ◌≤◌, ℕ, length, IfOk};
 ghost use Rattle.edi_octets.specs.declared.octets.Octets.{Ghosts};
 ghost use Rattle.seg_lexer.specs.Service.{IsUsable};
-ghost use Rattle.seg_lexer.specs.declared.TheConstants.{LONGEST_TEXT};
+ghost use Rattle.value_lexer.specs.declared.TheConstants.{LONGEST_TEXT};
 ghost use Rattle.segment_check.specs.Clean.{AreClean};
 ghost use Rattle.segment_records.specs.Records.{IsModeOf, kept_of};
 ghost use Rattle.segment_records.specs.Seen.{local_in, missing_in};

@@ -9,9 +9,10 @@ use Rattle.std.proofs.lemmas.Option.{get_or_from_slice_get, slice_get-map, slice
 use Rattle.dir_parts.specs.declared.parts.Parts.{Parts}
 use Rattle.seg_lexer.specs.declared.segment.Lexed.{Lexed}
 use Rattle.seg_lexer.specs.declared.segment.Lexed.TheVariants.{Ended, Tail, Nothing}
-use Rattle.seg_lexer.specs.Segments.{IsBoundary, IsLexed, IsSegment, boundaries_of, ends_of, lead, segment_in, segments_of}
+use Rattle.seg_lexer.specs.Segments.{IsBoundary, IsLexed, IsSegment, boundaries_of, ends_of, segment_in, segments_of}
+use Rattle.value_lexer.specs.Breaks.{lead}
 use Rattle.seg_lexer.specs.Service.{IsUsable}
-use Rattle.seg_lexer.specs.Stretch.{Stretch}
+use Rattle.value_lexer.specs.Stretch.{Stretch}
 use Rattle.seg_lexer.specs.Whole.{IsWhole, at_start}
 use Rattle.seg_lexer.specs.declared.context.Context.{Context}
 use Rattle.seg_lexer.specs.declared.service.Service.{Service}

@@ -14,7 +14,7 @@ use Rattle.seg_lexer.specs.declared.context.Context.{Context}
 use Rattle.seg_lexer.specs.declared.service.Service.{Service}
 use Rattle.seg_lexer.proofs.AppendLemmas.{pairs}
 use Rattle.seg_lexer.proofs.EndsLemmas.{AllBelow, IsAscending, ends-ascending, ends-below}
-use Rattle.seg_lexer.proofs.PlacesLemmas.{length-filter-le}
+use Rattle.value_lexer.proofs.PlacesLemmas.{length-filter-le}
 use Rattle.seg_lexer.proofs.SegmentsLemmas.{IsLead, lead-within}
 use Rattle.seg_lexer.proofs.ServiceLemmas.{service_of-usable}
 use Rattle.segment_records.specs.Records.{Kept, kept_from, kept_of}

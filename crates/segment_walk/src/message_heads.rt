@@ -2,7 +2,7 @@
 ghost use Rattle.std.specs.Prelude.{◌≡◌, ◌+◌, ◌++◌, ◌<◌, ◌≤◌, IfOk, None, OnOk, Some, codes, if◌then◌else◌, length};
 ghost use Rattle.edi_tables.specs.Rows.{has_name};
 ghost use Rattle.seg_lexer.specs.Service.{IsUsable};
-ghost use Rattle.seg_lexer.specs.declared.TheConstants.{LONGEST_TEXT};
+ghost use Rattle.value_lexer.specs.declared.TheConstants.{LONGEST_TEXT};
 ghost use Rattle.segment_walk.specs.Look.{seen_of};
 ghost use Rattle.segment_walk.specs.Spans.{begun_by as begun_by_of, ended_by, group_by as group_by_of, message_ended, message_seen, stops_message as stops_message_of};
 

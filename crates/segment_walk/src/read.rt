@@ -6,7 +6,7 @@ ghost use Rattle.seg_lexer.specs.Context.{context_of};
 ghost use Rattle.seg_lexer.specs.Segments.{IsBoundary};
 ghost use Rattle.seg_lexer.specs.Service.{IsUsable};
 ghost use Rattle.seg_lexer.specs.Whole.{at_start};
-ghost use Rattle.seg_lexer.specs.declared.TheConstants.{LONGEST_TEXT};
+ghost use Rattle.value_lexer.specs.declared.TheConstants.{LONGEST_TEXT};
 ghost use Rattle.segment_records.specs.Laws.{ForgetsBefore, WholeThenMore};
 ghost use Rattle.segment_records.specs.Records.{IsModeOf, records_from};
 ghost use Rattle.segment_records.specs.Segments.{Segment, segments_by};

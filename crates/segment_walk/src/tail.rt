@@ -2,7 +2,7 @@
 ghost use Rattle.std.specs.Prelude.{◌≡◌, ◌<◌, ◌≤◌, length, slice_index};
 ghost use Rattle.seg_lexer.specs.Segments.{boundaries_of, ends_of, tail_of};
 ghost use Rattle.seg_lexer.specs.Service.{IsUsable};
-ghost use Rattle.seg_lexer.specs.declared.TheConstants.{LONGEST_TEXT};
+ghost use Rattle.value_lexer.specs.declared.TheConstants.{LONGEST_TEXT};
 
 use edi_octets::Octets;
 use seg_lexer::{Lexed, Service, next_segment};

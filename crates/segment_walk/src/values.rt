@@ -2,7 +2,7 @@
 ghost use Rattle.std.specs.Prelude.{◌≡◌, ◌+◌, ◌≤◌, IfOk, length};
 ghost use Rattle.seg_lexer.specs.Left.{components_left};
 ghost use Rattle.seg_lexer.specs.Service.{IsUsable};
-ghost use Rattle.seg_lexer.specs.declared.TheConstants.{LONGEST_TEXT};
+ghost use Rattle.value_lexer.specs.declared.TheConstants.{LONGEST_TEXT};
 ghost use Rattle.segment_walk.specs.Look.{seen_of};
 ghost use Rattle.segment_walk.specs.Openers.{party_in};
 ghost use Rattle.segment_walk.specs.Told.{components_seen};

@@ -5,7 +5,7 @@ use Rattle.std.proofs.lemmas.List.{append_assoc, append-nil, drop_all}
 use Rattle.std.proofs.lemmas.Option.{cond_some}
 use Rattle.std.specs.List.{slice_get}
 use Rattle.edi_octets.proofs.PlaceLemmas.{drop_here}
-use Rattle.seg_lexer.specs.Stretch.{Stretch}
+use Rattle.value_lexer.specs.Stretch.{Stretch}
 use Rattle.seg_lexer.specs.declared.service.Service.{Service}
 use Rattle.seg_lexer.specs.Segments.{segments_of, tail_of}
 use Rattle.seg_lexer.specs.Service.{service_of}

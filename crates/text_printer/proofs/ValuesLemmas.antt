@@ -5,7 +5,7 @@ use Rattle.std.specs.List.{flat_map}
 use Rattle.std.proofs.lemmas.Bool.{cases_Bool}
 use Rattle.edi_octets.specs.Lines.{is_filled}
 use Rattle.seg_lexer.specs.Fields.{Component, IsInOrder, PlacedComponent, unplaced}
-use Rattle.seg_lexer.specs.Stretch.{Stretch}
+use Rattle.value_lexer.specs.Stretch.{Stretch}
 use Rattle.seg_lexer.specs.Tag.{past_tag_field, tag_of}
 use Rattle.seg_lexer.specs.declared.service.Service.{Service}
 use Rattle.seg_lexer.proofs.OrderLemmas.{IsInOrder-lower}

@@ -7,7 +7,7 @@ use Rattle.seg_lexer.specs.declared.service.Service.{Service}
 use Rattle.seg_lexer.specs.Service.{service_of}
 use Rattle.seg_lexer.specs.Segments.{segments_of, tail_of}
 use Rattle.seg_lexer.specs.Fields.{Component, components_of, separators_of}
-use Rattle.seg_lexer.specs.Stretch.{Stretch, octets_in}
+use Rattle.value_lexer.specs.Stretch.{Stretch, octets_in}
 use Rattle.seg_lexer.specs.Tag.{tag_of}
 use Rattle.text_printer.specs.declared.text.Detail.{Detail}
 use Rattle.text_printer.specs.declared.text.Detail.TheVariants.{Segments, Values}

@@ -5,7 +5,7 @@ ghost use Rattle.std.specs.Fmt.{digit_glyph};
 ghost use Rattle.seg_lexer.specs.Fields.{unplaced};
 ghost use Rattle.seg_lexer.specs.Left.{components_left, placed_in};
 ghost use Rattle.seg_lexer.specs.Tag.{tag_of};
-ghost use Rattle.seg_lexer.specs.Value.{octets_of};
+ghost use Rattle.value_lexer.specs.Value.{octets_of};
 ghost use Rattle.text_printer.specs.Printing.{component_line, octet_shown, tag_end, value_line, value_lines};
 
 use crate::segment_line::put_tag;

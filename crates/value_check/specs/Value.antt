@@ -9,7 +9,7 @@ use Rattle.edi_tables.specs.declared.element.CodeList.{CodeList}
 use Rattle.edi_tables.specs.Tag.{is_digit}
 use Rattle.error_ledger.specs.declared.kind.Kind.{Kind}
 use Rattle.error_ledger.specs.declared.kind.Kind.TheVariants.{Repertoire, WrongType, Decimal, TooLong, TooShort, Code}
-use Rattle.seg_lexer.specs.Released.{is_release}
+use Rattle.value_lexer.specs.Released.{is_release}
 use Rattle.seg_lexer.specs.declared.context.Context.{Context}
 use Rattle.seg_lexer.specs.declared.service.Service.{Service}
 use Rattle.value_check.specs.Repertoire.{is_admitted}

@@ -1,6 +1,6 @@
 //! What one scan of a value finds.
 ghost use Rattle.std.specs.Prelude.{◌≡◌, ◌+◌, ◌<◌, ◌^◌, ◌&&◌, not};
-ghost use Rattle.seg_lexer.specs.Value.{octets_of};
+ghost use Rattle.value_lexer.specs.Value.{octets_of};
 ghost use Rattle.value_check.specs.Tally.{form_after, is_number, nothing_found, numbered_after, sort_of as sort_of_octet, tally_by, tally_over, typed_after};
 ghost use Rattle.value_check.specs.Value.{is_mark as is_mark_of, is_numeric, is_service_character as is_service_character_of};
 

@@ -8,7 +8,7 @@ ghost use Rattle.std.specs.Str.{bytes_eq};
 ghost use Rattle.edi_tables.specs.Ascending.{IsAscendingBy};
 ghost use Rattle.dir_parts.specs.Compile.{value_name};
 ghost use Rattle.edi_tables.specs.declared.element.CodeList.{CodeList as SeenList};
-ghost use Rattle.seg_lexer.specs.Value.{octets_of};
+ghost use Rattle.value_lexer.specs.Value.{octets_of};
 ghost use Rattle.seg_lexer.specs.declared.context.Context.{Context as SeenContext};
 ghost use Rattle.value_check.specs.Tally.{nothing_found, tally_over};
 ghost use Rattle.value_check.specs.Value.{is_unlisted as is_unlisted_of, test_results};

@@ -4,7 +4,7 @@ use Rattle.std.specs.Borrow.{Bor}
 use Rattle.std.specs.List.{list_any}
 use Rattle.std.specs.Str.{bytes_eq}
 use Rattle.std.proofs.lemmas.List.{drop_more}
-use Rattle.seg_lexer.specs.Value.{octets_of}
+use Rattle.value_lexer.specs.Value.{octets_of}
 use Rattle.segment_walk.proofs.opening.is_among.Goals as goal
 
 abbrev names : List (Bor (List ℕ)) → List (List ℕ)

@@ -2,7 +2,7 @@ use Rattle.std.proofs.Common.{◌≡◌, List, ℕ, drop, map}
 use Rattle.std.specs.Borrow.{Bor}
 use Rattle.std.specs.List.{list_any}
 use Rattle.std.specs.Str.{bytes_eq}
-use Rattle.seg_lexer.specs.Value.{octets_of}
+use Rattle.value_lexer.specs.Value.{octets_of}
 use Rattle.segment_walk.proofs.opening.is_among.Given as goal
 
 abbrev pub invariant-loop-name : goal.invariant-loop-name

@@ -1,6 +1,6 @@
 use Rattle.std.proofs.Common.{◌≡◌, ◌++◌}
 use Rattle.std.specs.List.{flat_map}
-use Rattle.seg_lexer.specs.Value.{octets_of}
+use Rattle.value_lexer.specs.Value.{octets_of}
 use Rattle.text_printer.specs.Printing.{octet_shown}
 use Rattle.text_printer.proofs.value_lines.put_octets.Given as goal
 

@@ -1,5 +1,5 @@
 use Rattle.std.proofs.Common.{◌≡◌, ◌+◌, ◌<◌, ◌^◌, length}
-use Rattle.seg_lexer.specs.Value.{octets_of}
+use Rattle.value_lexer.specs.Value.{octets_of}
 use Rattle.value_check.specs.Tally.{nothing_found, tally_over}
 use Rattle.value_check.proofs.tally.scan_each.Given as goal
 

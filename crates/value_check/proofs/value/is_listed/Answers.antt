@@ -6,7 +6,7 @@ use Rattle.std.specs.Str.{bytes_eq}
 use Rattle.std.proofs.lemmas.Fn.{always_returns_same}
 use Rattle.edi_tables.specs.Ascending.{IsAscendingBy}
 use Rattle.dir_parts.specs.Compile.{value_name}
-use Rattle.seg_lexer.specs.Value.{octets_of}
+use Rattle.value_lexer.specs.Value.{octets_of}
 use Rattle.value_check.proofs.CodeLemmas.{listed-searched}
 use Rattle.value_check.proofs.value.is_listed.Goals as goal
 

@@ -1,7 +1,7 @@
 use Rattle.std.proofs.Common.{◌≡◌}
 use Rattle.std.specs.Cmp.Lexicographic.{slice_cmp}
 use Rattle.std.specs.Ordering.{nat_cmp}
-use Rattle.seg_lexer.specs.Value.{octets_of}
+use Rattle.value_lexer.specs.Value.{octets_of}
 use Rattle.value_check.proofs.value.order_of.Given as goal
 
 -- what is left of the code stands to what is left of the value as the code stands to the value

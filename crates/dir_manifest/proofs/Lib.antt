@@ -1,2 +1,1 @@
 pub mod ManifestLemmas
-pub mod WordLemmas

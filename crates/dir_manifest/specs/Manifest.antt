@@ -1,12 +1,13 @@
 -- What a manifest is.
 use Rattle.std.specs.Prelude.{◌≡◌, ◌-◌, ℕ, Bool, true, not, ◌==◌, ◌&&◌, nat_le, List, [], ◌∷◌, length, filter, slice_get, Option, Some, None, option_and_then, Result, Err, codes, if◌then◌else◌}
-use Rattle.std.specs.List.{slice_split, list_all, filter_map, flat_map}
+use Rattle.std.specs.List.{list_all, filter_map, flat_map}
 use Rattle.std.specs.Str.{bytes_eq}
 use Rattle.edi_tables.specs.First.{unless_faulty}
 use Rattle.edi_tables.specs.Forms.{is_label}
 use Rattle.edi_octets.specs.declared.fault.DirFault.{DirFault}
 use Rattle.edi_octets.specs.declared.fault.DirKind.TheVariants.{BadLine, TooMany}
-use Rattle.edi_octets.specs.Lines.{Line, lines_of}
+use Rattle.edi_octets.specs.Lines.{Line, lines_of, pieces_in}
+use Rattle.line_words.specs.Words.{two_of, four_of}
 use Rattle.edi_octets.specs.Name.{is_name_of}
 use Rattle.edi_octets.specs.Profile.{with_earlier}
 use Rattle.edi_octets.specs.DirStop.{at_line}
@@ -16,21 +17,9 @@ use Rattle.dir_manifest.specs.declared.manifest.Labels.{Labels}
 use Rattle.dir_manifest.specs.declared.manifest.Manifest.{Manifest}
 use Rattle.dir_manifest.specs.declared.manifest.FileKind.TheVariants.{Elements, Codes, Composites, Segments, Message}
 
--- the words of a line's octets, separated by exactly one space
-abbrev pub words_in : List ℕ → List (List ℕ)
-words_in octets = slice_split (λ x. x == 32) octets
-
+-- the words of a line, separated by exactly one space
 abbrev pub words_of : Line → List (List ℕ)
-words_of line = words_in line.octets
-
--- exactly two words, and exactly four
-abbrev pub two_in : List (List ℕ) → Option (List ℕ × List ℕ)
-two_in (a ∷ b ∷ []) = Some (a, b)
-two_in words = None
-
-abbrev pub four_in : List (List ℕ) → Option (List ℕ × List ℕ × List ℕ × List ℕ)
-four_in (a ∷ b ∷ c ∷ d ∷ []) = Some (a, b, c, d)
-four_in words = None
+words_of line = pieces_in line.octets
 
 -- a line of spaces alone, or of nothing, is skipped
 abbrev pub is_counted : Line → Bool
@@ -49,7 +38,7 @@ pub record HasLabelForms (labels : Labels) : Type 0 where
   pub agency : is_label 2 labels.agency ≡ true
 
 abbrev pub labels_on : List (List ℕ) → Option Labels
-labels_on words = option_and_then labels_with (four_in words)
+labels_on words = option_and_then labels_with (four_of words)
 
 -- a kind of file
 abbrev pub kind_named : List ℕ → Option FileKind
@@ -74,7 +63,7 @@ file_with name (Some kind) = if is_name_of name then Some (record { kind = kind;
 
 -- a later line: a kind and a name
 abbrev pub file_on : List (List ℕ) → Option FileLine
-file_on words = option_and_then (λ w. file_with w.1 (kind_named w.0)) (two_in words)
+file_on words = option_and_then (λ w. file_with w.1 (kind_named w.0)) (two_of words)
 
 -- the files of these lines
 abbrev pub files_on : List Line → List FileLine

@@ -3,6 +3,5 @@
 
 mod counted;
 mod manifest;
-mod words;
 
 pub use manifest::{FileKind, FileLine, Labels, Manifest, read_manifest};

@@ -1,16 +1,16 @@
 //! Manifests: the labels of a directory, and the files that it is made of.
 ghost use Rattle.std.specs.Prelude.{◌≡◌, ◌≤◌, ◌+◌, ◌++◌, ◌∷◌, [], List, ℕ, length, IfOk, IfSome, OnOk, option_and_then};
 ghost use Rattle.dir_manifest.specs.Counted.{counted_left};
-ghost use Rattle.dir_manifest.specs.Manifest.{HasLabelForms, is_in_turn as is_in_turn_of, kind_named, place_of, labels_on, file_on, file_faults, faults_on, files_on, manifest_in, words_in};
+ghost use Rattle.dir_manifest.specs.Manifest.{HasLabelForms, is_in_turn as is_in_turn_of, kind_named, place_of, labels_on, file_on, file_faults, faults_on, files_on, manifest_in};
 ghost use Rattle.edi_octets.specs.DirStop.{fault_in};
 ghost use Rattle.edi_tables.specs.First.{Answers, unless_faulty};
 ghost use Rattle.edi_octets.specs.Left.{line_shown};
-ghost use Rattle.edi_octets.specs.Lines.{Line};
+ghost use Rattle.edi_octets.specs.Lines.{Line, pieces_in};
 
 use crate::counted::CountedLines;
-use crate::words::{four_words, two_words};
 use edi_octets::{DirKind, DirStop, LineText, is_label, is_name};
 use edi_tables::{Chunk, List};
+use line_words::{four_words, two_words};
 use std::alloc::{AllocError, Global};
 
 /// The kinds of directory files, in the order in which a manifest names them.
@@ -85,7 +85,7 @@ fn read_files(alloc: Global, lines: CountedLines<'_>) -> Result<Vec<FileLine>, D
 
 // The labels of a manifest's first line.
 fn read_labels(alloc: Global, line: &[u8]) -> Result<Option<Labels>, AllocError>
-    ensures labels { IfOk result (λ labels. labels ≡ labels_on (words_in line.now)) }
+    ensures labels { IfOk result (λ labels. labels ≡ labels_on (pieces_in line.now)) }
     ensures formed { IfOk result (λ labels. IfSome labels HasLabelForms) }
 {
     let Some((word, version, release, agency)) = four_words(line) else {
@@ -107,7 +107,7 @@ fn read_labels(alloc: Global, line: &[u8]) -> Result<Option<Labels>, AllocError>
 
 // The file that a manifest's later line names.
 fn read_file_line(alloc: Global, line: &[u8]) -> Result<Option<FileLine>, AllocError>
-    ensures { IfOk result (λ file. file ≡ file_on (words_in line.now)) }
+    ensures { IfOk result (λ file. file ≡ file_on (pieces_in line.now)) }
 {
     let Some((word, name)) = two_words(line) else {
         return Ok(None);

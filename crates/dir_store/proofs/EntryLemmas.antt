@@ -25,7 +25,7 @@ use Rattle.store_lines.specs.Lines.{Reading, lined}
 use Rattle.store_lines.specs.Rules.{is_between, kept, number_in, comes_after, part_of, composite_of, item_of, item_with, item_in, tag_of, called, row_of, row_with, row_in}
 use Rattle.dir_store.specs.Spelling.{status_text, item_text, row_name, row_text}
 use Rattle.dir_store.specs.Store.{item_at, row_at}
-use Rattle.store_lines.specs.Words.{two_in, four_in}
+use Rattle.line_words.specs.Words.{two_in, four_in}
 use Rattle.store_lines.proofs.LineLemmas.{some-is, and-both, IsPlain, IsLine, joined-line, two-takes, two-again, four-takes, four-again}
 use Rattle.store_lines.proofs.NumberLemmas.{digits-plain, tag-octets-plain, decimal-plain, number-takes, number-again}
 use Rattle.dir_store.proofs.ReprLemmas.{status-takes, status-again, status-plain}

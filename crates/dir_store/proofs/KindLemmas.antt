@@ -18,7 +18,7 @@ use Rattle.dir_parts.specs.Compile.{element_name, value_name, named_in, is_same_
 use Rattle.store_lines.specs.Rules.{comes_after, element_with, element_in, value_in, part_of, part_with, part_in}
 use Rattle.dir_store.specs.Spelling.{repr_text, status_text, element_text, value_text, part_text}
 use Rattle.dir_store.specs.Store.{element_at, value_at, part_at}
-use Rattle.store_lines.specs.Words.{two_in}
+use Rattle.line_words.specs.Words.{two_in}
 use Rattle.store_lines.proofs.LineLemmas.{some-is, and-both, and-three, is_plain, IsPlain, IsLine, line-plain, joined-line, two-takes, two-again}
 use Rattle.store_lines.proofs.NumberLemmas.{digits-plain}
 use Rattle.dir_store.proofs.ReprLemmas.{repr-takes, repr-again, repr-plain, status-takes, status-again, status-plain}

@@ -8,7 +8,7 @@ use Rattle.std.proofs.lemmas.List.{append_assoc, append-nil, length-append}
 use Rattle.std.proofs.lemmas.Option.{slice_get-get_or, option_and_then_some}
 use Rattle.store_lines.specs.Lines.{◌>>=◌, Reading, last_of, several, found_at, lined}
 use Rattle.store_lines.specs.Rules.{kept, number_in, head_with, head_in}
-use Rattle.store_lines.specs.Words.{two_in}
+use Rattle.line_words.specs.Words.{two_in}
 use Rattle.dir_store.specs.Spelling.{listed}
 use Rattle.dir_store.specs.Store.{headed}
 use Rattle.store_lines.proofs.LineLemmas.{bind_ok, ok-is, some-is, IsPlain, IsLine, joined-line, found-takes, lined-takes, lined-again, two-takes, two-again}

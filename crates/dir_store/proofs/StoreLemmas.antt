@@ -24,7 +24,7 @@ use Rattle.store_lines.specs.Lines.{Reading, lined}
 use Rattle.store_lines.specs.Rules.{labels_with, labels_in}
 use Rattle.dir_store.specs.Spelling.{first_line, line_of, listed}
 use Rattle.dir_store.specs.Store.{first_in, section_of, section_at}
-use Rattle.store_lines.specs.Words.{three_in}
+use Rattle.line_words.specs.Words.{three_in}
 use Rattle.store_lines.proofs.LineLemmas.{some-is, and-three, IsPlain, joined-line, lined-takes, lined-again, three-takes, three-again}
 use Rattle.store_lines.proofs.NumberLemmas.{tag-octets-plain}
 use Rattle.dir_store.proofs.SeveralLemmas.{Each, IsSpelled, headed-takes, headed-again}

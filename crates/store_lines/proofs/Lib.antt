@@ -1,4 +1,4 @@
 pub mod LineLemmas
 pub mod NumberLemmas
 pub mod SearchLemmas
-pub mod WordLemmas
+pub mod EndLemmas

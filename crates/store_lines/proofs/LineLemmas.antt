@@ -12,7 +12,7 @@ use Rattle.std.proofs.lemmas.List.Splits.{slice_split_none, slice_split_at, join
 use Rattle.std.proofs.lemmas.List.Sums.{AllPass-from_list_all, position_or_len_is}
 use Rattle.edi_octets.specs.Lines.{is_space, pieces_in}
 use Rattle.store_lines.specs.Lines.{◌>>=◌, line_to, line_at, found_at, lined}
-use Rattle.store_lines.specs.Words.{two_of, three_of, four_of, two_in, three_in, four_in}
+use Rattle.line_words.specs.Words.{two_of, three_of, four_of, two_in, three_in, four_in}
 
 -- the value of a step that is no fault
 pub bind_ok : {A B : Type 0} (read : Result A ℕ) (next : A → Result B ℕ) (y : B) → (read >>= next) ≡ Ok y → (x : A) × (read ≡ Ok x) × (next x ≡ Ok y)

@@ -1,4 +1,3 @@
 pub mod Lines
 pub mod Rules
 pub mod Stop
-pub mod Words

@@ -19,7 +19,7 @@ use Rattle.edi_octets.specs.Decimal.{decimal_in}
 use Rattle.edi_octets.specs.Profile.{repr_in, status_in}
 use Rattle.dir_parts.specs.Compile.{named_in, is_service_tag, element_name, list_name, composite_name, segment_name, message_name, value_name}
 use Rattle.store_lines.specs.declared.labels.Labels.{Labels}
-use Rattle.store_lines.specs.Words.{two_in, three_in, four_in}
+use Rattle.line_words.specs.Words.{two_in, three_in, four_in}
 
 -- what was found, if it passes a test
 abbrev pub kept : {A : Type 0} → (A → Bool) → Option A → Option A

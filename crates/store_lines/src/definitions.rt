@@ -7,9 +7,9 @@ ghost use Rattle.store_lines.specs.Rules as rules;
 
 use crate::known::Known;
 use crate::line::{comes_after, read_head};
-use crate::words::two_words;
 use edi_octets::{read_composite_code, read_element_code, read_repr, read_status};
 use edi_tables::{Code, CodeList, CompositeDef, ElementDef, PartDef};
+use line_words::two_words;
 
 /// The most parts of a composite, and the most items of a segment.
 pub const MOST_MEMBERS: u64 = 99;

@@ -3,9 +3,9 @@ ghost use Rattle.std.specs.Prelude.{◌≡◌, IfOk};
 ghost use Rattle.std.specs.Option.{option_map};
 ghost use Rattle.store_lines.specs.Rules.{labels_in};
 
-use crate::words::three_words;
 use edi_octets::is_label;
 use edi_tables::Chunk;
+use line_words::three_words;
 use std::alloc::{AllocError, Global};
 
 /// The version and the release of a directory, of 1 to 3 octets, and its agency, of 1 to 2.

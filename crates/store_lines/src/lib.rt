@@ -7,7 +7,6 @@ mod labels;
 mod line;
 mod segments;
 mod stop;
-mod words;
 
 pub use definitions::{composite_on, element_on, is_code_value, list_on, part_on};
 pub use known::Known;

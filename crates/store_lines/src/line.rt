@@ -7,8 +7,8 @@ ghost use Rattle.store_lines.specs.Rules as rules;
 ghost use Rattle.store_lines.specs.Stop.{left_in};
 
 use crate::stop::Stop;
-use crate::words::two_words;
 use edi_octets::read_decimal;
+use line_words::two_words;
 use memchr::memchr;
 
 /// The first line, and the octets after the LF that ends it. Octets that have no LF are at fault at their end.

@@ -6,9 +6,9 @@ ghost use Rattle.store_lines.specs.Rules as rules;
 use crate::definitions::{MOST_MEMBERS, is_between, part_of};
 use crate::known::Known;
 use crate::line::{comes_after, read_head, read_number};
-use crate::words::{four_words, two_words};
 use edi_octets::{is_message_name, read_composite_code, read_element_code, read_status};
 use edi_tables::{ItemDef, MessageDef, SegmentDef, TableRow, Tag};
+use line_words::{four_words, two_words};
 use service_tables::service_segment;
 
 /// The tag of a segment on a line, in order and not a service segment's, and how many items follow: 1 to 99.

@@ -1,6 +1,6 @@
 use Rattle.std.proofs.Common.{◌+◌}
 use Rattle.std.proofs.lemmas.List.{take_rest}
-use Rattle.store_lines.proofs.WordLemmas.{line-cut, line-none}
+use Rattle.store_lines.proofs.EndLemmas.{line-cut, line-none}
 use Rattle.store_lines.proofs.line.read_line.Goals as goal
 
 pub returns-in-Some : goal.returns-in-Some

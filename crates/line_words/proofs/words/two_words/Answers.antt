@@ -1,7 +1,7 @@
 use Rattle.std.proofs.Common.{◌∷◌, List, ℕ, sym, ap, ◌∙◌}
-use Rattle.store_lines.specs.Words.{two_of}
-use Rattle.store_lines.proofs.WordLemmas.{two-more}
-use Rattle.store_lines.proofs.words.two_words.Goals as goal
+use Rattle.line_words.specs.Words.{two_of}
+use Rattle.line_words.proofs.WordLemmas.{two-more}
+use Rattle.line_words.proofs.words.two_words.Goals as goal
 
 pub returns-in-Some : goal.returns-in-Some
 returns-in-Some c =

@@ -1,7 +1,7 @@
 use Rattle.std.proofs.Common.{◌+◌}
 use Rattle.std.proofs.lemmas.List.{take_rest}
-use Rattle.store_lines.proofs.WordLemmas.{pieces-cut, pieces-one}
-use Rattle.store_lines.proofs.words.cut_word.Goals as goal
+use Rattle.line_words.proofs.WordLemmas.{pieces-cut, pieces-one}
+use Rattle.line_words.proofs.words.cut_word.Goals as goal
 
 pub returns-in-Some : goal.returns-in-Some
 returns-in-Some c =

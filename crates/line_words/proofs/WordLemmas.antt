@@ -1,15 +1,14 @@
--- The words of a line, and its end.
-use Rattle.std.proofs.Common.{◌≡◌, ◌+◌, ℕ, List, [], ◌∷◌, length, take, drop, None, Ok, Err, eqb, false, refl, arith}
+-- The words of a line.
+use Rattle.std.proofs.Common.{◌≡◌, ◌+◌, ℕ, List, [], ◌∷◌, length, take, drop, None, eqb, false, refl, arith}
 use Rattle.std.specs.List.{position_or_len}
-use Rattle.std.proofs.lemmas.Bool.{false_from_ne_true, lt-ltb, le-ltb}
+use Rattle.std.proofs.lemmas.Bool.{false_from_ne_true}
 use Rattle.std.proofs.lemmas.List.Elements.{All-from_get_or}
 use Rattle.std.proofs.lemmas.List.Splits.{slice_split_first, slice_split_none}
 use Rattle.memchr.specs.Find.{NoneBefore, Passes, Nowhere, is_byte}
 use Rattle.edi_octets.specs.Lines.{pieces_in}
-use Rattle.edi_octets.proofs.LineLemmas.{place-from_search, place-from_no_search}
+use Rattle.edi_octets.proofs.LineLemmas.{place-from_search}
 use Rattle.edi_octets.proofs.SplitLemmas.{first_part}
-use Rattle.store_lines.specs.Lines.{line_at}
-use Rattle.store_lines.specs.Words.{two_of, three_of, four_of}
+use Rattle.line_words.specs.Words.{two_of, three_of, four_of}
 
 -- a line with a space begins with the word before it
 pub pieces-cut : (line : List ℕ) (k : ℕ) → NoneBefore (Passes (is_byte 32) line) 0 (length line) k × Passes (is_byte 32) line k → pieces_in line ≡ take k line ∷ pieces_in (drop (k + 1) line)
@@ -31,14 +30,3 @@ three-more a b c line = let parts = first_part (λ x. eqb x 32) line in rw parts
 
 pub four-more : (a b c d line : List ℕ) → four_of (a ∷ b ∷ c ∷ d ∷ pieces_in line) ≡ None
 four-more a b c d line = let parts = first_part (λ x. eqb x 32) line in rw parts.2 refl
-
--- octets with LF begin with a line, and others have none
-pub line-cut : (octets : List ℕ) (k : ℕ) → NoneBefore (Passes (is_byte 10) octets) 0 (length octets) k × Passes (is_byte 10) octets k → line_at octets ≡ Ok (take k octets, drop (k + 1) octets)
-line-cut octets k found =
-    let place : position_or_len (λ x. eqb x 10) octets ≡ k = place-from_search 10 octets k found in
-    rw (place, lt-ltb k (length octets) found.0.high) refl
-
-pub line-none : (octets : List ℕ) → Nowhere (Passes (is_byte 10) octets) 0 (length octets) → line_at octets ≡ Err 0
-line-none octets none =
-    let place : position_or_len (λ x. eqb x 10) octets ≡ length octets = place-from_no_search 10 octets none in
-    rw (place, le-ltb (length octets) (length octets) (omega arith)) refl

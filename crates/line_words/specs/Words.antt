@@ -1,4 +1,4 @@
--- The words of a store's line.
+-- The words of a line.
 use Rattle.std.specs.Prelude.{ℕ, List, [], ◌∷◌, Option, Some, None}
 use Rattle.edi_octets.specs.Lines.{pieces_in}
 

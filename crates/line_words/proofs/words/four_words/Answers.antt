@@ -1,7 +1,7 @@
 use Rattle.std.proofs.Common.{◌∷◌, List, ℕ, sym, ap, ◌∙◌}
-use Rattle.store_lines.specs.Words.{four_of}
-use Rattle.store_lines.proofs.WordLemmas.{four-more}
-use Rattle.store_lines.proofs.words.four_words.Goals as goal
+use Rattle.line_words.specs.Words.{four_of}
+use Rattle.line_words.proofs.WordLemmas.{four-more}
+use Rattle.line_words.proofs.words.four_words.Goals as goal
 
 pub returns-in-Some : goal.returns-in-Some
 returns-in-Some c =

@@ -1,6 +1,5 @@
 -- A text that is edited, and the directory that it is checked by.
-use Rattle.std.proofs.Common.{◌≡◌, ◌+◌, ◌≤◌, ℕ, zero, suc, List, length, take, drop, Result, Ok, refl, sym, ap, ◌∙◌, arith, add-one}
-use Rattle.std.proofs.lemmas.List.{length-append, length-take-le, length-drop}
+use Rattle.std.proofs.Common.{◌≡◌, ◌+◌, ◌-◌, ◌≤◌, ℕ, zero, suc, List, length, Result, Ok, refl, sym, ap, ◌∙◌, arith, add-one}
 use Rattle.std.proofs.lemmas.List.FromFn.{sum_by-map-range_with_len_more}
 use Rattle.dir_parts.specs.declared.parts.Parts.{Parts}
 use Rattle.dir_compile.specs.Directory.{directory_of}
@@ -9,7 +8,7 @@ use Rattle.drill_maker.specs.Edit.{cut_of, place_of, put_of}
 use Rattle.drill_maker.specs.Reduced.{reduced}
 use Rattle.drill_maker.proofs.EditLemmas.{place_within, put_cut}
 use Rattle.drill_maker.proofs.ReducedLemmas.{directory_of-reduced}
-use Rattle.edi_engine.specs.Edit.{text_with}
+use Rattle.text_reading.proofs.Edits.{length_with}
 use Rattle.drill_printer.specs.Drill.{drill_directory, error_count, error_sum, text_drilled, text_edited}
 
 ok_same : (one other : Parts) → (let a : Result Parts PartsFault = Ok one in a ≡ Ok other) → one ≡ other
@@ -19,16 +18,12 @@ ok_same one other same = cc
 pub compiled : (parts directory : Parts) → parts ≡ reduced → directory_of parts ≡ Ok directory → directory ≡ drill_directory
 compiled parts directory is given = ok_same directory drill_directory (sym given ∙ directory_of-reduced parts is)
 
-length_with : (text : List ℕ) (at cut : ℕ) (put : List ℕ) → at + cut ≤ length text → length (text_with text at cut put) + cut ≡ length text + length put
-length_with text at cut put within =
-    let front : length (take at text) ≡ at = length-take-le at text (omega arith) in
-    let back : length (drop (at + cut) text) + (at + cut) ≡ length text = omega (arith, length-drop (at + cut) text) in
-    simp length-append (omega arith)
-
 -- an edit leaves so many octets more as it puts, and so many fewer as it cuts
 length_edited : (number j : ℕ) (text : List ℕ) → cut_of j ≤ length text → length (text_edited number j text) + cut_of j ≡ length text + length (put_of j)
 length_edited number j text room =
-    length_with text (place_of j number (length text)) (cut_of j) (put_of j) (place_within j number (length text) room)
+    let long : length (text_edited number j text) ≡ length text - cut_of j + length (put_of j) =
+    length_with text (place_of j number (length text)) (cut_of j) (put_of j) (place_within j number (length text) room) in
+    omega arith
 
 -- a text after so many edits has as many octets more as the next edit cuts
 pub length_drilled : (number j : ℕ) (text : List ℕ) → length (text_drilled number j text) ≡ length text + cut_of j

@@ -1,16 +1,9 @@
--- Edits of a text: octets put in place of others.
-use Rattle.std.specs.Prelude.{◌≡◌, ◌+◌, ◌-◌, ℕ, nat_lt, List, ◌++◌, length, take, drop, Option, Some, None, Result, Ok, Err, if◌then◌else◌}
-use Rattle.edi_engine.specs.Engine.{Reading}
+-- What an edit of a text comes to.
+use Rattle.std.specs.Prelude.{◌≡◌, ◌+◌, ◌-◌, ℕ, nat_lt, List, length, Option, Some, None, Result, Ok, Err, if◌then◌else◌}
+use Rattle.text_reading.specs.Edit.{reading_with}
+use Rattle.text_reading.specs.Reading.{Reading}
 use Rattle.edi_engine.specs.declared.edit.EditStop.{EditStop}
 use Rattle.edi_engine.specs.declared.edit.EditStop.TheVariants.{Range, TooLong, Memory}
-
--- the text with octets in place of the `cut` octets from a place on
-abbrev pub text_with : List ℕ → ℕ → ℕ → List ℕ → List ℕ
-text_with text at cut put = take at text ++ put ++ drop (at + cut) text
-
--- the reading with the text so edited
-abbrev pub reading_with : Reading → ℕ → ℕ → List ℕ → Reading
-reading_with before at cut put = record { directory = before.directory; text = text_with before.text at cut put }
 
 -- why an edit isn't made, by the lengths of the text and of the octets that are put: it reaches past the end of the
 -- text, or else the text would have over 4,194,304 octets

@@ -1,3 +1,1 @@
 pub mod Edit
-pub mod Engine
-pub mod Reading

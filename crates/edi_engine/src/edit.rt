@@ -1,7 +1,8 @@
 //! Edits of the text of an engine.
 ghost use Rattle.std.specs.Prelude.{◌≡◌, ◌+◌, ◌≤◌, ◌⊎◌, None};
 ghost use Rattle.segment_walk.specs.Count.{segment_count_of};
-ghost use Rattle.edi_engine.specs.Edit.{IsEdit, stop_by, stop_of, text_with};
+ghost use Rattle.edi_engine.specs.Edit.{IsEdit, stop_by, stop_of};
+ghost use Rattle.text_reading.specs.Edit.{text_with};
 
 use crate::Engine;
 use std::alloc::{AllocError, Global};
@@ -54,7 +55,8 @@ impl<'d> Engine<'d> {
         if let Some(stop) = stop_by(self.text_len(), at, cut, put.len() as u64) {
             return Err(stop);
         }
-        *self = self.edited(alloc, at as usize, cut as usize, put, lexed, placed)?;
+        let kept = &self.kept;
+        self.kept = kept.edited(alloc, at as usize, cut as usize, put, lexed, placed)?;
         Ok(self.text_len())
     }
 }

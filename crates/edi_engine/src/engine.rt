@@ -1,52 +1,43 @@
-//! The engine: a text with what is kept of its segments.
-ghost use Rattle.std.specs.Prelude.{◌≡◌, ◌+◌, ◌-◌, ◌≤◌, ℕ, List, All, length, slice_index, IfOk};
+//! The engine: a kept text, and what is told of it.
+ghost use Rattle.std.specs.Prelude.{◌≡◌, ◌+◌, ◌++◌, ◌≤◌, ℕ, List, All, codes, length, IfOk, IsTrue};
+ghost use Rattle.std.specs.List.Sorted.{IsPermutation};
+ghost use Rattle.contrl_segments.specs.Stamp.{IsStamp, is_reference_of};
 ghost use Rattle.dir_compile.specs.Directory.{IsDirectory};
-ghost use Rattle.seg_lexer.specs.Context.{context_of};
-ghost use Rattle.seg_lexer.specs.Segments.{boundaries_of, ends_of};
-ghost use Rattle.seg_lexer.specs.Service.{IsUsable, service_of};
+ghost use Rattle.error_ledger.specs.Order.{IsAscending};
+ghost use Rattle.error_ledger.specs.Printing.{IsWellPlaced, count_line, tree_text};
 ghost use Rattle.segment_records.specs.Messages.{mode_after};
 ghost use Rattle.segment_records.specs.Segments.{segments_in};
 ghost use Rattle.segment_walk.specs.Count.{segment_count_of};
-ghost use Rattle.segment_walk.specs.Seen.{Follows, LiesIn, seen_in};
-ghost use Rattle.edi_engine.specs.Edit.{reading_with, text_with};
+ghost use Rattle.text_reading.specs.Clean.{IsCleanAnswer};
+ghost use Rattle.text_reading.specs.Errors.{errors_found, errors_of};
 ghost use Rattle.text_reading.specs.Placed.{AreMessagesPlaced};
+ghost use Rattle.text_reading.specs.Summary.{contrl_to, summary_of};
+ghost use Rattle.text_reading.specs.Tree.{tree_of};
 
+use contrl_writer::{Contrl, Stamp, Summary};
 use dir_compile::Directory;
 use edi_tables::Chunk;
-use piece_text::{Text, View};
-use seg_lexer::{Context, Service};
-use segment_records::{Mode, Record};
-use segment_walk::{Segments, read_text};
-use seq_tree::Seq;
+use error_ledger::{ErrorLine, TreeLine};
+use segment_records::Mode;
 use std::alloc::{AllocError, Global};
 use std::marker::Model;
 use std::sync::ledger::Ledger;
 use step_counter::Steps;
+use text_reading::KeptText;
+use text_report::{PrintedTree, list_errors, list_tree, make_contrl, make_summary, print_tree};
 
 /// The reading of a text by a directory, seen as these two.
-///
-/// It keeps the text in pieces, and a record of each segment. Numbers, places and groups are worked out when they are asked
-/// for.
 #[derive(Drop)]
 pub struct Engine<'d> {
-    directory: &'d Directory,
-    text: Text,
-    context: Context,
-    records: Seq<Record>,
-    // The mode before the first segment.
-    outside: Mode,
+    pub(crate) kept: KeptText<'d>,
 }
 
 impl<'d> Model for Engine<'d> {
-    ghost use Rattle.edi_engine.specs.Engine.{Reading};
+    ghost use Rattle.text_reading.specs.Reading.{Reading};
 
     ghost Value = { Reading };
 
-    ghost use Rattle.edi_engine.specs.Reading.{IsReading, reading};
-
-    ghost view = { reading };
-
-    ghost invariant = { IsReading };
+    ghost view = { λ engine. engine.kept };
 }
 
 impl<'d> Engine<'d> {
@@ -81,49 +72,8 @@ impl<'d> Engine<'d> {
         ensures lexed { lexed.new ≤ lexed.old + (segment_count_of octets.items + 2) }
         ensures placed { placed.new ≤ placed.old + segment_count_of octets.items }
     {
-        // What it keeps is of a directory.
-        let _parts = directory.parts();
-        let (context, records) = read_text(alloc, directory, &octets, lexed, placed)?;
-        let text = Text::of_vec(alloc, octets)?;
-        Ok(Engine {
-            directory,
-            text,
-            context,
-            records: Seq::of_items(alloc, records)?,
-            outside: Mode::Outside,
-        })
-    }
-
-    // The reading of its text with octets put in place of the `cut` octets from place `at` on.
-    pub(crate) fn edited<L: Ledger, M: Ledger>(
-        &self,
-        alloc: Global,
-        at: usize,
-        cut: usize,
-        put: &[u8],
-        lexed: &mut Steps<L>,
-        placed: &mut Steps<M>,
-    ) -> Result<Engine<'d>, AllocError>
-        requires inside { at + cut ≤ length self.now.text }
-        requires short { length self.now.text - cut + length put.now ≤ 4194304 }
-        ensures edited { IfOk result (λ e. e ≡ reading_with self.now at cut put.now) }
-        ensures lexed { lexed.new ≤ lexed.old
-            + (segment_count_of (text_with self.now.text at cut put.now) + 2) }
-        ensures placed { placed.new ≤ placed.old
-            + segment_count_of (text_with self.now.text at cut put.now) }
-    {
-        // What it keeps is of a directory.
-        let _parts = self.directory.parts();
-        let text = self.text.replace(alloc, at, cut, put)?;
-        let whole = text.copy(alloc)?;
-        let (context, records) = read_text(alloc, self.directory, whole.octets(), lexed, placed)?;
-        Ok(Engine {
-            directory: self.directory,
-            text,
-            context,
-            records: Seq::of_items(alloc, records)?,
-            outside: Mode::Outside,
-        })
+        let kept = KeptText::read(directory, alloc, octets, lexed, placed)?;
+        Ok(Engine { kept })
     }
 
     /// The directory that it checks by.
@@ -132,7 +82,7 @@ impl<'d> Engine<'d> {
         // The tree of any text by it places the segments of each message as the reading of the message does.
         ensures lawful_trees { (text : List ℕ) → AreMessagesPlaced self.now.directory text }
     {
-        self.directory
+        self.kept.directory()
     }
 
     /// How many octets the text has.
@@ -140,21 +90,21 @@ impl<'d> Engine<'d> {
         ensures length { result ≡ length self.now.text }
         ensures short { result ≤ 4194304 }
     {
-        self.text.len() as u64
+        self.kept.text_len()
     }
 
     /// How many segments it has.
     pub fn segment_count(&self) -> u32
         ensures { result ≡ segment_count_of self.now.text }
     {
-        self.records.len() as u32
+        self.kept.segment_count()
     }
 
     /// A copy of the text.
     pub fn copy_text(&self, alloc: Global) -> Result<Chunk, AllocError>
         ensures { IfOk result (λ octets. octets ≡ self.now.text) }
     {
-        self.text.copy(alloc)
+        self.kept.copy_text(alloc)
     }
 
     /// The mode after the first `k` segments.
@@ -162,59 +112,69 @@ impl<'d> Engine<'d> {
         requires { k ≤ segment_count_of self.now.text }
         ensures { result.now ≡ mode_after self.now.directory (segments_in self.now.text) k }
     {
-        if k == 0 {
-            return &self.outside;
-        }
-        let Some(record) = self.records.iter_from(k as usize - 1).next() else {
-            unreachable!();
-        };
-        record.mode()
+        self.kept.state_after(k)
     }
 
-    // Its segments, with what is worked out of their records.
-    pub(crate) fn segments(&self) -> Segments<'_>
-        ensures segments { result ≡ seen_in self.now.directory self.now.text }
-        ensures follow { All (Follows self.now.directory) result }
-        ensures inside { All (LiesIn self.now.text) result }
-        ensures few { length result ≤ 4194304 }
+    /// All errors of the text, in ascending order. Only want of memory is an error. The work grows with the number of
+    /// segments.
+    pub fn errors(&self, alloc: Global) -> Result<Vec<ErrorLine>, AllocError>
+        ensures exact { IfOk result
+            (λ list. list.items ≡ errors_of self.now.directory self.now.text) }
+        ensures ascending { IfOk result (λ list. IsAscending list.items) }
+        ensures same { IfOk result
+            (λ list. IsPermutation (errors_found self.now.directory self.now.text) list.items) }
+    {
+        list_errors(&self.kept, alloc)
+    }
+
+    /// The tree of the text: one member for each segment. Only want of memory is an error. The work grows with the number of
+    /// segments and the nodes of the directory's tables.
+    pub fn tree(&self, alloc: Global) -> Result<Vec<TreeLine>, AllocError>
+        ensures exact { IfOk result
+            (λ tree. tree.items ≡ tree_of self.now.directory self.now.text) }
+        ensures well { IfOk result (λ tree. All IsWellPlaced tree.items) }
+        // A segment with no error of its own placement is at the first candidate that is free; where the table lists no
+        // collision, a derivation of a message's tags is what the tree shows.
+        ensures placed { AreMessagesPlaced self.now.directory self.now.text }
+    {
+        list_tree(&self.kept, alloc)
+    }
+
+    /// The printed tree of the text: that of `tree`, with no list of its members. Only want of memory is an error. The work
+    /// grows with the number of segments, the nodes of the directory's tables and the octets that are printed.
+    pub fn print_tree(&self, alloc: Global) -> Result<PrintedTree, AllocError>
+        ensures printed { IfOk result (λ tree. count_line (codes "tree") tree.lines ++ tree.text
+            ≡ tree_text (tree_of self.now.directory self.now.text)) }
+        // What it shows of messages is what `tree` does.
+        ensures placed { AreMessagesPlaced self.now.directory self.now.text }
+    {
+        print_tree(&self.kept, alloc)
+    }
+
+    /// How the interchange is opened, its functional groups and messages, and its errors. Only want of memory is an error.
+    pub fn summary(&self, alloc: Global) -> Result<Summary, AllocError>
+        ensures summary { IfOk result
+            (λ summary. summary ≡ summary_of self.now.directory self.now.text) }
         ensures lawful { IsDirectory self.now.directory }
     {
-        Segments::of(
-            &self.records,
-            self.context.service.body as u32,
-            &self.outside,
-        )
+        make_summary(&self.kept, alloc)
     }
 
-    // The whole text.
-    pub(crate) fn whole(&self) -> View<'_>
-        ensures text { result ≡ self.now.text }
-        ensures short { length self.now.text ≤ 4194304 }
+    /// The acknowledgement of the text, made at a time, with a reference of its own. Only want of memory is an error.
+    pub fn contrl(
+        &self,
+        alloc: Global,
+        stamp: &Stamp,
+        reference: &[u8],
+    ) -> Result<Contrl, AllocError>
+        requires stamp { IsStamp stamp.now }
+        requires reference { IsTrue (is_reference_of reference.now) }
+        ensures answer { IfOk result (λ answer. answer
+            ≡ contrl_to self.now.directory self.now.text stamp.now reference.now) }
+        // Octets that are answered have no error by the directory, where no UNG and no UNH of the text has a local error.
+        ensures clean { IfOk result
+            (λ answer. IsCleanAnswer self.now.directory self.now.text answer) }
     {
-        self.text.view(0, self.text.len())
-    }
-
-    // The service characters that its segments are read by.
-    pub(crate) fn service(&self) -> &Service
-        ensures service { result.now ≡ service_of self.now.text }
-        ensures usable { IsUsable result.now self.now.text }
-    {
-        &self.context.service
-    }
-
-    // The context that its segments are read and checked by.
-    pub(crate) fn context(&self) -> &Context
-        ensures context { result.now ≡ context_of self.now.text }
-        ensures usable { IsUsable result.now.service self.now.text }
-    {
-        &self.context
-    }
-
-    // The boundary after the last segment.
-    pub(crate) fn last_boundary(&self) -> usize
-        ensures { result ≡ slice_index (boundaries_of (service_of self.now.text) self.now.text)
-            (length (ends_of (service_of self.now.text) self.now.text)) }
-    {
-        self.context.service.body + self.records.total() as usize
+        make_contrl(&self.kept, alloc, stamp, reference)
     }
 }

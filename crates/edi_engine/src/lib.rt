@@ -1,17 +1,10 @@
-//! The kept reading of an interchange: its errors, its tree, and the mode after each segment.
+//! The kept reading of an interchange, over edits: its errors, its tree, and the mode after each segment.
 #![tactic(auto)]
 
 mod edit;
 mod engine;
-mod errors;
-mod group_heads;
-mod heads;
-mod message_heads;
-mod opening;
-mod summary;
-mod tree;
 
 pub use edit::EditStop;
 pub use engine::Engine;
 pub use segment_walk::read_records;
-pub use tree::PrintedTree;
+pub use text_report::PrintedTree;

@@ -2,7 +2,7 @@
 use Rattle.std.proofs.Common.{◌≡◌, ℕ, List, Option, subst, inr}
 use Rattle.edi_ports.specs.Faults.{HasRisen}
 use Rattle.dir_parts.specs.declared.parts.Parts.{Parts}
-use Rattle.edi_engine.specs.Engine.{Reading}
+use Rattle.text_reading.specs.Reading.{Reading}
 use Rattle.text_reading.specs.Placed.{AreMessagesPlaced}
 use Rattle.script_answers.specs.Held.{Held}
 use Rattle.script_answers.specs.Script.{IsScriptAnswered}

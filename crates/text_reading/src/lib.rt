@@ -1,2 +1,7 @@
-//! The reading of a text by a directory: all its errors, its tree and its summary, and the laws of these.
+//! A text kept with the records of its segments, by a directory; and what its errors, its tree and its summary are, with the laws
+//! of these.
 #![tactic(auto)]
+
+mod kept;
+
+pub use kept::KeptText;

@@ -1,7 +1,8 @@
 //! Two trees as one: down the higher side to a tree of about the other's height, and balanced again on the way up.
 #![tactic(auto)]
 
-ghost use Rattle.std.specs.Prelude.{◌≡◌, ◌+◌, ◌^◌, ◌<◌, ◌≤◌, ◌++◌, length, IfOk};
+ghost use Rattle.std.specs.Prelude.{◌≡◌, ◌+◌, ◌^◌, ◌<◌, ◌≤◌, ◌++◌, max, length, IfOk};
+ghost use Rattle.shared_tree.specs.Shape.{IsBalancedPair};
 ghost use Rattle.tree_join.specs.Join.{IsJoinHeight};
 
 use shared_tree::{Measured, Node, Tree};
@@ -35,10 +36,10 @@ pub fn join<T: Measured>(
             }
         };
     }
-    Tree::fork(alloc, left.share()?, right.share()?)
+    fork_shared(alloc, left, right)
 }
 
-/// The two sides under one fork, or turned where the right side is two levels higher.
+// The two sides under one fork, or turned where the right side is two levels higher.
 fn lean_right<T: Measured>(
     alloc: Global,
     left: &Tree<T>,
@@ -51,27 +52,27 @@ fn lean_right<T: Measured>(
     ensures height { IfOk result (λ t. IsJoinHeight left.now.1 right.now.1 t.1) }
 {
     if right.height() <= left.height() + 1 {
-        return Tree::fork(alloc, left.share()?, right.share()?);
+        return fork_shared(alloc, left, right);
     }
     let (inner, outer) = match &right.node {
         Node::Leaf(_) => unreachable!(),
         Node::Fork(sides) => (&sides.left, &sides.right),
     };
     if inner.height() <= outer.height() {
-        let low = Tree::fork(alloc, left.share()?, inner.share()?)?;
+        let low = fork_shared(alloc, left, inner)?;
         return Tree::fork(alloc, low, outer.share()?);
     }
     match &inner.node {
         Node::Leaf(_) => unreachable!(),
         Node::Fork(sides) => {
-            let low = Tree::fork(alloc, left.share()?, sides.left.share()?)?;
-            let high = Tree::fork(alloc, sides.right.share()?, outer.share()?)?;
+            let low = fork_shared(alloc, left, &sides.left)?;
+            let high = fork_shared(alloc, &sides.right, outer)?;
             Tree::fork(alloc, low, high)
         }
     }
 }
 
-/// The two sides under one fork, or turned where the left side is two levels higher.
+// The two sides under one fork, or turned where the left side is two levels higher.
 fn lean_left<T: Measured>(
     alloc: Global,
     left: &Tree<T>,
@@ -84,22 +85,36 @@ fn lean_left<T: Measured>(
     ensures height { IfOk result (λ t. IsJoinHeight left.now.1 right.now.1 t.1) }
 {
     if left.height() <= right.height() + 1 {
-        return Tree::fork(alloc, left.share()?, right.share()?);
+        return fork_shared(alloc, left, right);
     }
     let (outer, inner) = match &left.node {
         Node::Leaf(_) => unreachable!(),
         Node::Fork(sides) => (&sides.left, &sides.right),
     };
     if inner.height() <= outer.height() {
-        let low = Tree::fork(alloc, inner.share()?, right.share()?)?;
+        let low = fork_shared(alloc, inner, right)?;
         return Tree::fork(alloc, outer.share()?, low);
     }
     match &inner.node {
         Node::Leaf(_) => unreachable!(),
         Node::Fork(sides) => {
-            let low = Tree::fork(alloc, outer.share()?, sides.left.share()?)?;
-            let high = Tree::fork(alloc, sides.right.share()?, right.share()?)?;
+            let low = fork_shared(alloc, outer, &sides.left)?;
+            let high = fork_shared(alloc, &sides.right, right)?;
             Tree::fork(alloc, low, high)
         }
     }
+}
+
+// The two sides, as they are, under one fork.
+fn fork_shared<T: Measured>(
+    alloc: Global,
+    left: &Tree<T>,
+    right: &Tree<T>,
+) -> Result<Tree<T>, AllocError>
+    requires fits { length left.now.0 + length right.now.0 < 2 ^ 32 }
+    requires balanced { IsBalancedPair left.now.1 right.now.1 }
+    ensures items { IfOk result (λ t. t.0 ≡ left.now.0 ++ right.now.0) }
+    ensures height { IfOk result (λ t. t.1 ≡ max left.now.1 right.now.1 + 1) }
+{
+    Tree::fork(alloc, left.share()?, right.share()?)
 }

@@ -101,7 +101,8 @@ fn are_parts_clean(
     element: u32,
     fields: &mut PlainFields<'_>,
 ) -> bool
-    ensures clean { (named : Bool) → IsTrue result → parts_errors rules.now element 1 named parts.now
+    ensures clean { (named : Bool) → IsTrue result
+        → parts_errors rules.now element 1 named parts.now
         (first.now ∷ front_values element (plain_left fields.old)) ≡ [] }
     ensures after { IsTrue result
         → plain_left fields.new ≡ after_front element (plain_left fields.old) }

@@ -25,7 +25,7 @@ use Rattle.dir_store.specs.Store.{store_of}
 use Rattle.dir_manifest.specs.declared.manifest.FileKind.{FileKind}
 use Rattle.dir_manifest.specs.declared.manifest.FileKind.TheVariants.{Elements, Codes, Composites, Segments, Message}
 use Rattle.dir_manifest.specs.declared.manifest.FileLine.{FileLine}
-use Rattle.dir_manifest.specs.declared.manifest.Labels.{Labels}
+use Rattle.line_words.specs.declared.labels.Labels.{Labels}
 use Rattle.dir_manifest.specs.declared.manifest.Manifest.{Manifest}
 use Rattle.dir_load.specs.declared.stop.FileFault.{FileFault}
 use Rattle.dir_load.specs.declared.stop.FileFault.TheVariants.{Unread, Grammar}

@@ -5,7 +5,7 @@ use Rattle.edi_octets.specs.declared.fault.DirFault.{DirFault}
 use Rattle.edi_octets.specs.Lines.{Line, lines_of}
 use Rattle.edi_tables.specs.First.{unless_faulty}
 use Rattle.edi_octets.specs.Profile.{with_earlier}
-use Rattle.dir_manifest.specs.declared.manifest.Labels.{Labels}
+use Rattle.line_words.specs.declared.labels.Labels.{Labels}
 use Rattle.dir_manifest.specs.Manifest.{is_counted, words_of, labels_on, file_faults, files_on, manifest_in, manifest_on, manifest_with}
 
 -- the later lines tell the files

@@ -1,19 +1,19 @@
 -- What a manifest is.
-use Rattle.std.specs.Prelude.{◌≡◌, ◌-◌, ℕ, Bool, true, not, ◌==◌, ◌&&◌, nat_le, List, [], ◌∷◌, length, filter, slice_get, Option, Some, None, option_and_then, Result, Err, codes, if◌then◌else◌}
+use Rattle.std.specs.Prelude.{◌-◌, ℕ, Bool, true, not, ◌==◌, nat_le, List, [], ◌∷◌, length, filter, slice_get, Option, Some, None, option_and_then, Result, Err, codes, if◌then◌else◌}
 use Rattle.std.specs.List.{list_all, filter_map, flat_map}
 use Rattle.std.specs.Str.{bytes_eq}
 use Rattle.edi_tables.specs.First.{unless_faulty}
-use Rattle.edi_tables.specs.Forms.{is_label}
 use Rattle.edi_octets.specs.declared.fault.DirFault.{DirFault}
 use Rattle.edi_octets.specs.declared.fault.DirKind.TheVariants.{BadLine, TooMany}
 use Rattle.edi_octets.specs.Lines.{Line, lines_of, pieces_in}
+use Rattle.line_words.specs.Labels.{labels_of}
 use Rattle.line_words.specs.Words.{two_of, four_of}
+use Rattle.line_words.specs.declared.labels.Labels.{Labels}
 use Rattle.edi_octets.specs.Name.{is_name_of}
 use Rattle.edi_octets.specs.Profile.{with_earlier}
 use Rattle.edi_octets.specs.DirStop.{at_line}
 use Rattle.dir_manifest.specs.declared.manifest.FileKind.{FileKind}
 use Rattle.dir_manifest.specs.declared.manifest.FileLine.{FileLine}
-use Rattle.dir_manifest.specs.declared.manifest.Labels.{Labels}
 use Rattle.dir_manifest.specs.declared.manifest.Manifest.{Manifest}
 use Rattle.dir_manifest.specs.declared.manifest.FileKind.TheVariants.{Elements, Codes, Composites, Segments, Message}
 
@@ -27,15 +27,7 @@ is_counted line = not (list_all (λ x. x == 32) line.octets)
 
 -- the first line: `directory` and three labels
 abbrev pub labels_with : List ℕ × List ℕ × List ℕ × List ℕ → Option Labels
-labels_with w =
-    if bytes_eq w.0 (codes "directory") && is_label 3 w.1 && is_label 3 w.2 && is_label 2 w.3
-    then Some (record { version = w.1; release = w.2; agency = w.3 }) else None
-
--- the labels have their forms
-pub record HasLabelForms (labels : Labels) : Type 0 where
-  pub version : is_label 3 labels.version ≡ true
-  pub release : is_label 3 labels.release ≡ true
-  pub agency : is_label 2 labels.agency ≡ true
+labels_with w = if bytes_eq w.0 (codes "directory") then labels_of (w.1, w.2, w.3) else None
 
 abbrev pub labels_on : List (List ℕ) → Option Labels
 labels_on words = option_and_then labels_with (four_of words)

@@ -4,4 +4,5 @@
 mod counted;
 mod manifest;
 
-pub use manifest::{FileKind, FileLine, Labels, Manifest, read_manifest};
+pub use line_words::Labels;
+pub use manifest::{FileKind, FileLine, Manifest, read_manifest};

@@ -1,16 +1,17 @@
 //! Manifests: the labels of a directory, and the files that it is made of.
 ghost use Rattle.std.specs.Prelude.{◌≡◌, ◌≤◌, ◌+◌, ◌++◌, ◌∷◌, [], List, ℕ, length, IfOk, IfSome, OnOk, option_and_then};
 ghost use Rattle.dir_manifest.specs.Counted.{counted_left};
-ghost use Rattle.dir_manifest.specs.Manifest.{HasLabelForms, is_in_turn as is_in_turn_of, kind_named, place_of, labels_on, file_on, file_faults, faults_on, files_on, manifest_in};
+ghost use Rattle.dir_manifest.specs.Manifest.{is_in_turn as is_in_turn_of, kind_named, place_of, labels_on, file_on, file_faults, faults_on, files_on, manifest_in};
+ghost use Rattle.line_words.specs.Labels.{HasLabelForms};
 ghost use Rattle.edi_octets.specs.DirStop.{fault_in};
 ghost use Rattle.edi_tables.specs.First.{Answers, unless_faulty};
 ghost use Rattle.edi_octets.specs.Left.{line_shown};
 ghost use Rattle.edi_octets.specs.Lines.{Line, pieces_in};
 
 use crate::counted::CountedLines;
-use edi_octets::{DirKind, DirStop, LineText, is_label, is_name};
+use edi_octets::{DirKind, DirStop, LineText, is_name};
 use edi_tables::{Chunk, List};
-use line_words::{four_words, two_words};
+use line_words::{Labels, four_words, two_words};
 use std::alloc::{AllocError, Global};
 
 /// The kinds of directory files, in the order in which a manifest names them.
@@ -30,14 +31,6 @@ pub struct FileLine {
     pub name: Chunk,
 }
 
-/// The labels of a directory: the version and the release have 1 to 3 octets, the agency 1 to 2.
-#[derive(Debug, Drop)]
-pub struct Labels {
-    pub version: Chunk,
-    pub release: Chunk,
-    pub agency: Chunk,
-}
-
 /// A manifest: the labels of a directory, and its files in order.
 #[derive(Debug, Drop)]
 pub struct Manifest {
@@ -46,8 +39,8 @@ pub struct Manifest {
 }
 
 /// Reads a manifest of at most 4,194,304 octets: a line `directory VERSION RELEASE AGENCY`, and then one line a file,
-/// its kind and its name, parted by one space; lines of spaces alone are skipped. Else the first fault in judging order:
-/// `bad-line`, at line 0 where there is no line, or `too-many` at the 401st file.
+/// its kind and its name, separated by one space; lines of spaces alone are skipped. Else the first fault in judging
+/// order: `bad-line`, at line 0 where there is no line, or `too-many` at the 401st file.
 #[tactic(auto, unfolding(crate::specs::Manifest::manifest_in))]
 pub fn read_manifest(alloc: Global, octets: &[u8]) -> Result<Manifest, DirStop>
     requires { length octets.now ≤ 4194304 }
@@ -91,18 +84,10 @@ fn read_labels(alloc: Global, line: &[u8]) -> Result<Option<Labels>, AllocError>
     let Some((word, version, release, agency)) = four_words(line) else {
         return Ok(None);
     };
-    if word != b"directory".as_slice()
-        || !is_label(version, 3)
-        || !is_label(release, 3)
-        || !is_label(agency, 2)
-    {
+    if word != b"directory".as_slice() {
         return Ok(None);
     }
-    Ok(Some(Labels {
-        version: Chunk::of(alloc, version)?,
-        release: Chunk::of(alloc, release)?,
-        agency: Chunk::of(alloc, agency)?,
-    }))
+    Labels::of(alloc, version, release, agency)
 }
 
 // The file that a manifest's later line names.

@@ -19,11 +19,12 @@ use Rattle.dir_parts.specs.Forms.{HasForms}
 use Rattle.dir_parts.specs.Ordered.{IsInOrder}
 use Rattle.dir_parts.proofs.AscendingLemmas.{IsAscending, apart-from-ascending, pairs-from-ascending}
 use Rattle.dir_parts.proofs.Apart.{none-from-apart}
-use Rattle.store_lines.specs.declared.labels.Labels.{Labels}
+use Rattle.line_words.specs.declared.labels.Labels.{Labels}
 use Rattle.store_lines.specs.Lines.{Reading, lined}
-use Rattle.store_lines.specs.Rules.{labels_with, labels_in}
+use Rattle.store_lines.specs.Rules.{labels_in}
 use Rattle.dir_store.specs.Spelling.{first_line, line_of, listed}
 use Rattle.dir_store.specs.Store.{first_in, section_of, section_at}
+use Rattle.line_words.specs.Labels.{HasLabelForms, labels_of}
 use Rattle.line_words.specs.Words.{three_in}
 use Rattle.store_lines.proofs.LineLemmas.{some-is, and-three, IsPlain, joined-line, lined-takes, lined-again, three-takes, three-again}
 use Rattle.store_lines.proofs.NumberLemmas.{tag-octets-plain}
@@ -70,43 +71,38 @@ first-takes octets x rest is =
 pub first-again : (rest : List ℕ) → lined first_in (line_of (first_line ∷ []) ++ rest) ≡ Ok (tt, rest)
 first-again rest = lined-again first_in first_line tt rest refl refl
 
-pub record IsLabels (labels : Labels) : Type 0 where
-  pub version : is_label 3 labels.version ≡ true
-  pub release : is_label 3 labels.release ≡ true
-  pub agency : is_label 2 labels.agency ≡ true
-
 abbrev pub words_of : Labels → List (List ℕ)
 words_of labels = labels.version ∷ labels.release ∷ labels.agency ∷ []
 
-pub labels-takes : (octets : List ℕ) (labels : Labels) (rest : List ℕ) → lined labels_in octets ≡ Ok (labels, rest) → IsLabels labels × (octets ≡ line_of (words_of labels) ++ rest)
+pub labels-takes : (octets : List ℕ) (labels : Labels) (rest : List ℕ) → lined labels_in octets ≡ Ok (labels, rest) → HasLabelForms labels × (octets ≡ line_of (words_of labels) ++ rest)
 labels-takes octets labels rest is =
     let read = lined-takes labels_in octets labels rest is in
     let line = read.0 in
-    let found : IsLabels labels × (line ≡ join_with_byte 32 (words_of labels)) =
-    option_and_then_some labels_with (three_in line) labels read.1 (λ w words made.
+    let found : HasLabelForms labels × (line ≡ join_with_byte 32 (words_of labels)) =
+    option_and_then_some labels_of (three_in line) labels read.1 (λ w words made.
     let passed = passed-takes (is_label 3 w.0 && is_label 3 w.1 && is_label 2 w.2) _ labels made in
     let two = and_parts (is_label 3 w.0 && is_label 3 w.1) (is_label 2 w.2) passed.0 in
     let one = and_parts (is_label 3 w.0) (is_label 3 w.1) two.0 in
     let these : Labels = record { version = w.0; release = w.1; agency = w.2 } in
     let same : these ≡ labels = some-is these labels passed.1 in
-    let good : IsLabels these = record { version = one.0; release = one.1; agency = two.1 } in
-    subst (λ (l : Labels). IsLabels l × (line ≡ join_with_byte 32 (words_of l))) same (good, three-takes line w.0 w.1 w.2 words)) in
+    let good : HasLabelForms these = record { version = one.0; release = one.1; agency = two.1 } in
+    subst (λ (l : Labels). HasLabelForms l × (line ≡ join_with_byte 32 (words_of l))) same (good, three-takes line w.0 w.1 w.2 words)) in
     (found.0, read.2 ∙ ap (λ (l : List ℕ). l ++ 10 ∷ rest) found.1 ∙ sym (append_assoc (join_with_byte 32 (words_of labels)) (10 ∷ []) rest))
 
 label-plain : (most : ℕ) (label : List ℕ) → is_label most label ≡ true → IsPlain label
 label-plain most label is = tag-octets-plain label (and_parts _ (list_all is_tag_octet_of label) is).1
 
-labels-made : (labels : Labels) → IsLabels labels → labels_with (labels.version, labels.release, labels.agency) ≡ Some labels
+labels-made : (labels : Labels) → HasLabelForms labels → labels_of (labels.version, labels.release, labels.agency) ≡ Some labels
 labels-made labels good = ap (λ b. cond b (Some labels) None) (and-three _ _ _ good.version good.release good.agency)
 
-pub labels-again : (labels : Labels) (rest : List ℕ) → IsLabels labels → lined labels_in (line_of (words_of labels) ++ rest) ≡ Ok (labels, rest)
+pub labels-again : (labels : Labels) (rest : List ℕ) → HasLabelForms labels → lined labels_in (line_of (words_of labels) ++ rest) ≡ Ok (labels, rest)
 labels-again labels rest good =
     let one = label-plain 3 labels.version good.version in
     let two = label-plain 3 labels.release good.release in
     let three = label-plain 2 labels.agency good.agency in
     ap (lined labels_in) (append_assoc (join_with_byte 32 (words_of labels)) (10 ∷ []) rest)
     ∙ lined-again labels_in (join_with_byte 32 (words_of labels)) labels rest (joined-line labels.version (labels.release ∷ labels.agency ∷ []) one (two, (three, tt)))
-    (ap (option_and_then labels_with) (three-again labels.version labels.release labels.agency one two three) ∙ labels-made labels good)
+    (ap (option_and_then labels_of) (three-again labels.version labels.release labels.agency one two three) ∙ labels-made labels good)
 
 -- ---- good definitions
 

@@ -16,7 +16,7 @@ use Rattle.edi_tables.specs.Forms.{is_element_formed, is_list_formed, is_composi
 use Rattle.dir_parts.specs.declared.parts.Parts.{Parts}
 use Rattle.dir_parts.specs.Compile.{twice_faults, list_fault, list_faults, composite_fault, composite_faults, segment_fault, segment_faults, message_fault, message_faults, compile_faults, value_name, element_name, list_name, composite_name, segment_name, message_name}
 use Rattle.dir_compile.specs.Directory.{IsDirectory}
-use Rattle.store_lines.specs.declared.labels.Labels.{Labels}
+use Rattle.line_words.specs.declared.labels.Labels.{Labels}
 use Rattle.store_lines.specs.Lines.{◌>>=◌, lined}
 use Rattle.store_lines.specs.Rules.{labels_in}
 use Rattle.dir_store.specs.Spelling.{first_line, line_of, listed, repr_text, part_text, item_text, row_text, element_text, value_text, list_text, composite_text, segment_text, message_text, labels_text, store_text}

@@ -14,7 +14,7 @@ use Rattle.edi_tables.specs.Rows.{table_faults}
 use Rattle.dir_parts.specs.declared.parts.Parts.{Parts}
 use Rattle.dir_parts.specs.Compile.{is_filled_with}
 use Rattle.dir_store.specs.Spelling.{first_line}
-use Rattle.store_lines.specs.declared.labels.Labels.{Labels}
+use Rattle.line_words.specs.declared.labels.Labels.{Labels}
 use Rattle.store_lines.specs.Lines.{◌>>=◌, Reading, found_at, lined, several}
 use Rattle.store_lines.specs.Rules.{labels_in, section_in, element_in, list_in, value_in, composite_in, part_in, segment_in, item_in, message_in, row_in}
 

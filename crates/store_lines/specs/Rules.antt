@@ -3,7 +3,7 @@ use Rattle.std.specs.Prelude.{ℕ, Bool, true, not, ◌==◌, ◌&&◌, nat_le, 
 use Rattle.std.specs.Option.{option_map}
 use Rattle.std.specs.Str.{bytes_eq}
 use Rattle.edi_tables.specs.Ascending.{is_before}
-use Rattle.edi_tables.specs.Forms.{is_label, is_element_code, is_composite_code, is_message_name, is_code_value, is_count_formed}
+use Rattle.edi_tables.specs.Forms.{is_element_code, is_composite_code, is_message_name, is_code_value, is_count_formed}
 use Rattle.edi_tables.specs.Tag.{is_tag_of}
 use Rattle.edi_tables.specs.declared.tag.Tag.{Tag}
 use Rattle.edi_tables.specs.declared.element.ElementDef.{ElementDef}
@@ -18,7 +18,8 @@ use Rattle.edi_tables.specs.declared.segment.MessageDef.{MessageDef}
 use Rattle.edi_octets.specs.Decimal.{decimal_in}
 use Rattle.edi_octets.specs.Profile.{repr_in, status_in}
 use Rattle.dir_parts.specs.Compile.{named_in, is_service_tag, element_name, list_name, composite_name, segment_name, message_name, value_name}
-use Rattle.store_lines.specs.declared.labels.Labels.{Labels}
+use Rattle.line_words.specs.declared.labels.Labels.{Labels}
+use Rattle.line_words.specs.Labels.{labels_of}
 use Rattle.line_words.specs.Words.{two_in, three_in, four_in}
 
 -- what was found, if it passes a test
@@ -45,13 +46,8 @@ abbrev pub head_in : List ℕ → Option (List ℕ × ℕ)
 head_in line = option_and_then head_with (two_in line)
 
 -- the second line has the labels of the directory
-abbrev pub labels_with : List ℕ × List ℕ × List ℕ → Option Labels
-labels_with w =
-    if is_label 3 w.0 && is_label 3 w.1 && is_label 2 w.2
-    then Some (record { version = w.0; release = w.1; agency = w.2 }) else None
-
 abbrev pub labels_in : List ℕ → Option Labels
-labels_in line = option_and_then labels_with (three_in line)
+labels_in line = option_and_then labels_of (three_in line)
 
 -- a section has the letter of its kind
 abbrev pub section_in : List ℕ → List ℕ → Option (List ℕ × ℕ)

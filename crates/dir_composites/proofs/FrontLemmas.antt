@@ -1,5 +1,5 @@
 -- Lists that are gone through: a front in which nothing is broken, and what is left.
-use Rattle.std.proofs.Common.{◌≡◌, ◌-◌, ℕ, List, [], ◌∷◌, ◌++◌, length, map, Some, None, Err, refl, ap, ◌∙◌, sym, append_assoc, append-nil, arith}
+use Rattle.std.proofs.Common.{◌≡◌, ◌-◌, ℕ, List, [], ◌∷◌, ◌++◌, length, map, Some, Err, refl, ap, ◌∙◌, sym, append_assoc, append-nil, arith}
 use Rattle.std.specs.Prelude.{Option}
 use Rattle.std.specs.List.{flat_map, filter_map, slice_get}
 use Rattle.std.proofs.lemmas.List.{map_push, length-append}
@@ -63,15 +63,6 @@ module _ {A D : Type 0} (judge : Option ℕ → A → List DirFault) (place : A 
     pub found : values ≡ filter_map value front
     pub many : length values ≡ length front
 
-  pub read_none : (all : List A) → IsRead all all None []
-  read_none all =
-      record { front = []; splits = refl; clean = refl; last = refl; found = refl; many = refl }
-
-  -- text seen come
-  pub read_text : (all rest later : List A) (before : Option ℕ) (values : List D) → IsRead all rest before values → rest ≡ later → IsRead all later before values
-  read_text all rest later before values read same =
-      record { front = read.front; splits = read.splits ∙ ap (λ r. read.front ++ r) same; clean = read.clean; last = read.last; found = read.found; many = read.many }
-
   -- x seen come, in which nothing is broken
   pub read_more : (all rest : List A) (x : A) (later : List A) (before : Option ℕ) (values : List D) (position : ℕ) (d : D) → IsRead all rest before values → rest ≡ x ∷ later → judge before x ≡ [] → place x ≡ position → value x ≡ Some d → IsRead all later (Some position) (values ++ d ∷ [])
   read_more all rest x later before values position d read here none at is =
@@ -94,19 +85,6 @@ module _ {A D : Type 0} (judge : Option ℕ → A → List DirFault) (place : A 
       let same : judge before x ≡ judge_behind (read.front, x) = ap (λ b. judge b x) read.last in
       first_at judge_behind view outer stop all read.front x later tail v w (goes_at all read.front x rest later read.splits here) read.clean (rw same at given)
 
-  -- nothing more comes
-  pub read_clean : (all rest : List A) (before : Option ℕ) (values : List D) → IsRead all rest before values → rest ≡ [] → flat_map judge_behind (with_earlier all) ≡ []
-  read_clean all rest before values read ended =
-      ap (λ l. flat_map judge_behind (with_earlier l)) (goes_all all read.front rest read.splits ended) ∙ read.clean
-
-  pub read_found : (all rest : List A) (before : Option ℕ) (values : List D) → IsRead all rest before values → rest ≡ [] → filter_map value all ≡ values
-  read_found all rest before values read ended =
-      ap (filter_map value) (goes_all all read.front rest read.splits ended) ∙ sym read.found
-
-  pub read_many : (all rest : List A) (before : Option ℕ) (values : List D) → IsRead all rest before values → rest ≡ [] → length all ≡ length values
-  read_many all rest before values read ended =
-      ap length (goes_all all read.front rest read.splits ended) ∙ sym read.many
-
 module _ {D : Type 0} (judge : List (List Line) → List Line → List DirFault) (define : List Line → D) where
   -- what is broken by an entry behind others
   abbrev pub judge_entry : List (List Line) × List Line → List DirFault
@@ -119,10 +97,6 @@ module _ {D : Type 0} (judge : List (List Line) → List Line → List DirFault)
     pub clean : flat_map judge_entry (with_earlier front) ≡ []
     pub heads : seen ≡ map head_field front
     pub found : values ≡ map define front
-
-  pub entries_none : (all rest : List (List Line)) (seen : List (List ℕ)) → all ≡ rest → seen ≡ [] → AreRead all rest seen []
-  entries_none all rest seen same heads =
-      record { front = []; splits = same; clean = refl; heads = heads; found = refl }
 
   -- an entry seen come, in which nothing is broken
   pub entries_more : (all rest : List (List Line)) (entry : List Line) (later : List (List Line)) (seen then : List (List ℕ)) (values : List D) (d : D) (read : AreRead all rest seen values) → rest ≡ entry ∷ later → judge read.front entry ≡ [] → define entry ≡ d → then ≡ seen ++ head_field entry ∷ [] → AreRead all later then (values ++ d ∷ [])

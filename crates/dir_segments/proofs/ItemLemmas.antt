@@ -18,17 +18,10 @@ use Rattle.edi_octets.specs.Profile.{fields_of, first_field}
 use Rattle.dir_composites.specs.Parts.{is_item_line, part_in, is_placed, fields_behind, is_element_form, is_composite_form, composite_status, element_fault, composite_fault, fault_list}
 use Rattle.dir_segments.specs.Segments.{item_at, items_of, details_of, is_part_line, detail_faults, repeated_parts, line_faults, alone_item, composite_item, item_in}
 use Rattle.dir_composites.proofs.StopLemmas.{stops}
-use Rattle.dir_composites.proofs.FrontLemmas.{goes_on, goes_at, goes_all}
+use Rattle.dir_composites.proofs.FrontLemmas.{goes_on, goes_at}
 
 pub items_of-item : (line : Line) (lines : List Line) → is_item_line line ≡ true → items_of (line ∷ lines) ≡ item_at line lines ∷ items_of lines
 items_of-item line lines item = rw item refl
-
-pub items_of-text : (line : Line) (lines : List Line) → is_item_line line ≡ false → items_of (line ∷ lines) ≡ items_of lines
-items_of-text line lines text = rw text refl
-
-pub details_of-item : (line : Line) (lines : List Line) → is_item_line line ≡ true → details_of (line ∷ lines) ≡ []
-details_of-item line lines item =
-    take_while-cons (λ l. not (is_item_line l)) line lines ∙ rw item refl
 
 pub details_of-detail : (line : Line) (lines : List Line) → is_item_line line ≡ false → details_of (line ∷ lines) ≡ line ∷ details_of lines
 details_of-detail line lines detail =
@@ -49,9 +42,6 @@ module _ (below_composite : Bool) where
     pub splits : all ≡ front ++ rest
     pub clean : flat_map (detail_faults below_composite) front ≡ []
     pub found : parts ≡ repeated_parts front
-
-  pub details_none : (all rest : List Line) → all ≡ rest → AreDetails all rest []
-  details_none all rest same = record { front = []; splits = same; clean = refl; found = refl }
 
   clean-push : (front : List Line) (line : Line) → flat_map (detail_faults below_composite) front ≡ [] → detail_faults below_composite line ≡ [] → flat_map (detail_faults below_composite) (front ++ line ∷ []) ≡ []
   clean-push front line clean none =
@@ -85,12 +75,6 @@ module _ (below_composite : Bool) where
       let is : flat_map judge all ≡ flat_map judge read.front ++ (judge line ++ flat_map judge later) =
       ap (flat_map judge) (goes_at all read.front line rest later read.splits here) ∙ flat_map-append judge read.front (line ∷ later) in
       stops view outer stop (flat_map judge read.front) (judge line) (flat_map judge later) (flat_map judge all) v w read.clean is given
-
-  -- nothing more comes
-  pub details_all : (all rest : List Line) (parts : List PartDef) → AreDetails all rest parts → rest ≡ [] → (flat_map (detail_faults below_composite) all ≡ []) × (repeated_parts all ≡ parts)
-  details_all all rest parts read ended =
-      let whole = goes_all all read.front rest read.splits ended in
-      (ap (flat_map (detail_faults below_composite)) whole ∙ read.clean, ap repeated_parts whole ∙ sym read.found)
 
 pub line_faults-element : (before : Option ℕ) (line : Line) → is_placed line ≡ true → is_element_form (fields_behind line) ≡ true → line_faults before line ≡ fault_list line (element_fault before line)
 line_faults-element before line position form = rw (position, form) refl

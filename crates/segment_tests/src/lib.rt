@@ -4,6 +4,4 @@
 #![tactic(auto)]
 
 #[cfg(test)]
-mod element_check_calls;
-#[cfg(test)]
 mod first_look_calls;

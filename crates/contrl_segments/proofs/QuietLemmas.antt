@@ -1,13 +1,12 @@
 -- What is written of values, elements and segments, read octet by octet: where it ends or is cut.
-use Rattle.std.proofs.Common.{◌≡◌, ◌≢◌, ℕ, ◌+◌, ◌<◌, ◌≤◌, Bool, true, false, not, ◌&&◌, ◌||◌, cond, eqb, leb, Option, Some, None, List, [], ◌∷◌, ◌++◌, length, map, refl, sym, ap, subst, ◌∙◌, inl, inr, arith, true≢false, ◌⊎◌, ⊎_elim}
-use Rattle.std.specs.Prelude.{codes}
-use Rattle.std.specs.List.{enumerate_from, flat_map, list_all, prefix_len}
+use Rattle.std.proofs.Common.{◌≡◌, ℕ, ◌+◌, ◌≤◌, Bool, true, false, not, ◌&&◌, ◌||◌, cond, eqb, leb, Some, List, [], ◌∷◌, ◌++◌, map, refl, sym, ap, subst, ◌∙◌, inl, inr, arith, true≢false, ◌⊎◌, ⊎_elim}
+use Rattle.std.specs.List.{enumerate_from, flat_map, prefix_len}
 use Rattle.std.proofs.Math.Bool.{and-false}
-use Rattle.std.proofs.lemmas.Bool.{and_left, and_parts, and_right, cases_Bool, eqb-true, leb-true, ne_eqb, or_cases}
-use Rattle.std.proofs.lemmas.List.{append-nil, append_assoc}
+use Rattle.std.proofs.lemmas.Bool.{and_left, and_parts, cases_Bool, leb-true, ne_eqb, or_cases}
+use Rattle.std.proofs.lemmas.List.{append-nil}
 use Rattle.edi_tables.specs.Tag.{is_capital, is_digit, is_tag_octet_of, is_tag_of}
-use Rattle.seg_lexer.specs.Fields.{Component, components_of, separators_of}
-use Rattle.value_lexer.specs.Released.{is_release, value_of}
+use Rattle.seg_lexer.specs.Fields.{components_of, separators_of}
+use Rattle.value_lexer.specs.Released.{value_of}
 use Rattle.value_lexer.specs.Scan.{released_after, releases}
 use Rattle.value_lexer.specs.Breaks.{is_break}
 use Rattle.seg_lexer.specs.Service.{default_service}

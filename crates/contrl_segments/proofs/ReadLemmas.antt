@@ -1,16 +1,15 @@
 -- What is written is read back as it was.
-use Rattle.std.proofs.Common.{◌≡◌, ◌≢◌, ℕ, ◌+◌, ◌-◌, ◌<◌, ◌≤◌, Bool, true, false, ◌&&◌, ◌||◌, cond, Option, Some, None, List, [], ◌∷◌, ◌++◌, length, map, take, drop, refl, sym, ap, ◌∙◌, inl, inr, subst, arith, true≢false, length-append}
+use Rattle.std.proofs.Common.{◌≡◌, ℕ, ◌+◌, ◌-◌, Bool, false, cond, Some, None, List, [], ◌∷◌, ◌++◌, length, map, take, refl, sym, ap, ◌∙◌, arith}
 use Rattle.std.specs.Prelude.{codes, nat_eq}
 use Rattle.std.specs.List.{between, prefix_len, starts_with, zip}
-use Rattle.std.specs.Option.{ForSome, option_map}
-use Rattle.std.proofs.lemmas.List.{append-nil, append_assoc, take_at}
+use Rattle.std.specs.Option.{option_map}
+use Rattle.std.proofs.lemmas.List.{take_at}
 use Rattle.seg_lexer.specs.Fields.{components_of, separators_of}
 use Rattle.value_lexer.specs.Released.{is_released}
-use Rattle.value_lexer.specs.Scan.{released_after}
 use Rattle.seg_lexer.specs.Segments.{boundaries_of, ends_of, segment_in, segments_of, tail_of}
 use Rattle.value_lexer.specs.Breaks.{is_break, lead}
 use Rattle.seg_lexer.specs.Service.{advised_service, default_service, service_of}
-use Rattle.value_lexer.specs.Stretch.{Stretch, octets_in}
+use Rattle.value_lexer.specs.Stretch.{octets_in}
 use Rattle.seg_lexer.specs.Whole.{IsWhole, contents_of}
 use Rattle.seg_lexer.proofs.AppendLemmas.{contents-append, tail-append}
 use Rattle.seg_lexer.proofs.EndsLemmas.{after-forward, ends-forward, ends-front, found}

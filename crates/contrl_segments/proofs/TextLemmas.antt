@@ -1,5 +1,5 @@
 -- What is written of values that are lent.
-use Rattle.std.proofs.Common.{◌≡◌, ℕ, Bool, true, false, ◌&&◌, Some, List, [], ◌∷◌, ◌++◌, length, map, sym, ap, ◌∙◌, refl, arith}
+use Rattle.std.proofs.Common.{◌≡◌, Bool, true, false, ◌&&◌, Some, List, [], ◌∷◌, ◌++◌, length, map, sym, ap, ◌∙◌, refl, arith}
 use Rattle.std.specs.Borrow.{Bor}
 use Rattle.std.specs.List.{flat_map, list_all}
 use Rattle.std.proofs.lemmas.List.{append_assoc}
@@ -8,7 +8,7 @@ use Rattle.contrl_segments.specs.declared.segment.Value.{Value}
 use Rattle.error_ledger.specs.declared.error.ErrorLine.{ErrorLine}
 use Rattle.error_ledger.specs.Kinds.{code_of}
 use Rattle.contrl_segments.specs.Details.{details_of, position_of, tag_told}
-use Rattle.contrl_segments.specs.Lent.{answer_lent, element_lent, segment_lent, value_lent}
+use Rattle.contrl_segments.specs.Lent.{answer_lent, element_lent, value_lent}
 use Rattle.contrl_segments.specs.Written.{Element, alone, element_text, elements_text, is_empty_element, is_empty_value, segment_text, trimmed, value_text, values_text}
 use Rattle.contrl_segments.proofs.DecimalLemmas.{decimal-some}
 use Rattle.contrl_segments.proofs.TrimLemmas.{trimmed-append}

@@ -1,11 +1,11 @@
 -- What is written is read back as it was.
-use Rattle.std.specs.Prelude.{ℕ, ◌≡◌, List, [], ◌∷◌, map, Option, None}
+use Rattle.std.specs.Prelude.{ℕ, ◌≡◌, List, [], ◌∷◌, map, None}
 use Rattle.std.specs.List.{enumerate_from, flat_map}
 use Rattle.seg_lexer.specs.Fields.{Component, components_of, separators_of}
 use Rattle.seg_lexer.specs.Segments.{tail_of}
 use Rattle.seg_lexer.specs.Service.{default_service, service_of}
 use Rattle.seg_lexer.specs.Whole.{contents_of}
-use Rattle.contrl_segments.specs.Written.{Element, Segment, alone, contrl_text, is_empty_element, is_empty_value, trimmed}
+use Rattle.contrl_segments.specs.Written.{Element, Segment, alone, is_empty_element, is_empty_value, trimmed}
 
 -- the values of an element that is written: an element of which nothing is written has one component, which is empty
 abbrev pub values_read : Element → Element

@@ -1,6 +1,6 @@
 -- The blocks of a segment, of which the first are put.
-use Rattle.std.proofs.Common.{◌≡◌, ℕ, zero, suc, ◌+◌, ◌-◌, ◌<◌, ◌≤◌, Bool, true, false, ◌&&◌, cond, List, [], ◌∷◌, ◌++◌, length, map, take, refl, sym, ap, ◌∙◌, inl, inr, arith}
-use Rattle.std.specs.List.{filter, flat_map}
+use Rattle.std.proofs.Common.{◌≡◌, ℕ, zero, suc, ◌+◌, ◌-◌, ◌<◌, ◌≤◌, Bool, ◌&&◌, cond, List, [], ◌∷◌, ◌++◌, length, map, take, refl, sym, ap, ◌∙◌, inl, inr, arith}
+use Rattle.std.specs.List.{filter}
 use Rattle.std.proofs.lemmas.List.{append-nil, length-map, take_all}
 use Rattle.std.proofs.lemmas.Bool.{cases_Bool}
 use Rattle.error_ledger.specs.Kinds.{is_of_element, is_of_segment}
@@ -9,8 +9,8 @@ use Rattle.contrl_writer.specs.declared.level.Levelled.{Levelled}
 use Rattle.contrl_writer.specs.declared.lower.Lower.{Lower}
 use Rattle.contrl_segments.specs.Details.{code_told, is_near}
 use Rattle.contrl_writer.specs.Levels.{is_level}
-use Rattle.contrl_writer.specs.Lower.{details_at, heads_at, is_detail, is_head, is_whole, joined, told, with_segments}
-use Rattle.contrl_writer.specs.Report.{blocks_of, details_in, element_errors, heads_of, segment_blocks, segment_errors, ucd, ucs, whole_errors}
+use Rattle.contrl_writer.specs.Lower.{details_at, heads_at, is_detail, is_head, joined, told, with_segments}
+use Rattle.contrl_writer.specs.Report.{blocks_of, details_in, element_errors, heads_of, segment_blocks, segment_errors, ucd, ucs}
 use Rattle.contrl_segments.specs.Written.{Segment}
 use Rattle.contrl_writer.proofs.LowerLemmas.{take-nil, with_segments-nil}
 

@@ -1,9 +1,9 @@
 -- Levels, as groups and messages are come to.
-use Rattle.std.proofs.Common.{◌≡◌, ℕ, zero, suc, ◌+◌, ◌<◌, ◌≤◌, Bool, true, false, not, ◌&&◌, ◌||◌, cond, eqb, leb, List, [], ◌∷◌, ◌++◌, length, get_or, map, take, drop, refl, sym, ap, ◌∙◌, inl, inr, arith, subst, true≢false}
+use Rattle.std.proofs.Common.{◌≡◌, ℕ, zero, suc, ◌+◌, ◌<◌, ◌≤◌, Bool, true, false, ◌&&◌, ◌||◌, cond, eqb, leb, List, [], ◌∷◌, ◌++◌, length, get_or, map, take, drop, refl, sym, ap, ◌∙◌, inl, inr, arith, subst, true≢false}
 use Rattle.std.specs.Prelude.{codes}
 use Rattle.std.specs.List.{list_any}
 use Rattle.std.specs.List.Sorted.{IsNonDecreasingBy}
-use Rattle.std.proofs.Math.Bool.{and-false, or-false}
+use Rattle.std.proofs.Math.Bool.{or-false}
 use Rattle.std.proofs.lemmas.List.{length-map, take_at, take_more}
 use Rattle.std.proofs.lemmas.List.Folds.{list_any-append}
 use Rattle.std.proofs.lemmas.List.Sorted.{IsNonDecreasingBy-from_all_adjacent}
@@ -24,7 +24,7 @@ use Rattle.contrl_segments.specs.declared.summary.MessageHead.{MessageHead}
 use Rattle.error_ledger.specs.Order.{in_order}
 use Rattle.contrl_writer.specs.Levels.{is_among, is_at_ends, is_in_message, is_of_group, is_of_interchange, level_of, with_level}
 use Rattle.error_ledger.proofs.Sorting.{in_order-ascending}
-use Rattle.contrl_writer.specs.Raising.{closing_raised, first_raised, group_raised, last_raised, message_raised, part_raised, segment_of}
+use Rattle.contrl_writer.specs.Raising.{first_raised, group_raised, last_raised, message_raised, part_raised, segment_of}
 
 -- no kind tells of the interchange and of a group
 group-interchange : (kind : Kind) → is_of_group kind ≡ true → is_of_interchange kind ≡ false

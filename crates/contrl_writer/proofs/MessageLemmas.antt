@@ -1,5 +1,5 @@
 -- The text of a message, as it is put together.
-use Rattle.std.proofs.Common.{◌≡◌, ℕ, ◌+◌, ◌-◌, ◌≤◌, min, Option, Some, None, List, [], ◌∷◌, ◌++◌, length, take, refl, sym, ap, ◌∙◌, arith, length-take}
+use Rattle.std.proofs.Common.{◌≡◌, ℕ, ◌+◌, ◌-◌, min, Option, Some, None, List, [], ◌∷◌, ◌++◌, length, take, refl, sym, ap, ◌∙◌, arith, length-take}
 use Rattle.std.proofs.lemmas.List.{append-nil, append_assoc}
 use Rattle.error_ledger.specs.declared.error.ErrorLine.{ErrorLine}
 use Rattle.seg_lexer.specs.declared.context.Level.{Level}
@@ -11,7 +11,7 @@ use Rattle.contrl_segments.specs.declared.summary.Opening.TheVariants.{Good}
 use Rattle.contrl_segments.specs.declared.summary.Party.{Party}
 use Rattle.contrl_segments.specs.declared.summary.Summary.{Summary}
 use Rattle.contrl_writer.specs.Contrl.{answer_by, answer_to, contrl_for, contrl_of, interchange_answer, lower_segments, message_of}
-use Rattle.contrl_segments.specs.Service.{acknowledged, rejected, uci, unb, unh, unt, unz}
+use Rattle.contrl_segments.specs.Service.{rejected, uci, unb, unh, unt, unz}
 use Rattle.contrl_segments.specs.Lent.{action_for}
 use Rattle.contrl_writer.specs.Levels.{first_error, interchange_errors, levelled}
 use Rattle.contrl_writer.specs.Lower.{segments_below, with_segments}

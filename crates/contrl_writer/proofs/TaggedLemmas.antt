@@ -1,9 +1,8 @@
 -- The segments of an acknowledgement have lawful tags, and the first isn't a service string advice.
-use Rattle.std.proofs.Common.{◌≡◌, ℕ, zero, suc, ◌+◌, Bool, true, false, Option, Some, None, List, [], ◌∷◌, ◌++◌, length, map, take, refl, sym, ap, ◌∙◌, inl, inr, subst}
+use Rattle.std.proofs.Common.{◌≡◌, ℕ, zero, suc, ◌+◌, false, Option, Some, None, List, [], ◌∷◌, ◌++◌, length, map, take, refl}
 use Rattle.std.specs.Prelude.{codes, nat_eq}
-use Rattle.std.specs.List.{enumerate_from, filter, flat_map, starts_with}
+use Rattle.std.specs.List.{enumerate_from, flat_map, starts_with}
 use Rattle.error_ledger.specs.declared.error.ErrorLine.{ErrorLine}
-use Rattle.seg_lexer.specs.declared.context.Level.{Level}
 use Rattle.contrl_writer.specs.declared.level.Levelled.{Levelled}
 use Rattle.contrl_segments.specs.declared.stamp.Stamp.{Stamp}
 use Rattle.contrl_segments.specs.declared.summary.GroupHead.{GroupHead}
@@ -13,11 +12,11 @@ use Rattle.contrl_segments.specs.declared.summary.Opening.TheVariants.{NoUnb, Ba
 use Rattle.contrl_segments.specs.declared.summary.Party.{Party}
 use Rattle.contrl_segments.specs.declared.summary.Summary.{Summary}
 use Rattle.contrl_writer.specs.Contrl.{contrl_for, contrl_of, group_answer, group_answers, interchange_answer, lower_segments, message_of, report_where, reports_of}
-use Rattle.contrl_segments.specs.Service.{ucf, uci, unb, unh, unt, unz}
+use Rattle.contrl_segments.specs.Service.{uci, unt, unz}
 use Rattle.contrl_segments.specs.Details.{code_told}
 use Rattle.contrl_writer.specs.Levels.{first_error, interchange_errors, levelled, message_errors}
 use Rattle.contrl_writer.specs.Lower.{joined}
-use Rattle.contrl_writer.specs.Report.{blocks_of, details_in, errors_at, heads_of, message_blocks, positions_of, report, segment_blocks, segment_errors, element_errors, ucd, ucm, ucs}
+use Rattle.contrl_writer.specs.Report.{blocks_of, details_in, errors_at, heads_of, message_blocks, positions_of, report, segment_blocks, segment_errors, element_errors, ucd, ucs}
 use Rattle.contrl_segments.specs.Written.{Segment, contrl_text, segment_text}
 use Rattle.contrl_segments.proofs.QuietLemmas.{IsWritten, tag-written}
 use Rattle.contrl_segments.proofs.ReadLemmas.{AllWritten}

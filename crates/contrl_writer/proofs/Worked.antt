@@ -1,5 +1,5 @@
 -- Worked rows: what definitions give for summaries made by hand.
-use Rattle.std.proofs.Common.{◌≡◌, ℕ, Bool, true, false, List, [], ◌∷◌, ◌++◌, Option, Some, None, refl}
+use Rattle.std.proofs.Common.{◌≡◌, ℕ, List, [], ◌∷◌, ◌++◌, Option, Some, None, refl}
 use Rattle.std.specs.Prelude.{codes}
 use Rattle.std.specs.Fmt.{digits}
 use Rattle.edi_tables.specs.declared.tag.Tag.{Tag}
@@ -9,7 +9,6 @@ use Rattle.error_ledger.specs.declared.kind.Kind.TheVariants as kinds
 use Rattle.error_ledger.specs.Order.{key_of}
 use Rattle.error_ledger.specs.Kinds.{number_of, code_of}
 use Rattle.seg_lexer.specs.declared.context.Level.TheVariants as levels
-use Rattle.contrl_writer.specs.declared.answer.Contrl.{Contrl}
 use Rattle.contrl_writer.specs.declared.answer.Contrl.TheVariants.{Octets}
 use Rattle.contrl_segments.specs.declared.stamp.Stamp.{Stamp}
 use Rattle.contrl_segments.specs.declared.summary.GroupHead.{GroupHead}

@@ -1,5 +1,5 @@
 -- What is answered is read back as it was written.
-use Rattle.std.specs.Prelude.{⊤, ℕ, List}
+use Rattle.std.specs.Prelude.{⊤, List}
 use Rattle.contrl_writer.specs.declared.answer.Contrl.{Contrl}
 use Rattle.contrl_writer.specs.declared.answer.Contrl.TheVariants.{Octets}
 use Rattle.contrl_segments.specs.ReadBack.{IsReadAs}

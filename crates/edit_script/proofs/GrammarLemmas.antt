@@ -1,5 +1,5 @@
 -- How the text of a command is put together.
-use Rattle.std.proofs.Common.{◌≡◌, ◌++◌, ◌≤◌, ℕ, List, [], ◌∷◌, length, decimal, refl, sym, ap, ◌∙◌, subst, arith, append_assoc}
+use Rattle.std.proofs.Common.{◌≡◌, ◌++◌, ◌≤◌, ℕ, List, [], ◌∷◌, length, decimal, refl, sym, ap, ◌∙◌, subst, arith}
 use Rattle.contrl_segments.specs.declared.stamp.Stamp.{Stamp}
 use Rattle.contrl_segments.specs.Stamp.{stamp_text}
 use Rattle.edit_script.specs.declared.command.Command.{Command}

@@ -10,9 +10,9 @@ use Rattle.edi_tables.specs.Pairs.{entry_in}
 use Rattle.edi_tables.specs.Placement.{last_placed}
 use Rattle.edi_tables.specs.Rows.{IsTable}
 use Rattle.edi_tables.specs.Walk.{missing_past}
-use Rattle.table_walk.specs.Errors.{Fault, StructureError, at_place, errors_of_placed, faults_of, open_faults, structure_errors_of}
+use Rattle.table_walk.specs.Errors.{Fault, StructureError, at_place, errors_of_placed, faults_of, open_faults}
 use Rattle.table_walk.specs.Errors as errors
-use Rattle.table_walk.specs.Errors.Fault.{Missing, Over, Unplaced}
+use Rattle.table_walk.specs.Errors.Fault.{Missing, Over}
 use Rattle.table_walk.specs.Reading.{member_at}
 use Rattle.table_walk.specs.Steps.{is_over_in, member_in, missing_in}
 use Rattle.table_walk.proofs.Readings.{reading_is}

@@ -7,7 +7,7 @@ use Rattle.table_walk.specs.Steps.{AreCountsUpTo, IsShaped}
 use Rattle.segment_records.specs.Messages.{nodes_at, table_for}
 use Rattle.segment_records.specs.Records.{IsModeOf}
 use Rattle.segment_records.specs.Segments.{Segment}
-use Rattle.segment_records.specs.Steps.{Step, inner_step, is_named, is_no_part, opening_step, plain_step, step_of}
+use Rattle.segment_records.specs.Steps.{inner_step, is_named, is_no_part, opening_step, plain_step, step_of}
 use Rattle.segment_records.specs.declared.mode.Mode.{Mode}
 use Rattle.segment_records.specs.declared.mode.Mode.TheVariants.{Outside, Within}
 

@@ -51,8 +51,8 @@ use Rattle.contrl_laws.proofs.Shape.{IsGoodSummary, IsShaped, contrl_shape, shap
 use Rattle.contrl_laws.proofs.Values.{context_with, decimal_back}
 use Rattle.contrl_laws.proofs.Walk.Spot.{AtHead}
 use Rattle.text_reading.specs.Clean.{IsCleanAnswer, IsGoodOpening}
-use Rattle.segment_walk.specs.Errors.{fault_line, is_unknown, local_line, nodes_in, segment_lines, structure_lines, versions}
-use Rattle.text_reading.specs.Errors.{advice_lines, errors_found, errors_in, errors_of, opening_lines, syntax_lines, tail_lines}
+use Rattle.segment_walk.specs.Errors.{fault_line, is_unknown, local_line, nodes_in, segment_lines, versions}
+use Rattle.text_reading.specs.Errors.{advice_lines, errors_found, errors_of, opening_lines, syntax_lines, tail_lines}
 use Rattle.segment_walk.specs.Errors as errors
 use Rattle.segment_walk.specs.Heads.{heads_of, marks_of}
 use Rattle.text_reading.specs.Summary.{contrl_to, summary_of}

@@ -1,6 +1,6 @@
-use Rattle.std.proofs.Common.{◌≡◌, Bool, true, false, ap, sym, ◌∙◌, arith, List, map, take}
-use Rattle.contrl_segments.specs.Written.{is_empty_element, is_empty_value, trimmed}
-use Rattle.contrl_segments.specs.Lent.{element_lent, value_lent}
+use Rattle.std.proofs.Common.{ap, sym, ◌∙◌, arith, map, take}
+use Rattle.contrl_segments.specs.Written.{is_empty_element, trimmed}
+use Rattle.contrl_segments.specs.Lent.{element_lent}
 use Rattle.std.proofs.lemmas.List.{take_all}
 use Rattle.contrl_segments.proofs.TrimLemmas.{kept-empty, kept-full, trimmed-map}
 use Rattle.contrl_segments.proofs.segment.kept_elements.Goals as goal

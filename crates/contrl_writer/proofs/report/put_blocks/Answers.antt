@@ -1,7 +1,5 @@
-use Rattle.std.proofs.Common.{◌≡◌, ◌<◌, length, ap, ◌∙◌, arith}
-use Rattle.std.specs.List.{filter}
-use Rattle.contrl_writer.specs.Lower.{is_detail, is_head, told, with_segments}
-use Rattle.contrl_writer.specs.Report.{segment_blocks}
+use Rattle.std.proofs.Common.{length, ap, ◌∙◌, arith}
+use Rattle.contrl_writer.specs.Lower.{with_segments}
 use Rattle.contrl_writer.proofs.BlockLemmas.{headed-count, no-block, nothing-put, plain-block, plain-put}
 use Rattle.contrl_writer.proofs.report.put_blocks.Goals as goal
 

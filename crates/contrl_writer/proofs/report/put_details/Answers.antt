@@ -1,7 +1,7 @@
 use Rattle.std.proofs.Common.{◌&&◌, sym, ◌∙◌}
-use Rattle.contrl_segments.specs.Details.{code_told, is_near}
-use Rattle.contrl_writer.specs.Lower.{is_detail, is_head}
-use Rattle.contrl_writer.specs.Report.{ucd, ucs}
+use Rattle.contrl_segments.specs.Details.{is_near}
+use Rattle.contrl_writer.specs.Lower.{is_detail}
+use Rattle.contrl_writer.specs.Report.{ucd}
 use Rattle.contrl_writer.proofs.LowerLemmas.{picked-end, picked-step}
 use Rattle.contrl_writer.proofs.report.put_details.Goals as goal
 

@@ -1,4 +1,4 @@
-use Rattle.std.proofs.Common.{◌<◌, ◌≤◌, length, List, take, sym, ap, subst, ◌∙◌, arith}
+use Rattle.std.proofs.Common.{List, take, sym, ap, ◌∙◌, arith}
 use Rattle.contrl_writer.specs.declared.lower.Lower.{Lower}
 use Rattle.contrl_writer.specs.Lower.{details_at, heads_at, with_segments}
 use Rattle.contrl_segments.specs.Written.{Segment}

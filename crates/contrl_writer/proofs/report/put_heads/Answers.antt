@@ -1,7 +1,7 @@
-use Rattle.std.proofs.Common.{◌&&◌, sym, ◌∙◌}
-use Rattle.contrl_segments.specs.Details.{code_told, is_near}
-use Rattle.contrl_writer.specs.Lower.{is_detail, is_head}
-use Rattle.contrl_writer.specs.Report.{ucd, ucs}
+use Rattle.std.proofs.Common.{sym, ◌∙◌}
+use Rattle.contrl_segments.specs.Details.{code_told}
+use Rattle.contrl_writer.specs.Lower.{is_head}
+use Rattle.contrl_writer.specs.Report.{ucs}
 use Rattle.contrl_writer.proofs.LowerLemmas.{picked-end, picked-step}
 use Rattle.contrl_writer.proofs.report.put_heads.Goals as goal
 

@@ -1,11 +1,11 @@
-use Rattle.std.proofs.Common.{◌≡◌, ◌+◌, ◌-◌, ◌++◌, leb, true, false, List, Some, length, drop, sym, ap, subst, ◌∙◌, arith, rules, tests}
+use Rattle.std.proofs.Common.{◌≡◌, ◌+◌, ◌-◌, ◌++◌, leb, true, false, List, drop, sym, ap, subst, ◌∙◌, arith, rules, tests}
 use Rattle.std.specs.Prelude.{IsTrue}
 use Rattle.std.specs.List.Sorted.{IsNonDecreasingBy, IsPartitionPoint}
 use Rattle.std.proofs.lemmas.List.Elements.{All-drop}
 use Rattle.std.proofs.lemmas.List.Sorted.{IsNonDecreasingBy-drop, IsPartitionedBy-leb, IsPartitionPoint-from_clause}
 use Rattle.contrl_writer.specs.declared.level.Levelled.{Levelled}
 use Rattle.contrl_writer.specs.Levels.{is_among}
-use Rattle.contrl_writer.specs.Lower.{AreInMessage, joined, told, with_segments}
+use Rattle.contrl_writer.specs.Lower.{AreInMessage, told}
 use Rattle.contrl_writer.specs.Raising.{segment_of}
 use Rattle.contrl_writer.specs.Report.{message_blocks, segment_blocks}
 use Rattle.contrl_writer.proofs.ReportLemmas.{blocks-none, blocks-step, far-rest, first-blocks, no-blocks, own-first, report-start, some-here}

@@ -1,4 +1,4 @@
-use Rattle.std.proofs.Common.{◌++◌, ◌∙◌, ◌-◌, ◌≡◌, ◌≤◌, List, ℕ, true, decimal, length, ap, subst}
+use Rattle.std.proofs.Common.{◌++◌, ◌∙◌, ◌-◌, ◌≡◌, ◌≤◌, List, ℕ, true, decimal, length, subst}
 use Rattle.script_answers.specs.Put.{IsPutOut}
 use Rattle.script_answers.proofs.PutLemmas.{put_after, put_at, put_out, room_both}
 use Rattle.script_answers.proofs.put.put_numbered.Goals as goal

@@ -1,4 +1,4 @@
-use Rattle.std.proofs.Common.{◌++◌, true, false, length, decimal}
+use Rattle.std.proofs.Common.{◌++◌, true, length, decimal}
 use Rattle.script_answers.proofs.PutLemmas.{counted_put, counted_room, put_at}
 use Rattle.script_answers.proofs.reply.put_counted.Goals as goal
 

@@ -1,4 +1,4 @@
-use Rattle.std.proofs.Common.{List, ap, sym, subst, arith, ◌+◌}
+use Rattle.std.proofs.Common.{List, sym, subst, ◌+◌}
 use Rattle.std.proofs.lemmas.Option.{get_or_from_slice_get}
 use Rattle.edi_tables.specs.declared.table.Node.{Node}
 use Rattle.dir_compile.specs.Directory.{tables_of}

@@ -1,4 +1,4 @@
-use Rattle.std.proofs.Common.{◌≡◌, ℕ, Option, subst, sym, ap, ◌∙◌}
+use Rattle.std.proofs.Common.{◌≡◌, subst, sym, ap, ◌∙◌}
 use Rattle.std.specs.Prelude.{IfOk}
 use Rattle.segment_records.specs.Steps.{Step, opening_step, inner_step, plain_step}
 use Rattle.segment_records.specs.Taken.{read_as, taken}

@@ -1,4 +1,4 @@
-use Rattle.std.proofs.Common.{Bool, false, sym, ◌∙◌, ap}
+use Rattle.std.proofs.Common.{sym, ◌∙◌, ap}
 use Rattle.contrl_segments.specs.Written.{is_empty_value}
 use Rattle.contrl_segments.specs.Lent.{value_lent}
 use Rattle.contrl_segments.specs.declared.segment.Value.{Value}

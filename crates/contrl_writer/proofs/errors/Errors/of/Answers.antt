@@ -1,5 +1,4 @@
-use Rattle.std.proofs.Common.{[], take, length, sym, ap, ◌∙◌}
-use Rattle.std.proofs.lemmas.List.{take_all}
+use Rattle.std.proofs.Common.{[], take, ◌∙◌}
 use Rattle.error_ledger.specs.Order.{in_order}
 use Rattle.contrl_writer.proofs.LevelLemmas.{group-step, levelled-rise, message-step}
 use Rattle.contrl_writer.proofs.errors.Errors.of.Goals as goal

@@ -1,4 +1,4 @@
-use Rattle.std.proofs.Common.{refl, sym, ap, ◌∙◌, ◌≡◌}
+use Rattle.std.proofs.Common.{refl, ap, ◌∙◌}
 use Rattle.segment_records.specs.Segments.{segment_read}
 use Rattle.segment_records.specs.Steps.{step_of}
 use Rattle.segment_records.specs.Taken.{read_as}

@@ -4,4 +4,6 @@
 #![tactic(auto)]
 
 #[cfg(test)]
+mod element_check_calls;
+#[cfg(test)]
 mod first_look_calls;

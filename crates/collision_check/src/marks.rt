@@ -21,8 +21,8 @@ pub struct Mark {
 pub fn meet(marks: &mut [Option<Mark>], entry: u16, number: u16, follower: u16) -> Option<u16>
     requires { number < length marks.old }
     ensures first { result ≡ met_once (met_in entry (mark_at marks.old number)) }
-    ensures marks { marks.new ≡ slice_set marks.old number
-        (Some (record { entry = entry; met = met_next (met_in entry (mark_at marks.old number)) follower })) }
+    ensures marks { let met = met_next (met_in entry (mark_at marks.old number)) follower in
+        marks.new ≡ slice_set marks.old number (Some (record { entry = entry; met = met })) }
 {
     let mark = &mut marks[usize::from(number)];
     let before = met_after(*mark, entry);

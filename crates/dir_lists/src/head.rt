@@ -13,7 +13,8 @@ use edi_tables::Code;
 /// Reads the head of an entry after others, whose codes are seen: a data element's code and a name.
 pub(crate) fn read_head<'a>(head: &LineText<'a>, seen: &mut Seen<'a>) -> Result<Code, DirStop>
     ensures judged { (earlier : List (List Line)) → seen.old ≡ map head_field earlier
-        → Answers (λ code. code) fault_in result (unless_faulty (head_faults is_element_code earlier (line_shown head.now))
+        → Answers (λ code. code) fault_in result
+        (unless_faulty (head_faults is_element_code earlier (line_shown head.now))
         (record { octets = head_field (line_shown head.now ∷ []) })) }
     ensures joins { OnOk result
         (seen.new ≡ seen.old ++ head_field (line_shown head.now ∷ []) ∷ []) }

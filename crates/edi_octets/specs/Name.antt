@@ -12,7 +12,7 @@ is_name_octet x = is_capital x || (nat_le 97 x && nat_le x 122) || is_digit x ||
 abbrev pub is_name_part : List ℕ → Bool
 is_name_part part = is_filled part && list_all is_name_octet part && not (slice_index part 0 == 46)
 
--- a name has 1 to 128 octets: parts, parted by `/`
+-- a name has 1 to 128 octets: parts, separated by `/`
 unfoldable pub is_name_of : List ℕ → Bool
 is_name_of name =
     nat_le 1 (length name) && nat_le (length name) 128 && list_all is_name_part (slice_split (λ x. x == 47) name)

@@ -9,7 +9,7 @@ ghost use Rattle.edi_octets.specs.Name.{is_name_octet, is_name_of, is_name_part}
 const MOST_OCTETS: usize = 128;
 
 /// Whether these octets are a name: 1 to 128 octets, parts of letters, digits, `.`, `_` and `-`
-/// parted by `/`, each part not empty and not beginning with `.`.
+/// separated by `/`, each part not empty and not beginning with `.`.
 pub fn is_name(part: &[u8]) -> bool
     ensures { result ≡ is_name_of part.now }
 {

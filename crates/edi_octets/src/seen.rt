@@ -55,9 +55,11 @@ impl<'a> Seen<'a> {
     /// if it is one: a code and a name, else `bad-code`, and none of those seen, else `twice`. It joins them.
     pub fn read_head<C: Copy>(&mut self, head: &LineText<'a>, code: Option<C>) -> Result<C, DirStop>
         ensures judged { (is_code : List ℕ → Bool) (coded : C) (earlier : List (List Line))
-            → code ≡ (if is_code (first_field (fields_of head.now.octets.now)) then Some coded else None)
+            → code ≡ (if is_code (first_field (fields_of head.now.octets.now)) then Some coded
+            else None)
             → self.old ≡ map head_field earlier
-            → Answers (λ code. code) fault_in result (unless_faulty (head_faults is_code earlier (line_shown head.now)) coded) }
+            → Answers (λ code. code) fault_in result
+            (unless_faulty (head_faults is_code earlier (line_shown head.now)) coded) }
         ensures joins { OnOk result
             (self.new ≡ self.old ++ first_field (fields_of head.now.octets.now) ∷ []) }
     {

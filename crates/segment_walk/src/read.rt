@@ -49,8 +49,8 @@ pub fn read_records<O: Octets, L: Ledger, M: Ledger>(
     ensures apart { (front back : List ℕ)
         → WholeThenMore directory.now context.now before.now front back }
     ensures forgets { (segment : Segment) → ForgetsBefore directory.now segment }
-    ensures lexed { lexed.new ≤ lexed.old
-        + (length (segments_by (at_start context.now.service) (drop from (O.octets text.now))) + 1) }
+    ensures lexed { lexed.new ≤ lexed.old + (length
+        (segments_by (at_start context.now.service) (drop from (O.octets text.now))) + 1) }
     ensures placed { placed.new ≤ placed.old
         + length (segments_by (at_start context.now.service) (drop from (O.octets text.now))) }
 {

@@ -20,7 +20,8 @@ pub fn put_tag_and_values<O: Octets>(
     components: Fields<'_, O>,
 ) -> Result<(), AllocError>
     ensures { let components = components_left components.entry in
-        OnOk result (lines.new ≡ lines.old ++ tag_end (tag_of components) ++ value_lines components) }
+        OnOk result (lines.new
+        ≡ lines.old ++ tag_end (tag_of components) ++ value_lines components) }
 {
     let mut components = components;
     put_tag(lines, components.take_tag())?;

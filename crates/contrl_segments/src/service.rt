@@ -1,7 +1,7 @@
 //! The segments round the reports of an acknowledgement.
 ghost use Rattle.std.specs.Prelude.{◌≡◌, ◌++◌, OnOk, map};
 ghost use Rattle.contrl_segments.specs.Written.{segment_text};
-ghost use Rattle.contrl_segments.specs.Service.{group_party as group_party_of, interchange_party as interchange_party_of, level_word as level_word_of, ucf, uci, unb, unh, unt, unz};
+ghost use Rattle.contrl_segments.specs.Service.{group_party as group_party_of, interchange_party as interchange_party_of, level_word as level_word_of, uci, unb, unh, unt, unz};
 ghost use Rattle.contrl_segments.specs.Lent.{action_for, value_lent};
 ghost use Rattle.std.specs.Option.{option_copied};
 

@@ -3,7 +3,6 @@ ghost use Rattle.std.specs.Prelude.{[], ◌≡◌, ◌-◌, ◌≤◌, All, IfOk
 ghost use Rattle.std.specs.Option.{option_copied};
 ghost use Rattle.std.specs.List.Sorted.{IsNonDecreasingBy};
 ghost use Rattle.edi_tables.specs.Rows.{has_name};
-ghost use Rattle.error_ledger.specs.Order.{IsAscending};
 ghost use Rattle.error_ledger.specs.Order.{in_order};
 ghost use Rattle.contrl_writer.specs.Levels.{errors_among, first_error, is_among, is_level, level_of, levelled, with_level};
 ghost use Rattle.contrl_writer.specs.Range.{IsRange};

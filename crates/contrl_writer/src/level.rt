@@ -1,5 +1,5 @@
 //! At which level of an acknowledgement an error is told.
-ghost use Rattle.std.specs.Prelude.{◌≡◌, ◌&&◌, not};
+ghost use Rattle.std.specs.Prelude.{◌≡◌};
 ghost use Rattle.contrl_writer.specs.Levels.{is_of_group as is_of_group_in_table, is_of_interchange as is_of_interchange_in_table};
 
 use error_ledger::{ErrorLine, Kind};

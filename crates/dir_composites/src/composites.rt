@@ -1,12 +1,11 @@
 //! Composite files.
 ghost use Rattle.std.specs.Prelude.{◌≡◌, ◌≤◌, List, [], ◌∷◌, ◌++◌, length, map, true, IfOk, OnOk};
-ghost use Rattle.std.specs.List.{list_all, flat_map};
+ghost use Rattle.std.specs.List.{list_all};
 ghost use Rattle.edi_tables.specs.Forms.{is_composite_formed};
 ghost use Rattle.edi_tables.specs.First.{Answers, unless_faulty};
 ghost use Rattle.edi_octets.specs.DirStop.{fault_in};
 ghost use Rattle.edi_octets.specs.Left.{line_shown, body_left, entry_shown};
 ghost use Rattle.edi_octets.specs.Lines.{Line};
-ghost use Rattle.edi_octets.specs.Profile.{with_earlier};
 ghost use Rattle.dir_composites.specs.Composites as composites;
 ghost use Rattle.edi_octets.specs.Head.{head_field};
 ghost use Rattle.dir_composites.specs.Parts.{count_faults};

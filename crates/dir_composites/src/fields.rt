@@ -1,7 +1,7 @@
 //! What stands on a line of a part or an item.
-ghost use Rattle.std.specs.Prelude.{◌≡◌, ◌==◌, ◌&&◌, nat_le, length, drop, true, false, MatchOption};
+ghost use Rattle.std.specs.Prelude.{◌≡◌, ◌&&◌, nat_le, length, true, false, MatchOption};
 ghost use Rattle.edi_octets.specs.Left.{line_shown, cells_left};
-ghost use Rattle.edi_octets.specs.Profile.{fields_of, first_field};
+ghost use Rattle.edi_octets.specs.Profile.{first_field};
 ghost use Rattle.dir_composites.specs.Parts as parts;
 
 use edi_octets::{

@@ -1,8 +1,7 @@
 //! Lines of parts and items, judged after the position before them.
 ghost use Rattle.std.specs.Prelude.{◌≡◌, Some, IsTrue};
 ghost use Rattle.edi_tables.specs.First.{Answers, unless_faulty};
-ghost use Rattle.edi_octets.specs.DirStop.{at_line, fault_in};
-ghost use Rattle.edi_octets.specs.declared.fault.DirStop.TheVariants.{Fault};
+ghost use Rattle.edi_octets.specs.DirStop.{fault_in};
 ghost use Rattle.edi_octets.specs.Left.{line_shown};
 ghost use Rattle.edi_octets.specs.Profile as profile;
 ghost use Rattle.dir_composites.specs.Parts as parts;

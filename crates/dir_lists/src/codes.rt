@@ -35,7 +35,8 @@ pub fn read_codes(alloc: Global, file: &[u8]) -> Result<Vec<CodeList>, DirStop>
 /// Reads an entry after others, whose codes are seen.
 fn read_list<'a>(alloc: Global, entry: &Entry<'a>, seen: &mut Seen<'a>) -> Result<CodeList, DirStop>
     ensures judged { (earlier : List (List Line)) → seen.old ≡ map head_field earlier
-        → Answers (λ list. list) fault_in result (unless_faulty (codes.list_faults earlier (entry_shown entry.now))
+        → Answers (λ list. list) fault_in result
+        (unless_faulty (codes.list_faults earlier (entry_shown entry.now))
         (codes.list_of (entry_shown entry.now))) }
     ensures joins { OnOk result (seen.new ≡ seen.old ++ head_field (entry_shown entry.now) ∷ []) }
 {
@@ -49,8 +50,10 @@ fn read_list<'a>(alloc: Global, entry: &Entry<'a>, seen: &mut Seen<'a>) -> Resul
 
 /// Reads the codes of an entry, from its lines after its head.
 fn read_values(alloc: Global, body: Body<'_>) -> Result<Vec<Chunk>, DirStop>
-    ensures { Answers (λ values. values.items) fault_in result
-        (unless_faulty (flat_map (λ p. codes.body_faults p.0 p.1) (with_earlier (body_left body.entry))) (codes.values_of (body_left body.entry))) }
+    ensures { let lines = body_left body.entry in
+        Answers (λ values. values.items) fault_in result
+        (unless_faulty (flat_map (λ p. codes.body_faults p.0 p.1) (with_earlier lines))
+        (codes.values_of lines)) }
 {
     let mut seen = Seen::new(alloc);
     for line in body {
@@ -62,7 +65,8 @@ fn read_values(alloc: Global, body: Body<'_>) -> Result<Vec<Chunk>, DirStop>
 /// Reads a line of an entry after others, whose codes are seen. Its code joins them.
 fn read_line<'a>(line: &LineText<'a>, seen: &mut Seen<'a>) -> Result<(), DirStop>
     ensures judged { (earlier : List Line) → seen.old ≡ codes.values_of earlier
-        → Answers (λ done. done) fault_in result (unless_faulty (codes.body_faults earlier (line_shown line.now)) tt) }
+        → Answers (λ done. done) fault_in result
+        (unless_faulty (codes.body_faults earlier (line_shown line.now)) tt) }
     ensures joins { OnOk result
         (seen.new ≡ seen.old ++ codes.values_of (line_shown line.now ∷ [])) }
 {
@@ -91,7 +95,8 @@ fn is_text(line: &LineText<'_>) -> bool
 /// Whether a line is indented by 1 to 7 and is a code and a name.
 fn has_value(line: &LineText<'_>) -> bool
     ensures { let octets = line.now.octets.now in
-        result ≡ (nat_le 1 (indentation_of octets) && nat_le (indentation_of octets) 7 && is_code_and_name codes.is_value (fields_of octets)) }
+        result ≡ (nat_le 1 (indentation_of octets) && nat_le (indentation_of octets) 7
+        && is_code_and_name codes.is_value (fields_of octets)) }
 {
     let indentation = line.indentation();
     1 <= indentation && indentation <= 7 && line.has_name() && is_value(line.first_field())

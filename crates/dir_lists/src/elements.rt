@@ -7,7 +7,7 @@ ghost use Rattle.edi_octets.specs.DirStop.{fault_in};
 ghost use Rattle.edi_octets.specs.Head.{head_field};
 ghost use Rattle.edi_octets.specs.Left.{line_shown, cells_left, body_left, entry_shown};
 ghost use Rattle.edi_octets.specs.Lines.{Line};
-ghost use Rattle.edi_octets.specs.Profile.{with_earlier, fields_of};
+ghost use Rattle.edi_octets.specs.Profile.{with_earlier};
 ghost use Rattle.dir_lists.specs.Elements.{elements_in, element_faults, element_of, body_faults, end_faults, is_repr_line, repr_behind_word, repr_of_entry};
 
 use crate::head::read_head;
@@ -35,7 +35,8 @@ pub fn read_elements(alloc: Global, file: &[u8]) -> Result<Vec<ElementDef>, DirS
 /// Reads an entry after others, whose codes are seen.
 fn read_element<'a>(entry: &Entry<'a>, seen: &mut Seen<'a>) -> Result<ElementDef, DirStop>
     ensures judged { (earlier : List (List Line)) → seen.old ≡ map head_field earlier
-        → Answers (λ element. Option.Some element) fault_in result (unless_faulty (element_faults earlier (entry_shown entry.now))
+        → Answers (λ element. Option.Some element) fault_in result
+        (unless_faulty (element_faults earlier (entry_shown entry.now))
         (element_of (entry_shown entry.now))) }
     ensures joins { OnOk result (seen.new ≡ seen.old ++ head_field (entry_shown entry.now) ∷ []) }
 {
@@ -48,7 +49,9 @@ fn read_element<'a>(entry: &Entry<'a>, seen: &mut Seen<'a>) -> Result<ElementDef
 fn read_body(entry: &Entry<'_>) -> Result<Repr, DirStop>
     ensures { let body = body_left entry.now.body in
         Answers (λ repr. Option.Some repr) fault_in result
-        (unless_faulty (flat_map (λ p. body_faults p.0 p.1) (with_earlier body) ++ end_faults (line_shown entry.now.head) body)
+        (unless_faulty
+        (flat_map (λ p. body_faults p.0 p.1) (with_earlier body)
+        ++ end_faults (line_shown entry.now.head) body)
         (repr_of_entry body)) }
 {
     let mut found = None;
@@ -63,7 +66,8 @@ fn read_line(line: &LineText<'_>, found: Option<Repr>) -> Result<Option<Repr>, D
     ensures { (earlier : List Line)
         → found ≡ repr_of_entry earlier
         → is_some found ≡ list_any is_repr_line earlier
-        → Answers (λ found. found) fault_in result (unless_faulty (body_faults earlier (line_shown line.now))
+        → Answers (λ found. found) fault_in result
+        (unless_faulty (body_faults earlier (line_shown line.now))
         (repr_of_entry (earlier ++ line_shown line.now ∷ []))) }
 {
     if !line.begins_with(b"Repr:") {

@@ -24,11 +24,6 @@ pub Answers-and_then : {X Y A B E F : Type 0} (view : X → A) (shown : Y → B)
 Answers-and_then view shown fault_in stop part next given =
     Answers-stopped view shown fault_in stop part (and_then part next) (λ fault is. ap (λ r. and_then r next) is) given
 
--- the same, where the whole is made of the part
-pub Answers-mapped : {X Y A B E F : Type 0} (view : X → A) (shown : Y → B) (fault_in : E → Option F) (stop : E) (part : Result A F) (make : A → B) → Answers view fault_in (Err stop) part → Answers shown fault_in (Err stop) (result_map_both make (λ fault. fault) part)
-Answers-mapped view shown fault_in stop part make given =
-    Answers-stopped view shown fault_in stop part (result_map_both make (λ fault. fault) part) (λ fault is. ap (result_map_both make (λ fault. fault)) is) given
-
 -- a stop at the file of that name tells the file's refusal
 pub Answers-at_file : {X Y A : Type 0} (view : X → A) (shown : Y → A) (name : List ℕ) (read : FileStop) (stop : LoadStop) (file : Result A FileFault) → IsStopAt name read stop → Answers view file_fault_in (Err read) file → Answers shown refusal_in (Err stop) (map_err (File name) file)
 Answers-at_file view shown name (file.Refused fault) (Refused refusal) due is given = rw (given, is) refl

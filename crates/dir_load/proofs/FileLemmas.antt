@@ -18,10 +18,6 @@ use Rattle.dir_load.specs.Load.{Found, and_then, file_by, map_err}
 use Rattle.dir_load.specs.Stop.{file_fault_in, grammar_stop, unread_stop}
 
 module _ {A : Type 0} (grammar : List ℕ → Result A DirFault) (files : List ShelfFile) (name : List ℕ) where
-  -- octets that were read are judged by the grammar
-  pub file_by-read : (octets : List ℕ) → octets_named 4194304 files name ≡ Ok octets → file_by grammar files name ≡ map_err Grammar (grammar octets)
-  file_by-read octets is = ap (λ r. and_then (map_err Unread r) (λ o. map_err Grammar (grammar o))) is
-
   -- a file that was not read
   pub Answers-unread : {X Y : Type 0} (view : X → List ℕ) (shown : Y → A) (stop : NamedStop) → Answers view unread_in (Err stop) (octets_named 4194304 files name) → Answers shown file_fault_in (Err (unread_stop stop)) (file_by grammar files name)
   Answers-unread view shown (named.Unread unread) given =

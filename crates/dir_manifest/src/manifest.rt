@@ -1,5 +1,5 @@
 //! Manifests: the labels of a directory, and the files that it is made of.
-ghost use Rattle.std.specs.Prelude.{◌≡◌, ◌≤◌, ◌+◌, ◌++◌, ◌∷◌, [], List, ℕ, length, IfOk, IfSome, OnOk, option_and_then};
+ghost use Rattle.std.specs.Prelude.{◌≡◌, ◌≤◌, ◌+◌, ◌++◌, ◌∷◌, [], List, length, IfOk, IfSome, OnOk};
 ghost use Rattle.dir_manifest.specs.Counted.{counted_left};
 ghost use Rattle.dir_manifest.specs.Manifest.{is_in_turn as is_in_turn_of, kind_named, place_of, labels_on, file_on, file_faults, faults_on, files_on, manifest_in};
 ghost use Rattle.line_words.specs.Labels.{HasLabelForms};

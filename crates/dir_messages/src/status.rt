@@ -1,5 +1,5 @@
 //! The status of a table line, and what stands round it.
-ghost use Rattle.std.specs.Prelude.{◌≡◌, ◌≤◌, ◌++◌, ◌∷◌, [], false, MatchOption, length};
+ghost use Rattle.std.specs.Prelude.{◌≡◌, ◌∷◌, [], false, MatchOption};
 ghost use Rattle.std.specs.List.{slice_split, list_any, position_or_len};
 ghost use Rattle.dir_messages.specs.Message.{is_status};
 ghost use Rattle.edi_octets.specs.Lines.{is_space};

@@ -1,6 +1,6 @@
 //! The words of a drawn message file: type lines, positions and numbers.
-ghost use Rattle.std.specs.Prelude.{◌≡◌, ◌≤◌, false, true, MatchOption, option_copied, length};
-ghost use Rattle.std.specs.Str.{bytes_eq, str_eq_ignore_ascii_case};
+ghost use Rattle.std.specs.Prelude.{◌≡◌, false, true, MatchOption, option_copied};
+ghost use Rattle.std.specs.Str.{str_eq_ignore_ascii_case};
 ghost use Rattle.edi_octets.specs.Left.{line_shown};
 ghost use Rattle.edi_octets.specs.Profile as profile;
 ghost use Rattle.edi_octets.specs.Profile.{fields_of};

@@ -1,22 +1,18 @@
 -- Items of an entry's lines, and their detail lines.
-use Rattle.std.proofs.Common.{◌≡◌, ℕ, Bool, true, false, not, List, [], ◌∷◌, ◌++◌, filter, Some, None, Err, refl, ap, ◌∙◌, sym, append-nil, ⊎_elim}
+use Rattle.std.proofs.Common.{◌≡◌, ℕ, Bool, true, false, not, List, [], ◌∷◌, ◌++◌, filter, Some, Err, refl, ap, ◌∙◌, sym, append-nil}
 use Rattle.std.specs.Prelude.{Option}
 use Rattle.std.specs.List.{flat_map, filter_map}
 use Rattle.std.proofs.lemmas.List.Concat.{flat_map-append}
 use Rattle.std.proofs.lemmas.List.Elements.{filter-append, filter_map-append}
 use Rattle.std.proofs.lemmas.List.Sums.{take_while-cons}
-use Rattle.std.proofs.lemmas.Bool.{cases_Bool}
-use Rattle.edi_tables.specs.declared.element.Code.{Code}
 use Rattle.edi_tables.specs.declared.element.PartDef.{PartDef}
-use Rattle.edi_tables.specs.declared.segment.ItemDef.{ItemDef}
-use Rattle.edi_tables.specs.declared.segment.ItemDef.TheVariants.{Alone, Composite}
 use Rattle.edi_octets.specs.declared.fault.DirStop.{DirStop}
 use Rattle.edi_tables.specs.First.{Answers, unless_faulty}
 use Rattle.edi_octets.specs.DirStop.{fault_in}
 use Rattle.edi_octets.specs.Lines.{Line}
-use Rattle.edi_octets.specs.Profile.{fields_of, first_field}
-use Rattle.dir_composites.specs.Parts.{is_item_line, part_in, is_placed, fields_behind, is_element_form, is_composite_form, composite_status, element_fault, composite_fault, fault_list}
-use Rattle.dir_segments.specs.Segments.{item_at, items_of, details_of, is_part_line, detail_faults, repeated_parts, line_faults, alone_item, composite_item, item_in}
+use Rattle.edi_octets.specs.Profile.{fields_of}
+use Rattle.dir_composites.specs.Parts.{is_item_line, part_in, is_placed, fields_behind, is_element_form, is_composite_form, element_fault, composite_fault, fault_list}
+use Rattle.dir_segments.specs.Segments.{item_at, items_of, details_of, is_part_line, detail_faults, repeated_parts, line_faults}
 use Rattle.dir_composites.proofs.StopLemmas.{stops}
 use Rattle.dir_composites.proofs.FrontLemmas.{goes_on, goes_at}
 
@@ -81,33 +77,3 @@ line_faults-element before line position form = rw (position, form) refl
 
 pub line_faults-composite : (before : Option ℕ) (line : Line) → is_placed line ≡ true → is_element_form (fields_behind line) ≡ false → is_composite_form (fields_behind line) ≡ true → line_faults before line ≡ fault_list line (composite_fault before line)
 line_faults-composite before line position other form = rw (position, other, form) refl
-
--- an item that names a composite has a composite's form, and others don't
-some_of : (o : Option PartDef) (item : ItemDef) → alone_item o ≡ Some item → (part : PartDef) × (item ≡ Alone part)
-some_of None item is = cc
-some_of (Some part) item is = (part, cc)
-
-some_named : (fields : List (List ℕ)) (o : Option Bool) (item : ItemDef) → composite_item fields o ≡ Some item → (must : Bool) × (item ≡ Composite (record { octets = first_field fields }) must)
-some_named fields None item is = cc
-some_named fields (Some must) item is = (must, cc)
-
-pub composite_parts : (fields : List (List ℕ)) (code : Code) (must : Bool) → item_in fields ≡ Some (Composite code must) → (is_composite_form fields ≡ true) × (code.octets ≡ first_field fields)
-composite_parts fields code must is =
-    ⊎_elim
-    (λ (form : is_composite_form fields ≡ true).
-    let named = some_named fields (composite_status fields) (Composite code must) (rw form at is) in
-    let same : code ≡ record { octets = first_field fields } = cc in
-    (form, ap (λ (k : Code). k.octets) same))
-    (λ (form : is_composite_form fields ≡ false).
-    let alone = some_of (part_in fields) (Composite code must) (rw form at is) in
-    absurd (let e = alone.1 in cc))
-    (cases_Bool (is_composite_form fields))
-
-pub alone_form : (fields : List (List ℕ)) (part : PartDef) → item_in fields ≡ Some (Alone part) → is_composite_form fields ≡ false
-alone_form fields part is =
-    ⊎_elim
-    (λ (form : is_composite_form fields ≡ true).
-    let named = some_named fields (composite_status fields) (Alone part) (rw form at is) in
-    let e = named.1 in cc)
-    (λ (form : is_composite_form fields ≡ false). form)
-    (cases_Bool (is_composite_form fields))

@@ -1,6 +1,5 @@
 //! The lines of segments and messages.
 ghost use Rattle.std.specs.Prelude.{◌≡◌, ◌++◌, OnOk};
-ghost use Rattle.edi_tables.specs.Rows.{table_faults};
 ghost use Rattle.dir_store.specs.Spelling.{segment_text, item_text, row_text, row_name, message_text};
 ghost use Rattle.dir_store.specs.Store.{segment_at, item_at, row_at, message_at};
 

@@ -1,5 +1,5 @@
 //! Reading a source, or an open file, to its end.
-ghost use Rattle.std.specs.Prelude.{◌≡◌, ◌++◌, ◌+◌, ◌<◌, ◌≤◌, ℕ, true, length, IsErrOf, OnOk};
+ghost use Rattle.std.specs.Prelude.{◌≡◌, ◌<◌, ◌≤◌, true, length, IsErrOf};
 ghost use Rattle.edi_ports.specs.Faults.{HasRisen};
 ghost use Rattle.edi_ports.specs.Read.{IsReadAll, IsGathering};
 

@@ -1,7 +1,7 @@
 //! Which rows are a segment table, and the nodes that they stand for.
 ghost use Rattle.std.specs.Prelude.{◌≡◌, ◌+◌, ◌-◌, ◌<◌, ◌≤◌, [], ◌++◌, Some, length, take, replicate, IfOk, nat_lt, slice_get};
 ghost use Rattle.std.specs.List.{prefix_len};
-ghost use Rattle.edi_tables.specs.Rows.{has_name, is_frame_row, breaks_frame, breaks_envelope, breaks_max, breaks_depth, breaks_trigger, depth_behind, is_group_row, is_trigger_row, row_faults, table_faults, end_of, nodes_of};
+ghost use Rattle.edi_tables.specs.Rows.{has_name, is_frame_row, breaks_frame, breaks_envelope, breaks_depth, breaks_trigger, depth_behind, is_trigger_row, row_faults, table_faults, end_of, nodes_of};
 
 use crate::{Node, RowFault, TableKind, TableRow, Tag};
 use std::alloc::{AllocError, Global};

@@ -1,5 +1,5 @@
 //! The printed error list.
-ghost use Rattle.std.specs.Prelude.{[], ◌≡◌, ◌∷◌, ◌++◌, length, IfOk, OnOk};
+ghost use Rattle.std.specs.Prelude.{[], ◌≡◌, ◌∷◌, ◌++◌, IfOk, OnOk};
 ghost use Rattle.error_ledger.specs.Printing.{
   error_line,
   errors_text,

@@ -1,6 +1,6 @@
 //! Sequences of pieces: where a place falls, how they are cut there, and how octets are put between two of them.
 
-ghost use Rattle.std.specs.Prelude.{◌≡◌, ◌+◌, ◌^◌, ◌<◌, ◌≤◌, [], ◌∷◌, ◌++◌, length, take, slice_get, Some, IfOk, OnOk};
+ghost use Rattle.std.specs.Prelude.{◌≡◌, ◌+◌, ◌<◌, ◌≤◌, [], ◌∷◌, ◌++◌, length, take, slice_get, Some, IfOk, OnOk};
 ghost use Rattle.std.specs.List.{concat};
 ghost use Rattle.piece_text.specs.Pieces.{AreFull, IsSplit};
 

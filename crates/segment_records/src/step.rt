@@ -1,5 +1,5 @@
 //! One segment after another: where a segment is by the mode before it, and the mode after it.
-ghost use Rattle.std.specs.Prelude.{◌≡◌, ◌+◌, ◌∷◌, ◌<◌, ◌≤◌, [], ℕ, codes, length, IfOk, IfSome, if◌then◌else◌};
+ghost use Rattle.std.specs.Prelude.{◌≡◌, ◌+◌, ◌<◌, ◌≤◌, [], ℕ, codes, length, IfOk, IfSome, if◌then◌else◌};
 ghost use Rattle.edi_tables.specs.Rows.{has_name};
 ghost use Rattle.dir_compile.specs.Directory.{tables_of};
 ghost use Rattle.seg_lexer.specs.Left.{components_left};

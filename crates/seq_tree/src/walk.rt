@@ -1,6 +1,6 @@
 //! The items of a sequence in order: a walk over its tree that keeps the trees still to come.
 
-ghost use Rattle.std.specs.Prelude.{◌≡◌, ◌+◌, ◌<◌, ◌≤◌, [], ◌∷◌, ◌++◌, length, drop, IfSome, IfNone};
+ghost use Rattle.std.specs.Prelude.{◌≡◌, ◌+◌, ◌<◌, ◌≤◌, [], ◌++◌, length, drop, IfSome, IfNone};
 
 use arrayvec::ArrayVec;
 use shared_tree::{Measured, Node, Tree};

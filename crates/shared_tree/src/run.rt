@@ -1,6 +1,6 @@
 //! Items that lie side by side in a list, which other runs share.
 
-ghost use Rattle.std.specs.Prelude.{◌≡◌, ℕ, ◌+◌, ◌*◌, ◌^◌, ◌<◌, ◌≤◌, length, take, drop, sum_by, slice_get, slice_range, Some, IfOk};
+ghost use Rattle.std.specs.Prelude.{◌≡◌, ◌+◌, ◌*◌, ◌^◌, ◌<◌, ◌≤◌, length, take, drop, sum_by, slice_get, slice_range, Some, IfOk};
 
 use crate::look::Located;
 use crate::measure::Measured;

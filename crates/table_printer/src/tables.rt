@@ -1,5 +1,5 @@
 //! The printed forms of a directory's segment tables.
-ghost use Rattle.std.specs.Prelude.{◌≡◌, ◌++◌, length, map, IfOk, OnOk};
+ghost use Rattle.std.specs.Prelude.{◌≡◌, ◌++◌, map, IfOk, OnOk};
 ghost use Rattle.std.specs.List.{flat_map};
 ghost use Rattle.collision_check.specs.Listed.{collision_seen};
 ghost use Rattle.table_printer.specs.Tables.{

@@ -1,5 +1,5 @@
 //! A shelf in memory.
-ghost use Rattle.std.specs.Prelude.{◌≡◌, ◌≤◌, ◌<◌, ◌^◌, [], true, false, Some, None, is_some, length, IfSome, MatchOption};
+ghost use Rattle.std.specs.Prelude.{◌≡◌, ◌<◌, ◌^◌, [], true, false, Some, None, length, IfSome, MatchOption};
 ghost use Rattle.edi_ports.specs.Source.{IsTake, IsFailedTake, count_after_take};
 ghost use Rattle.edi_ports.specs.Shelf.{IsOpening, IsFailedOpening, count_after_opening, is_opened, file_named};
 ghost use Rattle.edi_ports.specs.Place.{IsPlaced, octets_at};

@@ -1,5 +1,5 @@
 //! A sink in memory.
-ghost use Rattle.std.specs.Prelude.{◌≡◌, ◌≤◌, ◌<◌, ◌+◌, ◌-◌, ◌^◌, ℕ, [], Some, length, vec_len, vec_capacity, IfOk};
+ghost use Rattle.std.specs.Prelude.{◌≡◌, ◌≤◌, ◌<◌, ◌-◌, ◌^◌, ℕ, [], Some, length, vec_len, vec_capacity, IfOk};
 ghost use Rattle.edi_ports.specs.Sink.{IsPut, KeepsRoom, count_after_put};
 
 use crate::memory::calls::Calls;

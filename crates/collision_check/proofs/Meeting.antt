@@ -12,7 +12,7 @@ use Rattle.std.proofs.lemmas.Slice.Eq.{bytes_eq-Decides}
 use Rattle.edi_tables.specs.declared.tag.Tag.{Tag}
 use Rattle.edi_tables.specs.declared.table.Node.{Node}
 use Rattle.edi_tables.specs.Walk.{is_must_at, tag_at, reached_node, missing_between, later_nodes, candidates_of}
-use Rattle.edi_tables.specs.Placement.{is_filled}
+use Rattle.edi_tables.specs.Filled.{is_filled}
 use Rattle.edi_tables.specs.Collisions.{is_follower, may_stand_again, followers_of, pair_at, shared_pairs}
 use Rattle.edi_tables.proofs.MissingLaws.{passes_must}
 use Rattle.edi_tables.proofs.Rising.{IsRising, misses_on}

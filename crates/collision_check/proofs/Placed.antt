@@ -12,7 +12,8 @@ use Rattle.edi_tables.specs.declared.tag.Tag.{Tag}
 use Rattle.edi_tables.specs.declared.table.Node.{Node}
 use Rattle.edi_tables.specs.Rows.{has_name, IsTable}
 use Rattle.edi_tables.specs.Walk.{tag_at, parent_at, max_at, is_group_at, is_repeat, candidates_of, missing_between}
-use Rattle.edi_tables.specs.Placement.{is_at, placed_since, placed_after, entry_count, group_count, last_placed, is_over, is_filled, rank_of, IsPlacement}
+use Rattle.edi_tables.specs.Placement.{is_at, placed_since, placed_after, entry_count, group_count, last_placed, is_over, rank_of, IsPlacement}
+use Rattle.edi_tables.specs.Filled.{is_filled}
 use Rattle.edi_tables.specs.Collisions.{is_in_front, front_of, is_follower, are_same_tag}
 use Rattle.edi_tables.proofs.NodeReads.{tag_at_is, is_group_at_is}
 use Rattle.edi_tables.proofs.TableLaws.{HasTableLaws, table_laws}

@@ -9,7 +9,8 @@ use Rattle.edi_tables.specs.Ascending.{is_before}
 use Rattle.dir_parts.specs.InOrder.{put_in_order, ascending_by, ordered_parts}
 use Rattle.dir_parts.specs.Ordered.{IsOrdered}
 use Rattle.dir_parts.specs.Forms.{HasForms}
-use Rattle.dir_parts.specs.Compile.{compile_faults, message_fault, message_faults, is_filled_with, message_name}
+use Rattle.dir_parts.specs.Compile.{compile_faults, message_fault, message_faults, message_name}
+use Rattle.edi_tables.specs.Filled.{is_filled}
 use Rattle.dir_compile.specs.Directory.{IsDirectory, directory_of}
 use Rattle.edi_tables.specs.First.{unless_faulty, Answers}
 use Rattle.dir_parts.specs.Judges.{IsFirstFault}
@@ -73,7 +74,7 @@ directory-ordered parts few forms none =
     }
 
 -- the rows of each message are a segment table, where no message has a fault
-not-filled : {A : Type 0} (xs : List A) → is_filled_with xs ≡ false → xs ≡ []
+not-filled : {A : Type 0} (xs : List A) → is_filled xs ≡ false → xs ≡ []
 not-filled [] e = refl
 not-filled (x ∷ xs) e = cc
 

@@ -9,7 +9,8 @@ use Rattle.std.proofs.lemmas.Bool.{cases_Bool, cases_lt, and_parts, lt-leb, and_
 use Rattle.std.proofs.lemmas.List.Sums.{prefix_len-le-length}
 use Rattle.edi_tables.specs.Tag.{is_digit}
 use Rattle.edi_octets.specs.Decimal.{decimal_in}
-use Rattle.edi_octets.specs.Lines.{is_filled, after_spaces}
+use Rattle.edi_octets.specs.Lines.{after_spaces}
+use Rattle.edi_tables.specs.Filled.{is_filled}
 use Rattle.edi_octets.proofs.DecimalLemmas.{digits_value-room, digits_value-least, decimal_in-value}
 use Rattle.dir_messages.specs.Message.{is_tail_octet, is_plain_number}
 use Rattle.dir_messages.specs.Parts.{count_in, counts_in, IsNumber}

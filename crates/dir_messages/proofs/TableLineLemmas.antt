@@ -10,7 +10,8 @@ use Rattle.std.proofs.lemmas.List.Folds.{list_any-append}
 use Rattle.std.proofs.lemmas.List.Splits.{slice_split_first, slice_split_none}
 use Rattle.std.proofs.lemmas.List.Sums.{prefix_len-le-length, fails_before_first, passes_at_first}
 use Rattle.std.proofs.lemmas.Slice.{drop-append-drop}
-use Rattle.edi_octets.specs.Lines.{Line, is_filled, cells_of, is_space, pieces_in, after_spaces}
+use Rattle.edi_octets.specs.Lines.{Line, cells_of, is_space, pieces_in, after_spaces}
+use Rattle.edi_tables.specs.Filled.{is_filled}
 use Rattle.edi_octets.specs.Profile.{is_marked, marks_of, unmarked, fields_of, indentation_of, first_field, has_digits, has_position, status_in, after_position}
 use Rattle.edi_octets.proofs.CellLemmas.{cells_of-skip, cells_of-first, cells_of-nil, no_octet, prefix_len-behind}
 use Rattle.dir_messages.specs.declared.table_line.Counts.{Counts}

@@ -15,7 +15,8 @@ use Rattle.edi_tables.specs.Rows.{table_faults, when}
 use Rattle.edi_octets.specs.declared.fault.DirKind.{DirKind}
 use Rattle.edi_octets.specs.declared.fault.DirKind.TheVariants.{BadLine, BadPosition, NoType, BadGroup, CloseWithoutOpen, NotClosed, TooMany, NoUnhUnt, EnvelopeTag, BadMax, TooDeep, NoTrigger}
 use Rattle.edi_octets.specs.declared.fault.DirFault.{DirFault}
-use Rattle.edi_octets.specs.Lines.{Line, is_filled, lines_of, pieces_in, after_spaces}
+use Rattle.edi_octets.specs.Lines.{Line, lines_of, pieces_in, after_spaces}
+use Rattle.edi_tables.specs.Filled.{is_filled}
 use Rattle.edi_octets.specs.Profile.{unmarked, fields_of, indentation_of, has_position, position_of, is_greater, after_position, status_in, with_earlier}
 use Rattle.edi_tables.specs.First.{unless_faulty}
 use Rattle.edi_octets.specs.DirStop.{at_line}

@@ -2,7 +2,8 @@
 use Rattle.std.specs.Prelude.{◌≡◌, ◌^◌, ◌≤◌, ℕ, Bool, true, false, ◌&&◌, nat_le, List, [], ◌∷◌, ◌++◌, length, filter, Option, Some, None, if◌then◌else◌}
 use Rattle.std.specs.List.{list_any, join_with_byte}
 use Rattle.std.specs.Str.Parse.{digits_value}
-use Rattle.edi_octets.specs.Lines.{is_filled, pieces_in, after_spaces, cells_of}
+use Rattle.edi_octets.specs.Lines.{pieces_in, after_spaces, cells_of}
+use Rattle.edi_tables.specs.Filled.{is_filled}
 use Rattle.edi_octets.specs.Profile.{unmarked, status_in}
 use Rattle.dir_messages.specs.declared.table_line.Counts.{Counts}
 use Rattle.dir_messages.specs.declared.form.Form.{Form}

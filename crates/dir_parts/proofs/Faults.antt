@@ -7,7 +7,7 @@ use Rattle.edi_tables.specs.Rows.{when}
 use Rattle.dir_parts.specs.declared.stop.CompileKind.{CompileKind}
 use Rattle.dir_parts.specs.declared.stop.CompileStop.{CompileStop}
 use Rattle.dir_parts.specs.declared.stop.CompileStop.TheVariants.{Fault, Memory}
-use Rattle.dir_parts.specs.Compile.{is_filled_with}
+use Rattle.edi_tables.specs.Filled.{is_filled}
 use Rattle.dir_parts.specs.Judges.{IsFirstFault, Judges}
 use Rattle.dir_parts.specs.Stop.{PartsFault, fault_with, IsStopAt}
 
@@ -92,10 +92,10 @@ pub judges-last : {T : Type 0} (r : Result T CompileStop) (xs ys : List PartsFau
 judges-last r xs ys none h = judges-same r ys (xs ++ ys) (ap (λ l. l ++ ys) (sym none)) h
 
 -- whether there is a first fault
-pub no-first : {A : Type 0} (xs : List A) → None ≡ slice_get xs 0 → is_filled_with xs ≡ false
+pub no-first : {A : Type 0} (xs : List A) → None ≡ slice_get xs 0 → is_filled xs ≡ false
 no-first [] e = refl
 no-first (x ∷ xs) e = cc
 
-pub a-first : {A : Type 0} (xs : List A) (x : A) → Some x ≡ slice_get xs 0 → is_filled_with xs ≡ true
+pub a-first : {A : Type 0} (xs : List A) (x : A) → Some x ≡ slice_get xs 0 → is_filled xs ≡ true
 a-first [] x e = cc
 a-first (y ∷ ys) x e = refl

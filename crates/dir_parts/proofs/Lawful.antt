@@ -13,7 +13,8 @@ use Rattle.dir_parts.specs.declared.stop.CompileKind.TheVariants.{UnknownElement
 use Rattle.edi_tables.specs.Ascending.{is_before}
 use Rattle.dir_parts.specs.InOrder.{ascending_by, ordered_list, ordered_parts}
 use Rattle.dir_parts.specs.Ordered.{IsInOrder}
-use Rattle.dir_parts.specs.Compile.{twice_in, named_in, list_fault, list_faults, part_against, part_faults, composite_fault, composite_faults, item_faults, segment_fault, segment_faults, tag_faults, message_fault, message_faults, is_service_tag, is_filled_with, compile_faults, value_name, element_name, list_name, composite_name, segment_name, message_name}
+use Rattle.dir_parts.specs.Compile.{twice_in, named_in, list_fault, list_faults, part_against, part_faults, composite_fault, composite_faults, item_faults, segment_fault, segment_faults, tag_faults, message_fault, message_faults, is_service_tag, compile_faults, value_name, element_name, list_name, composite_name, segment_name, message_name}
+use Rattle.edi_tables.specs.Filled.{is_filled}
 use Rattle.dir_parts.specs.Stop.{fault_with}
 use Rattle.dir_parts.proofs.AscendingLemmas.{Has, IsAscending, IsApart, same-ascending_by, ascending_by-ascending, apart-from-ascending, pairs-from-ascending, all-from-members}
 use Rattle.dir_parts.proofs.Apart.{apart-from-none, none-from-apart, named-same}
@@ -133,7 +134,7 @@ module _ (parts : Parts) (free : IsFaultFree parts) where
   ordered-messages : message_faults (ordered_parts parts) ≡ []
   unfolding ordered_parts
   ordered-messages =
-      (λ i. flat_map (λ message. when (bytes_eq (message_name message) (codes "CONTRL")) (fault_with Reserved (message_name message)) ++ flat_map (λ row. same-tag row.tag i) message.rows ++ when (is_filled_with (table_faults message.rows)) (fault_with BadTable (message_name message))) (ascending_by message_name parts.messages))
+      (λ i. flat_map (λ message. when (bytes_eq (message_name message) (codes "CONTRL")) (fault_with Reserved (message_name message)) ++ flat_map (λ row. same-tag row.tag i) message.rows ++ when (is_filled (table_faults message.rows)) (fault_with BadTable (message_name message))) (ascending_by message_name parts.messages))
       ∙ none-same (message_fault parts) parts.messages _ (same-ascending_by message_name parts.messages) free.messages
 
   -- the ordered parts are in order

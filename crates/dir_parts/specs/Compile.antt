@@ -1,11 +1,8 @@
 -- Which parts are a directory.
-use Rattle.std.specs.Prelude.{ℕ, Bool, true, false, not, ◌==◌, ◌&&◌, List, [], ◌∷◌, ◌++◌, find, Option, Some, None, is_some, codes}
+use Rattle.std.specs.Prelude.{ℕ, Bool, not, ◌&&◌, List, [], ◌∷◌, ◌++◌, find, Option, Some, None, is_some, codes}
 use Rattle.std.specs.List.{list_any, flat_map}
 use Rattle.std.specs.Str.{bytes_eq}
 use Rattle.edi_tables.specs.declared.tag.Tag.{Tag}
-use Rattle.edi_tables.specs.declared.element.Class.{Class}
-use Rattle.edi_tables.specs.declared.element.Class.TheVariants.{A, N, An}
-use Rattle.edi_tables.specs.declared.element.Repr.{Repr}
 use Rattle.edi_tables.specs.declared.element.ElementDef.{ElementDef}
 use Rattle.edi_tables.specs.declared.element.CodeList.{CodeList}
 use Rattle.edi_tables.specs.declared.element.PartDef.{PartDef}
@@ -15,7 +12,9 @@ use Rattle.edi_tables.specs.declared.segment.ItemDef.TheVariants.{Alone, Composi
 use Rattle.edi_tables.specs.declared.segment.SegmentDef.{SegmentDef}
 use Rattle.edi_tables.specs.declared.segment.TableRow.{TableRow}
 use Rattle.edi_tables.specs.declared.segment.MessageDef.{MessageDef}
+use Rattle.edi_tables.specs.Filled.{is_filled}
 use Rattle.edi_tables.specs.Rows.{table_faults, when}
+use Rattle.edi_tables.specs.Same.{is_same_repr}
 use Rattle.edi_octets.specs.Profile.{with_earlier}
 use Rattle.service_tables.specs.ServiceTables.{service_items_of}
 use Rattle.dir_parts.specs.declared.parts.Parts.{Parts}
@@ -59,24 +58,6 @@ twice_faults parts =
 -- the definition of that name, if there is one
 abbrev pub named_in : {A : Type 0} → (A → List ℕ) → List A → List ℕ → Option A
 named_in name xs wanted = find (λ x. bytes_eq (name x) wanted) xs
-
-abbrev pub is_same_class : Class → Class → Bool
-is_same_class A A = true
-is_same_class N N = true
-is_same_class An An = true
-is_same_class A N = false
-is_same_class A An = false
-is_same_class N A = false
-is_same_class N An = false
-is_same_class An A = false
-is_same_class An N = false
-
-abbrev pub is_same_bool : Bool → Bool → Bool
-is_same_bool true b = b
-is_same_bool false b = not b
-
-abbrev pub is_same_repr : Repr → Repr → Bool
-is_same_repr p q = is_same_class p.class q.class && is_same_bool p.exact q.exact && p.max == q.max
 
 -- each list is of an element of the directory
 abbrev pub list_fault : Parts → CodeList → List PartsFault
@@ -132,17 +113,12 @@ tag_faults parts (Some tag) =
 abbrev pub row_faults : Parts → TableRow → List PartsFault
 row_faults parts row = tag_faults parts row.tag
 
--- the rows are a segment table
-abbrev pub is_filled_with : {A : Type 0} → List A → Bool
-is_filled_with [] = false
-is_filled_with (x ∷ xs) = true
-
 -- a message isn't CONTRL, its rows name segments, and they are a segment table
 abbrev pub message_fault : Parts → MessageDef → List PartsFault
 message_fault parts message =
     when (bytes_eq (message_name message) (codes "CONTRL")) (fault_with Reserved (message_name message))
     ++ flat_map (row_faults parts) message.rows
-    ++ when (is_filled_with (table_faults message.rows)) (fault_with BadTable (message_name message))
+    ++ when (is_filled (table_faults message.rows)) (fault_with BadTable (message_name message))
 
 abbrev pub message_faults : Parts → List PartsFault
 message_faults parts = flat_map (message_fault parts) parts.messages

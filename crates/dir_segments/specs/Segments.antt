@@ -1,11 +1,9 @@
 -- What a segment file is, read with known composites.
-use Rattle.std.specs.Prelude.{ℕ, Bool, true, false, not, ◌&&◌, ◌==◌, List, [], ◌∷◌, ◌++◌, length, map, filter, find, take_while, Option, Some, None, is_some, Result, if◌then◌else◌}
+use Rattle.std.specs.Prelude.{ℕ, Bool, false, not, ◌&&◌, List, [], ◌∷◌, ◌++◌, length, map, filter, find, take_while, Option, Some, None, is_some, Result, if◌then◌else◌}
 use Rattle.std.specs.Cmp.Lexicographic.{pointwise}
 use Rattle.std.specs.List.{filter_map, flat_map, position}
 use Rattle.std.specs.Str.{bytes_eq}
 use Rattle.edi_tables.specs.Tag.{is_tag_of}
-use Rattle.edi_tables.specs.declared.element.Class.{Class}
-use Rattle.edi_tables.specs.declared.element.Class.TheVariants.{A, N, An}
 use Rattle.edi_tables.specs.declared.element.PartDef.{PartDef}
 use Rattle.edi_tables.specs.declared.element.CompositeDef.{CompositeDef}
 use Rattle.edi_tables.specs.declared.segment.ItemDef.{ItemDef}
@@ -13,10 +11,12 @@ use Rattle.edi_tables.specs.declared.segment.ItemDef.TheVariants.{Alone, Composi
 use Rattle.edi_tables.specs.declared.segment.SegmentDef.{SegmentDef}
 use Rattle.edi_octets.specs.declared.fault.DirFault.{DirFault}
 use Rattle.edi_octets.specs.declared.fault.DirKind.TheVariants.{BadLine, PartsDiffer}
-use Rattle.edi_octets.specs.Lines.{Line, is_filled, lines_of}
+use Rattle.edi_octets.specs.Lines.{Line, lines_of}
+use Rattle.edi_tables.specs.Filled.{is_filled}
 use Rattle.edi_tables.specs.Forms.{is_element_code}
 use Rattle.edi_octets.specs.Profile.{fields_of, first_field, position_of, entries_of, with_earlier}
 use Rattle.edi_tables.specs.First.{unless_faulty}
+use Rattle.edi_tables.specs.Same.{is_same_bool, is_same_repr}
 use Rattle.edi_octets.specs.DirStop.{at_line}
 use Rattle.edi_octets.specs.Head.{head_faults, head_field}
 use Rattle.dir_composites.specs.Parts.{is_item_line, fields_behind, is_placed, last_of, count_faults, is_element_form, is_composite_form, part_in, composite_status, element_fault, composite_fault, fault_list}
@@ -63,28 +63,10 @@ detail_faults below_composite line =
 abbrev pub repeated_parts : List Line → List PartDef
 repeated_parts details = filter_map (λ line. part_in (fields_of line.octets)) (filter is_part_line details)
 
--- two classes are one
-abbrev pub is_same_class : Class → Class → Bool
-is_same_class A A = true
-is_same_class N N = true
-is_same_class An An = true
-is_same_class A N = false
-is_same_class A An = false
-is_same_class N A = false
-is_same_class N An = false
-is_same_class An A = false
-is_same_class An N = false
-
--- two truth values are one
-abbrev pub is_same_bool : Bool → Bool → Bool
-is_same_bool true b = b
-is_same_bool false b = not b
-
 -- two parts with the same code, status and representation
 abbrev pub is_same_part : PartDef → PartDef → Bool
 is_same_part p q =
-    bytes_eq p.code.octets q.code.octets && is_same_bool p.must q.must && is_same_class p.repr.class q.repr.class
-    && is_same_bool p.repr.exact q.repr.exact && p.repr.max == q.repr.max
+    bytes_eq p.code.octets q.code.octets && is_same_bool p.must q.must && is_same_repr p.repr q.repr
 
 -- the first known composite of that code, if there is one
 abbrev pub known_composite : List CompositeDef → List ℕ → Option CompositeDef

@@ -16,14 +16,14 @@ use Rattle.edi_tables.specs.declared.segment.ItemDef.TheVariants.{Alone, Composi
 use Rattle.edi_tables.specs.declared.segment.TableRow.{TableRow}
 use Rattle.edi_tables.specs.Forms.{is_repr_formed, is_element_code, is_composite_code, is_element_formed, is_item_formed, is_row_formed}
 use Rattle.edi_tables.specs.Tag.{is_tag_of, is_tag_octet_of, is_capital}
-use Rattle.edi_octets.specs.Profile.{status_in}
+use Rattle.edi_octets.specs.Profile.{status_in, status_text}
 use Rattle.dir_parts.specs.declared.parts.Parts.{Parts}
 use Rattle.dir_parts.specs.Compile.{composite_name, segment_name, named_in, is_service_tag, item_faults, tag_faults, row_faults}
 use Rattle.edi_tables.proofs.AscendingLemmas.{before-trans, ascending-tail}
 use Rattle.dir_parts.proofs.AscendingLemmas.{Has, IsAscending}
 use Rattle.store_lines.specs.Lines.{Reading, lined}
 use Rattle.store_lines.specs.Rules.{is_between, kept, number_in, comes_after, part_of, composite_of, item_of, item_with, item_in, tag_of, called, row_of, row_with, row_in}
-use Rattle.dir_store.specs.Spelling.{status_text, item_text, row_name, row_text}
+use Rattle.dir_store.specs.Spelling.{item_text, row_name, row_text}
 use Rattle.dir_store.specs.Store.{item_at, row_at}
 use Rattle.line_words.specs.Words.{two_in, four_in}
 use Rattle.store_lines.proofs.LineLemmas.{some-is, and-both, IsPlain, IsLine, joined-line, two-takes, two-again, four-takes, four-again}

@@ -22,7 +22,8 @@ use Rattle.edi_tables.proofs.Lawful.{row_at, keeps, max_row, two_rows}
 use Rattle.dir_parts.specs.declared.parts.Parts.{Parts}
 use Rattle.dir_parts.specs.Stop.{fault_with}
 use Rattle.dir_parts.specs.declared.stop.CompileKind.TheVariants.{UnknownElement, Reserved, BadTable}
-use Rattle.dir_parts.specs.Compile.{element_name, list_name, composite_name, segment_name, message_name, value_name, named_in, is_service_tag, part_faults, list_fault, composite_fault, item_faults, segment_fault, row_faults, message_fault, is_filled_with}
+use Rattle.dir_parts.specs.Compile.{element_name, list_name, composite_name, segment_name, message_name, value_name, named_in, is_service_tag, part_faults, list_fault, composite_fault, item_faults, segment_fault, row_faults, message_fault}
+use Rattle.edi_tables.specs.Filled.{is_filled}
 use Rattle.store_lines.specs.Rules.{is_between, comes_after}
 use Rattle.dir_store.specs.Spelling.{value_text, part_text, item_text, row_text, list_text, composite_text, segment_text, message_text}
 use Rattle.dir_store.specs.Store.{value_at, list_of, list_at, part_at, composite_of, composite_at, item_at, segment_of, segment_at, row_at as row_read, message_of, message_at}
@@ -104,7 +105,7 @@ module _ (parts : Parts) where
   message_test before h = is_message_name h.0 && is_between 2 2000 h.1 && not (bytes_eq h.0 (codes "CONTRL")) && comes_after message_name before h.0
 
   message-takes : (before : Option MessageDef) (name : List ℕ) (rows : List TableRow) (message : MessageDef) → IsListed (message_test before) (λ b row. IsRow parts row) name rows → message_of name rows ≡ Some message → IsMessage before message × (name ≡ message.name) × (rows ≡ message.rows)
-  message-takes before name rows message is made = by (is_filled_with (table_faults rows)) refl made
+  message-takes before name rows message is made = by (is_filled (table_faults rows)) refl made
     where
       tests : (is_message_name name ≡ true) × (is_between 2 2000 (length rows) ≡ true) × (not (bytes_eq name (codes "CONTRL")) ≡ true) × (comes_after message_name before name ≡ true)
       tests = four (is_message_name name) (is_between 2 2000 (length rows)) (not (bytes_eq name (codes "CONTRL"))) (comes_after message_name before name) is.head
@@ -112,7 +113,7 @@ module _ (parts : Parts) where
       one : MessageDef
       one = record { name = name; rows = rows }
 
-      by : (faulty : Bool) → is_filled_with (table_faults rows) ≡ faulty → cond faulty None (Some one) ≡ Some message → IsMessage before message × (name ≡ message.name) × (rows ≡ message.rows)
+      by : (faulty : Bool) → is_filled (table_faults rows) ≡ faulty → cond faulty None (Some one) ≡ Some message → IsMessage before message × (name ≡ message.name) × (rows ≡ message.rows)
       by true filled found = absurd cc
       by false filled found =
           let same : one ≡ message = some-is one message found in
@@ -120,13 +121,13 @@ module _ (parts : Parts) where
           let known : flat_map (row_faults parts) rows ≡ [] = none-good (λ b row. IsRow parts row) (row_faults parts) (λ b x good. good.faultless) None rows is.good in
           let good : IsMessage before one = record {
             formed = and-both (is_message_name name) (list_all is_row_formed rows) tests.0 formed;
-            faultless = nil-both (when (bytes_eq name (codes "CONTRL")) (fault_with Reserved name) ++ flat_map (row_faults parts) rows) (when (is_filled_with (table_faults rows)) (fault_with BadTable name))
+            faultless = nil-both (when (bytes_eq name (codes "CONTRL")) (fault_with Reserved name) ++ flat_map (row_faults parts) rows) (when (is_filled (table_faults rows)) (fault_with BadTable name))
                 (nil-both (when (bytes_eq name (codes "CONTRL")) (fault_with Reserved name)) (flat_map (row_faults parts) rows) (unbroken-not (bytes_eq name (codes "CONTRL")) (fault_with Reserved name) tests.2) known) (ap (λ b. when b (fault_with BadTable name)) filled);
             after = tests.3;
           } in
           subst (λ (m : MessageDef). IsMessage before m × (name ≡ m.name) × (rows ≡ m.rows)) same (good, refl, refl)
 
-  unfilled : {F : Type 0} (xs : List F) → not (is_filled_with xs) ≡ true → xs ≡ []
+  unfilled : {F : Type 0} (xs : List F) → not (is_filled xs) ≡ true → xs ≡ []
   unfilled [] is = refl
   unfilled (x ∷ xs) is = absurd cc
 
@@ -149,11 +150,11 @@ module _ (parts : Parts) where
       let forms = and_parts (is_message_name name) (list_all is_row_formed rows) good.formed in
       let reserved = when (bytes_eq name (codes "CONTRL")) (fault_with Reserved name) in
       let unknown = flat_map (row_faults parts) rows in
-      let bad = when (is_filled_with (table_faults rows)) (fault_with BadTable name) in
+      let bad = when (is_filled (table_faults rows)) (fault_with BadTable name) in
       let front = nil-left (reserved ++ unknown) bad good.faultless in
       let other = not-broken (bytes_eq name (codes "CONTRL")) (fault_with Reserved name) (nil-left reserved unknown front) in
       let known = nil-right reserved unknown front in
-      let sound = not-broken (is_filled_with (table_faults rows)) (fault_with BadTable name) (nil-right (reserved ++ unknown) bad good.faultless) in
+      let sound = not-broken (is_filled (table_faults rows)) (fault_with BadTable name) (nil-right (reserved ++ unknown) bad good.faultless) in
       let none : table_faults rows ≡ [] = unfilled (table_faults rows) sound in
       let two = two_rows rows none in
       let few = few_rows rows none in

@@ -12,11 +12,11 @@ use Rattle.edi_tables.specs.declared.element.Class.{Class}
 use Rattle.edi_tables.specs.declared.element.Class.TheVariants.{A, N, An}
 use Rattle.edi_tables.specs.declared.element.Repr.{Repr}
 use Rattle.edi_tables.specs.Forms.{is_repr_formed}
-use Rattle.edi_octets.specs.Profile.{length_in, sized_repr, repr_behind, repr_in, status_in}
+use Rattle.edi_octets.specs.Profile.{length_in, sized_repr, repr_behind, repr_in, status_in, status_text}
 use Rattle.edi_octets.proofs.DecimalLemmas.{digit_between, digits_value-room}
 use Rattle.edi_octets.proofs.EachLemmas.{passes_if_made}
 use Rattle.edi_octets.proofs.ProfileLemmas.{repr_in-formed}
-use Rattle.dir_store.specs.Spelling.{class_text, dots_text, repr_text, status_text}
+use Rattle.dir_store.specs.Spelling.{class_text, dots_text, repr_text}
 use Rattle.store_lines.proofs.LineLemmas.{some-is, IsPlain}
 use Rattle.store_lines.proofs.NumberLemmas.{own, decimal-plain}
 

@@ -14,6 +14,7 @@ use Rattle.edi_tables.specs.declared.segment.ItemDef.TheVariants.{Alone, Composi
 use Rattle.edi_tables.specs.declared.segment.SegmentDef.{SegmentDef}
 use Rattle.edi_tables.specs.declared.segment.TableRow.{TableRow}
 use Rattle.edi_tables.specs.declared.segment.MessageDef.{MessageDef}
+use Rattle.edi_octets.specs.Profile.{status_text}
 use Rattle.dir_parts.specs.declared.parts.Parts.{Parts}
 
 -- a line: words separated by one space, and LF
@@ -38,11 +39,6 @@ dots_text false = codes ".."
 -- a representation, as `an..35`
 abbrev pub repr_text : Repr → List ℕ
 repr_text repr = class_text repr.class ++ dots_text repr.exact ++ decimal repr.max
-
--- a status: `M`, mandatory, or `C`, conditional
-abbrev pub status_text : Bool → List ℕ
-status_text true = codes "M"
-status_text false = codes "C"
 
 -- a data element: its code and its representation
 abbrev pub element_text : ElementDef → List ℕ

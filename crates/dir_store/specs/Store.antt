@@ -12,7 +12,7 @@ use Rattle.edi_tables.specs.declared.segment.TableRow.{TableRow}
 use Rattle.edi_tables.specs.declared.segment.MessageDef.{MessageDef}
 use Rattle.edi_tables.specs.Rows.{table_faults}
 use Rattle.dir_parts.specs.declared.parts.Parts.{Parts}
-use Rattle.dir_parts.specs.Compile.{is_filled_with}
+use Rattle.edi_tables.specs.Filled.{is_filled}
 use Rattle.dir_store.specs.Spelling.{first_line}
 use Rattle.line_words.specs.declared.labels.Labels.{Labels}
 use Rattle.store_lines.specs.Lines.{◌>>=◌, Reading, found_at, lined, several}
@@ -71,7 +71,7 @@ row_at segments before octets = lined (row_in segments) octets
 
 -- the rows of a message are a segment table: it is judged after its last row, and its fault is at the name's line
 abbrev pub message_of : List ℕ → List TableRow → Option MessageDef
-message_of name rows = if is_filled_with (table_faults rows) then None else Some (record { name = name; rows = rows })
+message_of name rows = if is_filled (table_faults rows) then None else Some (record { name = name; rows = rows })
 
 unfoldable pub message_at : List SegmentDef → Option MessageDef → List ℕ → Reading MessageDef
 message_at segments before octets = headed (message_in before) (row_at segments) message_of octets

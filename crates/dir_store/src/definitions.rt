@@ -1,10 +1,10 @@
 //! The lines of data elements, code lists and composites.
 ghost use Rattle.std.specs.Prelude.{◌≡◌, ◌++◌, OnOk};
-ghost use Rattle.dir_store.specs.Spelling.{element_text, list_text, value_text, part_text, composite_text, used_text, repr_text, class_text, status_text};
+ghost use Rattle.dir_store.specs.Spelling.{element_text, list_text, value_text, part_text, composite_text, used_text, repr_text, class_text};
 ghost use Rattle.dir_store.specs.Store.{element_at, list_at, value_at, part_at, composite_at};
 
 use crate::entry::{Entry, put_listed, read_several};
-use edi_octets::put_decimal;
+use edi_octets::{put_decimal, put_status};
 use edi_tables::{
     Chunk, Class, Code, CodeList, CompositeDef, ElementDef, List as Members, PartDef, Repr,
 };
@@ -161,11 +161,4 @@ pub fn put_used(out: &mut Chunk, code: Code, must: bool) -> Result<(), AllocErro
     out.add(b" ")?;
     put_status(out, must)?;
     out.add(b"\n")
-}
-
-/// Puts a status.
-pub fn put_status(out: &mut Chunk, must: bool) -> Result<(), AllocError>
-    ensures { OnOk result (out.new ≡ out.old ++ status_text must) }
-{
-    if must { out.add(b"M") } else { out.add(b"C") }
 }

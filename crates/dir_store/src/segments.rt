@@ -3,9 +3,9 @@ ghost use Rattle.std.specs.Prelude.{◌≡◌, ◌++◌, OnOk};
 ghost use Rattle.dir_store.specs.Spelling.{segment_text, item_text, row_text, row_name, message_text};
 ghost use Rattle.dir_store.specs.Store.{segment_at, item_at, row_at, message_at};
 
-use crate::definitions::{put_status, put_used};
+use crate::definitions::put_used;
 use crate::entry::{Entry, put_listed, read_several};
-use edi_octets::put_decimal;
+use edi_octets::{put_decimal, put_status};
 use edi_tables::{Chunk, ItemDef, List as Members, MessageDef, SegmentDef, Table, TableRow, Tag};
 use std::alloc::{AllocError, Global};
 use store_lines::{Known, Stop, item_on, message_on, read_line, row_on, segment_on};

@@ -6,7 +6,8 @@ use Rattle.std.proofs.lemmas.List.{drop_more, drop_all}
 use Rattle.std.proofs.lemmas.List.Elements.{All-from_get_or}
 use Rattle.std.proofs.lemmas.List.Sums.{prefix_len-le-length, fails_before_first, passes_at_first}
 use Rattle.std.proofs.lemmas.List.Splits.{slice_split_first, slice_split_none}
-use Rattle.edi_octets.specs.Lines.{is_filled, is_space, cells_of}
+use Rattle.edi_octets.specs.Lines.{is_space, cells_of}
+use Rattle.edi_tables.specs.Filled.{is_filled}
 use Rattle.edi_octets.specs.Profile.{is_mark, is_marked, marks_of, fields_of, indentation_of}
 
 pub is_filled-true : {A : Type 0} (xs : List A) → 0 < length xs → is_filled xs ≡ true

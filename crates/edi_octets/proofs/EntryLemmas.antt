@@ -5,7 +5,8 @@ use Rattle.std.proofs.lemmas.Bool.{cases_Bool}
 use Rattle.std.proofs.lemmas.List.{length-map}
 use Rattle.std.proofs.lemmas.List.Splits.{length-slice_split}
 use Rattle.std.proofs.lemmas.List.Sums.{length-filter, count_by-le-length}
-use Rattle.edi_octets.specs.Lines.{Line, is_filled}
+use Rattle.edi_octets.specs.Lines.{Line}
+use Rattle.edi_tables.specs.Filled.{is_filled}
 use Rattle.edi_octets.specs.Profile.{is_written, is_separator, entries_of, entries_within, body_within}
 use Rattle.edi_octets.proofs.SplitLemmas.{first_part, slice_split-cases}
 

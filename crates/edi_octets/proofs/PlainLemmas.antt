@@ -3,7 +3,8 @@ use Rattle.std.proofs.Common.{◌≡◌, ◌-◌, ◌+◌, ℕ, Bool, true, fals
 use Rattle.std.specs.List.{All, AllPass, slice_split}
 use Rattle.std.proofs.lemmas.Bool.{cases_Bool}
 use Rattle.std.proofs.lemmas.List.Elements.{All-cons, All-head, All-tail, All-take, All-drop, All-map, All-filter, All-weaker, filter_passes}
-use Rattle.edi_octets.specs.Lines.{Line, is_filled, without_return, line_octets, numbered_from, lines_from, lines_of, cells_of}
+use Rattle.edi_octets.specs.Lines.{Line, without_return, line_octets, numbered_from, lines_from, lines_of, cells_of}
+use Rattle.edi_tables.specs.Filled.{is_filled}
 use Rattle.edi_octets.specs.Profile.{fields_of, first_field, is_written, is_separator, entries_of}
 use Rattle.edi_octets.proofs.CellLemmas.{behind_marks, fields_of-behind}
 use Rattle.edi_octets.proofs.EachLemmas.{All-none, All-each, All-slice_split}

@@ -1,5 +1,5 @@
 -- Decimal numbers in a text.
-use Rattle.std.specs.Prelude.{ℕ, ◌&&◌, nat_le, List, length, Option, Some, None, if◌then◌else◌}
+use Rattle.std.specs.Prelude.{ℕ, ◌&&◌, nat_le, List, [], ◌∷◌, ◌++◌, length, Option, Some, None, codes, decimal, if◌then◌else◌}
 use Rattle.std.specs.Str.{all_ascii_digits}
 use Rattle.std.specs.Str.Parse.{digits_value}
 
@@ -9,3 +9,7 @@ decimal_in part =
     if nat_le 1 (length part) && nat_le (length part) 19 && all_ascii_digits part
     then Some (digits_value 10 part)
     else None
+
+-- the line of a word and a number
+abbrev pub count_line : List ℕ → ℕ → List ℕ
+count_line word n = word ++ codes " " ++ decimal n ++ 10 ∷ []

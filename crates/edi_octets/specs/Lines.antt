@@ -1,16 +1,12 @@
 -- The lines of a file, and the words of a line.
-use Rattle.std.specs.Prelude.{◌-◌, ◌+◌, ℕ, Bool, true, false, ◌==◌, List, [], ◌∷◌, length, take, drop, filter, slice_index, if◌then◌else◌}
+use Rattle.std.specs.Prelude.{◌-◌, ◌+◌, ℕ, Bool, ◌==◌, List, [], ◌∷◌, length, take, drop, filter, slice_index, if◌then◌else◌}
 use Rattle.std.specs.List.{slice_split, prefix_len}
+use Rattle.edi_tables.specs.Filled.{is_filled}
 
 -- a line and its number, from 1
 pub record Line : Type 0 where
   pub number : ℕ
   pub octets : List ℕ
-
--- whether a list has a member
-abbrev pub is_filled : {A : Type 0} → List A → Bool
-is_filled [] = false
-is_filled (x ∷ xs) = true
 
 -- a line that LF ends, without one CR directly before it
 abbrev pub without_return : List ℕ → List ℕ

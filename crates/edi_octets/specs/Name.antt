@@ -2,7 +2,7 @@
 use Rattle.std.specs.Prelude.{ℕ, Bool, not, ◌&&◌, ◌||◌, ◌==◌, nat_le, List, length, slice_index}
 use Rattle.std.specs.List.{slice_split, list_all}
 use Rattle.edi_tables.specs.Tag.{is_capital, is_digit}
-use Rattle.edi_octets.specs.Lines.{is_filled}
+use Rattle.edi_tables.specs.Filled.{is_filled}
 
 -- a letter of either case, a digit, `.`, `_` or `-`
 abbrev pub is_name_octet : ℕ → Bool

@@ -1,12 +1,13 @@
 -- The words of the directory text profile, which every directory file shares.
-use Rattle.std.specs.Prelude.{ℕ, Bool, true, false, not, ◌==◌, ◌&&◌, ◌||◌, nat_le, nat_lt, List, [], ◌∷◌, ◌++◌, length, drop, filter, map, slice_index, replicate, Option, Some, None, if◌then◌else◌}
+use Rattle.std.specs.Prelude.{ℕ, Bool, true, false, not, ◌==◌, ◌&&◌, ◌||◌, nat_le, nat_lt, List, [], ◌∷◌, ◌++◌, length, drop, filter, map, slice_index, replicate, Option, Some, None, codes, if◌then◌else◌}
 use Rattle.std.specs.List.{slice_split, list_all, prefix_len, before_first}
 use Rattle.std.specs.Str.{all_ascii_digits, bytes_eq}
 use Rattle.std.specs.Str.Parse.{digits_value}
 use Rattle.edi_tables.specs.declared.element.Class.{Class}
 use Rattle.edi_tables.specs.declared.element.Class.TheVariants.{A, N, An}
 use Rattle.edi_tables.specs.declared.element.Repr.{Repr}
-use Rattle.edi_octets.specs.Lines.{Line, is_filled, is_space, cells_of}
+use Rattle.edi_octets.specs.Lines.{Line, is_space, cells_of}
+use Rattle.edi_tables.specs.Filled.{is_filled}
 
 -- a mark of the published files: `+`, `*`, `#`, `|` or `X`
 abbrev pub is_mark : ℕ → Bool
@@ -109,6 +110,11 @@ repr_in field =
 abbrev pub status_in : List ℕ → Option Bool
 status_in (x ∷ []) = if x == 77 then Some true else (if x == 67 then Some false else None)
 status_in field = None
+
+-- the spelling of a status
+abbrev pub status_text : Bool → List ℕ
+status_text true = codes "M"
+status_text false = codes "C"
 
 -- the first field of a line, or none
 abbrev pub first_field : List (List ℕ) → List ℕ

@@ -1,7 +1,7 @@
 //! Decimal numbers.
 ghost use Rattle.std.specs.Prelude.{◌≡◌, ◌++◌, OnOk, OnErr, decimal};
 ghost use Rattle.std.specs.Str.{all_ascii_digits};
-ghost use Rattle.edi_octets.specs.Decimal.{decimal_in};
+ghost use Rattle.edi_octets.specs.Decimal.{count_line, decimal_in};
 
 use edi_tables::Chunk;
 use itoa::Buffer;
@@ -38,4 +38,14 @@ pub fn put_decimal(out: &mut Chunk, n: u64) -> Result<(), AllocError>
 {
     let mut buffer = Buffer::new();
     out.add(buffer.format(n).as_bytes())
+}
+
+/// Puts the line of a word and a number, with a space between them and LF after them.
+pub fn put_count(out: &mut Chunk, word: &[u8], n: usize) -> Result<(), AllocError>
+    ensures { OnOk result (out.new ≡ out.old ++ count_line word.now n) }
+{
+    out.add(word)?;
+    out.add(b" ")?;
+    put_decimal(out, n as u64)?;
+    out.add(b"\n")
 }

@@ -1,5 +1,5 @@
 //! The words of the directory text profile.
-ghost use Rattle.std.specs.Prelude.{◌≡◌, ◌==◌, ◌<◌, ◌≤◌, Some, None, drop, slice_index, if◌then◌else◌};
+ghost use Rattle.std.specs.Prelude.{◌≡◌, ◌==◌, ◌++◌, ◌<◌, ◌≤◌, OnOk, Some, None, drop, slice_index, if◌then◌else◌};
 ghost use Rattle.edi_tables.specs.Forms as forms;
 ghost use Rattle.edi_octets.specs.Profile as profile;
 ghost use Rattle.edi_octets.specs.Left.{cells_left, line_shown};
@@ -7,7 +7,8 @@ ghost use Rattle.edi_octets.specs.Left.{cells_left, line_shown};
 use crate::cells::Cells;
 use crate::decimal::{are_digits, read_decimal};
 use crate::lines::LineText;
-use edi_tables::{Class, Code, Repr};
+use edi_tables::{Chunk, Class, Code, Repr};
+use std::alloc::AllocError;
 
 /// The fewest `-` of a separator.
 const LEAST_DASHES: usize = 10;
@@ -140,6 +141,13 @@ pub fn read_status(field: &[u8]) -> Option<bool>
         b"C" => Some(false),
         _ => None,
     }
+}
+
+/// Puts a status: `M` where it is mandatory, else `C`.
+pub fn put_status(out: &mut Chunk, must: bool) -> Result<(), AllocError>
+    ensures { OnOk result (out.new ≡ out.old ++ profile.status_text must) }
+{
+    if must { out.add(b"M") } else { out.add(b"C") }
 }
 
 /// The position that a line begins with: its first field, where that has so many digits and no other octet.

@@ -7,7 +7,8 @@ use Rattle.std.proofs.lemmas.List.{reverse-append, drop-append-le, length-append
 use Rattle.std.proofs.lemmas.List.Sums.{sum_by-append}
 use Rattle.edi_tables.specs.declared.table.Node.{Node}
 use Rattle.edi_tables.specs.Walk.{parent_at, max_at, is_repeat, missing_between}
-use Rattle.edi_tables.specs.Placement.{is_at, from_last, placed_since, placed_after, entry_count, group_count, last_placed, is_over, is_filled, rank_of}
+use Rattle.edi_tables.specs.Placement.{is_at, from_last, placed_since, placed_after, entry_count, group_count, last_placed, is_over, rank_of}
+use Rattle.edi_tables.specs.Filled.{is_filled}
 use Rattle.edi_tables.specs.Collisions.{is_follower}
 
 -- a test as a number

@@ -6,7 +6,7 @@ use Rattle.std.specs.Iterator.{YieldsFirst}
 use Rattle.std.proofs.lemmas.Bool.{cases_Bool, ltb-false, lt-ltb, le-ltb, and_right}
 use Rattle.edi_tables.specs.declared.table.Node.{Node}
 use Rattle.edi_tables.specs.Walk.{is_must_at, is_trigger_at, reached_node, candidates_of, missing_between, missing_past, later_nodes}
-use Rattle.edi_tables.specs.Placement.{is_filled}
+use Rattle.edi_tables.specs.Filled.{is_filled}
 use Rattle.edi_tables.specs.Places.{candidates_left, musts_left, lies_before}
 
 -- of places from a bound on none passes and lies before it

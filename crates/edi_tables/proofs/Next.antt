@@ -8,7 +8,8 @@ use Rattle.std.proofs.lemmas.List.Folds.{list_any-append}
 use Rattle.edi_tables.specs.declared.table.Node.{Node}
 use Rattle.edi_tables.specs.Rows.{IsTable}
 use Rattle.edi_tables.specs.Walk.{is_group_at, is_trigger_at, is_repeat, max_at, groups_round, missing_between, candidates_of}
-use Rattle.edi_tables.specs.Placement.{entry_count, group_count, last_placed, is_over, is_filled, rank_of}
+use Rattle.edi_tables.specs.Placement.{entry_count, group_count, last_placed, is_over, rank_of}
+use Rattle.edi_tables.specs.Filled.{is_filled}
 use Rattle.edi_tables.specs.Pairs.{pairs_with, pairs_of, count_in, entry_in, group_next, entry_next, pairs_next, over_in, rank_in}
 use Rattle.edi_tables.proofs.Stepping.{is_round}
 use Rattle.edi_tables.proofs.Reaching.{round_ends}

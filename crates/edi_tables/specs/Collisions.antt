@@ -5,7 +5,7 @@ use Rattle.std.specs.Str.{bytes_eq}
 use Rattle.edi_tables.specs.declared.tag.Tag.{Tag}
 use Rattle.edi_tables.specs.declared.table.Node.{Node}
 use Rattle.edi_tables.specs.Walk.{tag_at, max_at, is_must_at, is_group_at, is_repeat, groups_round, candidates_of, missing_between}
-use Rattle.edi_tables.specs.Placement.{is_filled}
+use Rattle.edi_tables.specs.Filled.{is_filled}
 
 -- going from f to c: a repeated group, or f itself, stands a second time only where its greatest count is 2 or more
 abbrev pub may_stand_again : List Node → ℕ → ℕ → Bool

@@ -1,11 +1,13 @@
 pub mod Ascending
 pub mod Collisions
 pub mod Extents
+pub mod Filled
 pub mod First
 pub mod Forms
 pub mod Pairs
 pub mod Placement
 pub mod Places
 pub mod Rows
+pub mod Same
 pub mod Tag
 pub mod Walk

@@ -3,7 +3,8 @@
 use Rattle.std.specs.Prelude.{◌-◌, ◌+◌, ℕ, Bool, not, ◌==◌, ◌&&◌, nat_le, List, [], ◌∷◌, ◌++◌, map, reverse, Option, if◌then◌else◌}
 use Rattle.edi_tables.specs.declared.table.Node.{Node}
 use Rattle.edi_tables.specs.Walk.{max_at, is_trigger_at, is_repeat, groups_round, missing_between}
-use Rattle.edi_tables.specs.Placement.{entry_count, group_count, last_placed, is_filled}
+use Rattle.edi_tables.specs.Placement.{entry_count, group_count, last_placed}
+use Rattle.edi_tables.specs.Filled.{is_filled}
 
 -- the groups round an entry, outermost first, and the entry, each with a count
 abbrev pub pairs_with : List Node → ℕ → (ℕ → ℕ) → ℕ → List (ℕ × ℕ)

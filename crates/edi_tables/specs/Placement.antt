@@ -1,9 +1,10 @@
 -- Placements: which entries of a segment table the segments of a message may stand at.
-use Rattle.std.specs.Prelude.{◌≡◌, ◌<◌, ◌-◌, ◌+◌, ℕ, Bool, true, false, not, ◌==◌, ◌&&◌, nat_eq, nat_le, List, [], ◌∷◌, length, take, drop, map, count_by, slice_get, slice_index, Contains, Option, Some, None, codes, if◌then◌else◌}
+use Rattle.std.specs.Prelude.{◌≡◌, ◌<◌, ◌-◌, ◌+◌, ℕ, Bool, true, not, ◌==◌, ◌&&◌, nat_eq, nat_le, List, [], length, take, drop, map, count_by, slice_get, slice_index, Contains, Option, Some, None, codes, if◌then◌else◌}
 use Rattle.std.specs.List.{filter_map, after_last, suffix_len}
 use Rattle.std.specs.Option.{option_eq}
 use Rattle.edi_tables.specs.declared.tag.Tag.{Tag}
 use Rattle.edi_tables.specs.declared.table.Node.{Node}
+use Rattle.edi_tables.specs.Filled.{is_filled}
 use Rattle.edi_tables.specs.Rows.{has_name}
 use Rattle.edi_tables.specs.Walk.{tag_at, parent_at, max_at, is_repeat, candidates_of, missing_between, missing_past}
 
@@ -43,11 +44,6 @@ unfoldable pub is_over : List Node → List (Option ℕ) → ℕ → Bool
 is_over nodes placed c =
     if is_repeat nodes (last_placed placed) c then nat_le (max_at nodes (c - 1)) (group_count nodes placed (c - 1))
     else (c == last_placed placed && nat_le (max_at nodes c) (entry_count nodes placed c))
-
--- whether a list has a member
-abbrev pub is_filled : {A : Type 0} → List A → Bool
-is_filled [] = false
-is_filled (x ∷ xs) = true
 
 -- the rank of a candidate: 0 where nothing is missing and it isn't over, 1 if it is over alone,
 -- 2 if something is missing alone, 3 if both

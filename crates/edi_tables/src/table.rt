@@ -143,7 +143,7 @@ impl Table {
       missing_between,
       missing_past,
     };
-    ghost use Rattle.edi_tables.specs.Placement.{is_filled};
+    ghost use Rattle.edi_tables.specs.Filled.{is_filled};
 
     /// The group that holds a node; none where it is outside all groups.
     #[inline]

@@ -2,6 +2,7 @@
 use Rattle.std.specs.Prelude.{ℕ, ◌-◌, ◌*◌, ◌≤◌, ⊤, List, [], ◌∷◌, ◌++◌, length, replicate, Option, Some, None, IfSome, codes, decimal}
 use Rattle.std.specs.List.{flat_map}
 use Rattle.edi_tables.specs.declared.tag.Tag.{Tag}
+use Rattle.edi_octets.specs.Decimal.{count_line}
 use Rattle.error_ledger.specs.declared.error.ErrorLine.{ErrorLine}
 use Rattle.error_ledger.specs.declared.kind.Kind.{Kind}
 use Rattle.error_ledger.specs.declared.kind.Kind.TheVariants.{MissingSegment, MissingGroup}
@@ -10,10 +11,6 @@ use Rattle.error_ledger.specs.declared.tree.TreePlace.{TreePlace}
 use Rattle.error_ledger.specs.declared.tree.TreePlace.TheVariants.{Outside, Untabled, Unplaced, Placed}
 use Rattle.error_ledger.specs.declared.tree.GroupMark.{GroupMark}
 use Rattle.error_ledger.specs.Kinds.{word_of, code_of}
-
--- the line of a word and how many lines follow
-abbrev pub count_line : List ℕ → ℕ → List ℕ
-count_line word n = word ++ codes " " ++ decimal n ++ 10 ∷ []
 
 -- a tag, or `---` where there is none
 abbrev pub tag_shown : Option Tag → List ℕ

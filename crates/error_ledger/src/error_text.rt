@@ -10,8 +10,8 @@ ghost use Rattle.error_ledger.specs.Printing.{
 
 use crate::error::ErrorLine;
 use crate::kind::{Kind, code_of};
-use crate::put::{put_count, put_number, put_tag, room_for_lines};
-use edi_octets::put_decimal;
+use crate::put::{put_number, put_tag, room_for_lines};
+use edi_octets::{put_count, put_decimal};
 use edi_tables::{Chunk, Tag};
 use std::alloc::{AllocError, Global};
 

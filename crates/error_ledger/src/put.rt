@@ -1,6 +1,6 @@
 //! What both printed lists are made of.
 ghost use Rattle.std.specs.Prelude.{[], ◌≡◌, ◌∷◌, ◌++◌, IfOk, OnOk, codes, decimal};
-ghost use Rattle.error_ledger.specs.Printing.{count_line, tag_shown};
+ghost use Rattle.error_ledger.specs.Printing.{tag_shown};
 
 use edi_octets::put_decimal;
 use edi_tables::{Chunk, Tag};
@@ -19,16 +19,6 @@ pub(crate) fn room_for_lines(
 {
     let room = lines.saturating_mul(octets).saturating_add(COUNT_LINE_ROOM);
     Chunk::with_room(alloc, room)
-}
-
-/// The line of a word and how many lines follow.
-pub(crate) fn put_count(out: &mut Chunk, word: &[u8], lines: usize) -> Result<(), AllocError>
-    ensures { OnOk result (out.new ≡ out.old ++ count_line word.now lines) }
-{
-    out.add(word)?;
-    out.add(b" ")?;
-    put_decimal(out, lines as u64)?;
-    out.add(b"\n")
 }
 
 /// A number and a space.

@@ -1,23 +1,14 @@
 //! The printed tree.
 ghost use Rattle.std.specs.Prelude.{◌≡◌, ◌+◌, ◌-◌, ◌*◌, ◌<◌, ◌≤◌, [], ◌∷◌, ◌++◌, All, codes, count_by, length, IfOk, IfSome, OnOk};
 ghost use Rattle.std.specs.List.{flat_map};
-ghost use Rattle.error_ledger.specs.Printing.{
-  count_line,
-  tree_text,
-  tree_lines,
-  ended_lines,
-  group_line,
-  opening_lines,
-  placed_line,
-  numbered,
-  indentation,
-  IsWellPlaced,
-};
+ghost use Rattle.error_ledger.specs.Printing.{tree_text, tree_lines, ended_lines, group_line, opening_lines, placed_line, numbered, indentation, IsWellPlaced};
+ghost use Rattle.edi_octets.specs.Decimal.{count_line};
 ghost use Rattle.error_ledger.specs.TreeCount.{opens_group as opens_in_tree};
 
 use crate::line::Line;
-use crate::put::{put_count, room_for_lines, tag_octets};
+use crate::put::{room_for_lines, tag_octets};
 use crate::tree::{GroupMark, TreeLine, TreePlace};
+use edi_octets::put_count;
 use edi_tables::{Chunk, Tag};
 use std::alloc::{AllocError, Global};
 

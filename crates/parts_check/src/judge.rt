@@ -6,18 +6,8 @@ ghost use Rattle.edi_tables.specs.Rows.{table_faults, when};
 ghost use Rattle.dir_parts.specs.Judges.{Judges, reference_faults};
 ghost use Rattle.dir_parts.specs.Stop.{PartsFault, fault_with};
 ghost use Rattle.dir_parts.specs.Names.{IsNamesOf};
-ghost use Rattle.dir_parts.specs.Compile.{
-  element_name,
-  named_in,
-  list_fault,
-  part_faults,
-  composite_fault,
-  item_faults,
-  row_faults,
-  segment_fault,
-  message_fault,
-  is_filled_with,
-};
+ghost use Rattle.dir_parts.specs.Compile.{element_name, named_in, list_fault, part_faults, composite_fault, item_faults, row_faults, segment_fault, message_fault};
+ghost use Rattle.edi_tables.specs.Filled.{is_filled};
 
 use dir_parts::{CompileKind, CompileStop, Names, Parts, fault};
 use edi_tables::{
@@ -180,7 +170,7 @@ fn element_named<'a>(parts: &'a Parts, names: &Names, code: Code) -> Option<&'a 
 
 /// Judges the rows of a message as a segment table.
 fn judge_table(alloc: Global, name: &[u8], rows: &[TableRow]) -> Result<(), CompileStop>
-    ensures { Judges result (when (is_filled_with (table_faults rows.now))
+    ensures { Judges result (when (is_filled (table_faults rows.now))
         (fault_with CompileKind.BadTable name.now)) }
 {
     match Table::first_fault(rows) {

@@ -1,11 +1,13 @@
 -- The printed forms of a directory's segment tables.
-use Rattle.std.specs.Prelude.{ℕ, ◌+◌, Bool, true, false, nat_lt, List, [], ◌∷◌, ◌++◌, length, map, Option, Some, None, codes, decimal, if◌then◌else◌}
+use Rattle.std.specs.Prelude.{ℕ, ◌+◌, nat_lt, List, [], ◌∷◌, ◌++◌, length, map, Option, Some, None, codes, decimal, if◌then◌else◌}
 use Rattle.std.specs.List.{flat_map, join_with_byte}
 use Rattle.edi_tables.specs.declared.tag.Tag.{Tag}
 use Rattle.edi_tables.specs.declared.segment.TableRow.{TableRow}
 use Rattle.edi_tables.specs.declared.segment.MessageDef.{MessageDef}
 use Rattle.edi_tables.specs.Rows.{nodes_of}
 use Rattle.edi_tables.specs.Collisions.{Collision, collisions_of}
+use Rattle.edi_octets.specs.Decimal.{count_line}
+use Rattle.edi_octets.specs.Profile.{status_text}
 use Rattle.dir_parts.specs.declared.parts.Parts.{Parts}
 
 -- what a node is called: its tag, or `group`
@@ -13,16 +15,11 @@ abbrev pub node_shown : Option Tag → List ℕ
 node_shown None = codes "group"
 node_shown (Some tag) = tag.octets
 
--- a status: `M`, mandatory, or `C`, conditional
-abbrev pub status_shown : Bool → List ℕ
-status_shown true = codes "M"
-status_shown false = codes "C"
-
 -- the line of node k: its number, its depth, what it is called, its status and its greatest count
 unfoldable pub node_line : ℕ → TableRow → List ℕ
 node_line k row =
     decimal k ++ codes " " ++ decimal row.depth ++ codes " " ++ node_shown row.tag
-    ++ codes " " ++ status_shown row.must ++ codes " " ++ decimal row.max ++ 10 ∷ []
+    ++ codes " " ++ status_text row.must ++ codes " " ++ decimal row.max ++ 10 ∷ []
 
 -- the lines of nodes, numbered from k
 abbrev pub node_lines_from : ℕ → List TableRow → List ℕ
@@ -45,15 +42,11 @@ unfoldable pub collision_line : Collision → List ℕ
 collision_line c =
     tags_shown c.tags ++ codes " | " ++ entries_shown c.first ++ codes " | " ++ entries_shown c.second ++ 10 ∷ []
 
--- a line of a word and a number
-abbrev pub numbered_line : List ℕ → ℕ → List ℕ
-numbered_line word n = word ++ codes " " ++ decimal n ++ 10 ∷ []
-
 -- a table: its name and how many nodes it has, its nodes, how many collisions it has, and these
 unfoldable pub table_text : MessageDef → List Collision → List ℕ
 table_text message collisions =
-    codes "table " ++ numbered_line message.name (length message.rows) ++ node_lines_from 0 message.rows
-    ++ numbered_line (codes "collisions") (length collisions) ++ flat_map collision_line collisions
+    codes "table " ++ count_line message.name (length message.rows) ++ node_lines_from 0 message.rows
+    ++ count_line (codes "collisions") (length collisions) ++ flat_map collision_line collisions
 
 -- the table of a message, with its collisions
 abbrev pub message_text : MessageDef → List ℕ

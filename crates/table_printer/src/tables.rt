@@ -2,24 +2,11 @@
 ghost use Rattle.std.specs.Prelude.{◌≡◌, ◌++◌, map, IfOk, OnOk};
 ghost use Rattle.std.specs.List.{flat_map};
 ghost use Rattle.collision_check.specs.Listed.{collision_seen};
-ghost use Rattle.table_printer.specs.Tables.{
-  collision_line,
-  entries_shown,
-  gap,
-  labels_line,
-  node_line,
-  node_lines_from,
-  node_shown,
-  numbered_line,
-  status_shown,
-  table_text,
-  tables_text,
-  tags_shown,
-};
+ghost use Rattle.table_printer.specs.Tables.{collision_line, entries_shown, gap, labels_line, node_line, node_lines_from, node_shown, table_text, tables_text, tags_shown};
 
 use collision_check::Collision;
 use dir_compile::{Directory, Parts};
-use edi_octets::put_decimal;
+use edi_octets::{put_count, put_decimal, put_status};
 use edi_tables::{Chunk, MessageDef, TableRow, Tag};
 use std::alloc::{AllocError, Global};
 
@@ -62,20 +49,10 @@ fn put_table(
 {
     let rows = message.rows.items();
     out.add(b"table ")?;
-    put_numbered(out, message.name.octets(), rows.len())?;
+    put_count(out, message.name.octets(), rows.len())?;
     put_nodes(out, rows)?;
-    put_numbered(out, b"collisions", collisions.len())?;
+    put_count(out, b"collisions", collisions.len())?;
     put_collisions(out, collisions)
-}
-
-// A line of a word and a number.
-fn put_numbered(out: &mut Chunk, word: &[u8], n: usize) -> Result<(), AllocError>
-    ensures { OnOk result (out.new ≡ out.old ++ numbered_line word.now n) }
-{
-    out.add(word)?;
-    out.add(b" ")?;
-    put_decimal(out, n as u64)?;
-    out.add(b"\n")
 }
 
 // The lines of nodes, numbered from 0.
@@ -112,12 +89,6 @@ fn put_node_name(out: &mut Chunk, tag: Option<Tag>) -> Result<(), AllocError>
         Some(tag) => out.add(&tag.octets),
         None => out.add(b"group"),
     }
-}
-
-fn put_status(out: &mut Chunk, must: bool) -> Result<(), AllocError>
-    ensures { OnOk result (out.new ≡ out.old ++ status_shown must) }
-{
-    if must { out.add(b"M") } else { out.add(b"C") }
 }
 
 // The lines of collisions.

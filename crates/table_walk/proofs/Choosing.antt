@@ -5,7 +5,8 @@ use Rattle.std.proofs.lemmas.Bool.{cond_both, false≢true, lt-ltb}
 use Rattle.std.proofs.lemmas.List.Elements.{All-cons, All-head, All-tail, All-filter, All-weaker}
 use Rattle.edi_tables.specs.declared.table.Node.{Node}
 use Rattle.edi_tables.specs.Walk.{is_must_at, reached_node, later_nodes, candidates_of, missing_between}
-use Rattle.edi_tables.specs.Placement.{is_filled, is_over, last_placed, rank_of}
+use Rattle.edi_tables.specs.Placement.{is_over, last_placed, rank_of}
+use Rattle.edi_tables.specs.Filled.{is_filled}
 use Rattle.edi_tables.proofs.MissingLaws.{passes_must}
 use Rattle.edi_tables.proofs.Rising.{IsRising, rising_pairs, misses_on}
 use Rattle.table_walk.specs.declared.position.Best.{Best}

@@ -11,7 +11,8 @@ use Rattle.edi_tables.specs.declared.tag.Tag.{Tag}
 use Rattle.edi_tables.specs.declared.table.Node.{Node}
 use Rattle.edi_tables.specs.Rows.{IsTable}
 use Rattle.edi_tables.specs.Walk.{tag_at, candidates_of, is_repeat, missing_between, missing_past}
-use Rattle.edi_tables.specs.Placement.{last_placed, entry_count, group_count, is_over, is_filled, rank_of, IsPlacement, IsDerivation}
+use Rattle.edi_tables.specs.Placement.{last_placed, entry_count, group_count, is_over, rank_of, IsPlacement, IsDerivation}
+use Rattle.edi_tables.specs.Filled.{is_filled}
 use Rattle.edi_tables.specs.Collisions.{are_same_tag, is_follower, followers_of, collisions_of}
 use Rattle.edi_tables.specs.Extents.{tag_in}
 use Rattle.edi_tables.proofs.Stepping.{is_round}

@@ -8,7 +8,8 @@ use Rattle.edi_tables.specs.declared.tag.Tag.{Tag}
 use Rattle.edi_tables.specs.declared.table.Node.{Node}
 use Rattle.edi_tables.specs.Rows.{IsTable}
 use Rattle.edi_tables.specs.Walk.{candidates_of, missing_between}
-use Rattle.edi_tables.specs.Placement.{last_placed, is_over, is_filled, rank_of}
+use Rattle.edi_tables.specs.Placement.{last_placed, is_over, rank_of}
+use Rattle.edi_tables.specs.Filled.{is_filled}
 use Rattle.edi_tables.specs.Extents.{tag_in}
 use Rattle.table_walk.specs.Reading.{has_tag, IsMember, member_at, IsReading, member_of, reading_from, reading_of}
 use Rattle.table_walk.specs.Errors.{Fault, faults_of, faults_at}

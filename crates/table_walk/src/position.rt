@@ -2,7 +2,7 @@
 ghost use Rattle.std.specs.Prelude.{◌≡◌, ◌<◌, ◌≤◌, Some, All, AllPairs, IfOk, filter, nat_le, nat_lt, length, if◌then◌else◌};
 ghost use Rattle.edi_tables.specs.Rows.{IsTable};
 ghost use Rattle.edi_tables.specs.Walk.{max_at, missing_between, missing_past, reached_node};
-ghost use Rattle.edi_tables.specs.Placement.{is_filled};
+ghost use Rattle.edi_tables.specs.Filled.{is_filled};
 ghost use Rattle.edi_tables.specs.Pairs.{count_in, entry_in, entry_next, group_next, over_in, pairs_next, rank_in};
 ghost use Rattle.table_walk.specs.Reading.{has_tag, least_from};
 ghost use Rattle.table_walk.specs.Steps.{AreCountsUpTo, IsShaped, member_in};

@@ -1,5 +1,5 @@
 -- The lines of segments, one after another.
-use Rattle.std.proofs.Common.{◌≡◌, ◌+◌, ◌++◌, ◌<◌, ℕ, List, [], length, drop, Some, sym, ap, ◌∙◌, subst, arith}
+use Rattle.std.proofs.Common.{◌≡◌, ◌+◌, ◌++◌, ◌<◌, ℕ, List, [], codes, length, drop, Some, sym, ap, ◌∙◌, subst, arith}
 use Rattle.std.proofs.lemmas.Bool.{ltb-true}
 use Rattle.std.proofs.lemmas.List.{append_assoc, append-nil, drop_all}
 use Rattle.std.proofs.lemmas.Option.{cond_some}
@@ -10,7 +10,8 @@ use Rattle.seg_lexer.specs.declared.service.Service.{Service}
 use Rattle.seg_lexer.specs.Segments.{segments_of, tail_of}
 use Rattle.seg_lexer.specs.Service.{service_of}
 use Rattle.text_printer.specs.declared.text.Detail.{Detail}
-use Rattle.text_printer.specs.Printing.{printed_text, segments_from, segment_lines, count_line, tail_line}
+use Rattle.edi_octets.specs.Decimal.{count_line}
+use Rattle.text_printer.specs.Printing.{printed_text, segments_from, segment_lines, tail_line}
 
 -- after the lines of the first k segments come those of the next one
 pub lines_next : (detail : Detail) (service : Service) (text : List ℕ) (segments : List Stretch) (k : ℕ) (p : Stretch) (before after all : List ℕ) → slice_get segments k ≡ Some p → before ++ segments_from detail service text (k + 1) (drop k segments) ≡ all → after ≡ before ++ segment_lines detail service text (k + 1) p → after ++ segments_from detail service text (k + 1 + 1) (drop (k + 1) segments) ≡ all
@@ -31,7 +32,7 @@ tail_within service text start is =
     subst (λ (x : ℕ). x < length text) found.1 (ltb-true _ _ found.0)
 
 -- the count and the lines are the printed form
-pub printed_is : (detail : Detail) (text lines : List ℕ) (n : ℕ) → n ≡ length (segments_of (service_of text) text) → lines ≡ segments_from detail (service_of text) text 1 (segments_of (service_of text) text) ++ tail_line text (tail_of (service_of text) text) → count_line n ++ lines ≡ printed_text detail text
+pub printed_is : (detail : Detail) (text lines : List ℕ) (n : ℕ) → n ≡ length (segments_of (service_of text) text) → lines ≡ segments_from detail (service_of text) text 1 (segments_of (service_of text) text) ++ tail_line text (tail_of (service_of text) text) → count_line (codes "segments") n ++ lines ≡ printed_text detail text
 unfolding printed_text
 printed_is detail text lines n n_is lines_is =
-    rw (n_is, lines_is) (sym (append_assoc (count_line (length (segments_of (service_of text) text))) (segments_from detail (service_of text) text 1 (segments_of (service_of text) text)) (tail_line text (tail_of (service_of text) text))))
+    rw (n_is, lines_is) (sym (append_assoc (count_line (codes "segments") (length (segments_of (service_of text) text))) (segments_from detail (service_of text) text 1 (segments_of (service_of text) text)) (tail_line text (tail_of (service_of text) text))))

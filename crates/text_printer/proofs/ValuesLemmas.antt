@@ -3,7 +3,7 @@ use Rattle.std.proofs.Common.{◌≡◌, ◌++◌, ℕ, Bool, not, ◌&&◌, con
 use Rattle.std.specs.Prelude.{map}
 use Rattle.std.specs.List.{flat_map}
 use Rattle.std.proofs.lemmas.Bool.{cases_Bool}
-use Rattle.edi_octets.specs.Lines.{is_filled}
+use Rattle.edi_tables.specs.Filled.{is_filled}
 use Rattle.seg_lexer.specs.Fields.{Component, IsInOrder, PlacedComponent, unplaced}
 use Rattle.value_lexer.specs.Stretch.{Stretch}
 use Rattle.seg_lexer.specs.Tag.{past_tag_field, tag_of}

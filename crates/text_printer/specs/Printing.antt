@@ -2,7 +2,8 @@
 use Rattle.std.specs.Prelude.{ℕ, ◌+◌, ◌-◌, ◌/◌, ◌%◌, Bool, false, not, ◌&&◌, ◌==◌, nat_le, List, [], ◌∷◌, ◌++◌, length, Option, Some, None, codes, decimal, if◌then◌else◌}
 use Rattle.std.specs.List.{flat_map}
 use Rattle.std.specs.Fmt.{digit_glyph}
-use Rattle.edi_octets.specs.Lines.{is_filled}
+use Rattle.edi_tables.specs.Filled.{is_filled}
+use Rattle.edi_octets.specs.Decimal.{count_line}
 use Rattle.seg_lexer.specs.declared.service.Service.{Service}
 use Rattle.seg_lexer.specs.Service.{service_of}
 use Rattle.seg_lexer.specs.Segments.{segments_of, tail_of}
@@ -75,14 +76,10 @@ abbrev pub tail_line : List ℕ → Option ℕ → List ℕ
 tail_line text None = []
 tail_line text (Some start) = codes "tail " ++ decimal start ++ codes " " ++ decimal (length text - start) ++ 10 ∷ []
 
--- how many segments there are
-abbrev pub count_line : ℕ → List ℕ
-count_line n = codes "segments " ++ decimal n ++ 10 ∷ []
-
 -- the printed form of a text: how many segments it has, each of them, and its tail
 unfoldable pub printed_text : Detail → List ℕ → List ℕ
 printed_text detail text =
     let service = service_of text in
-    count_line (length (segments_of service text))
+    count_line (codes "segments") (length (segments_of service text))
     ++ segments_from detail service text 1 (segments_of service text)
     ++ tail_line text (tail_of service text)

@@ -1,12 +1,13 @@
 //! The printed forms of a text.
-ghost use Rattle.std.specs.Prelude.{◌≡◌, ◌+◌, ◌++◌, ◌<◌, ◌≤◌, length, IfOk, OnOk};
+ghost use Rattle.std.specs.Prelude.{◌≡◌, ◌+◌, ◌++◌, ◌<◌, ◌≤◌, codes, length, IfOk, OnOk};
+ghost use Rattle.edi_octets.specs.Decimal.{count_line};
 ghost use Rattle.seg_lexer.specs.Segments.{segments_of, tail_of};
 ghost use Rattle.seg_lexer.specs.Service.{IsUsable, service_of};
-ghost use Rattle.text_printer.specs.Printing.{printed_text, segments_from, segment_lines, count_line, tail_line};
+ghost use Rattle.text_printer.specs.Printing.{printed_text, segments_from, segment_lines, tail_line};
 
 use crate::segment_line::{put_places, put_tag};
 use crate::value_lines::put_tag_and_values;
-use edi_octets::{Flat, put_decimal};
+use edi_octets::{Flat, put_count, put_decimal};
 use edi_tables::Chunk;
 use seg_lexer::{Lexed, Service, fields, next_segment, read_service, read_tag};
 use std::alloc::{AllocError, Global};
@@ -43,12 +44,10 @@ pub fn print_text(alloc: Global, detail: Detail, text: &[u8]) -> Result<PrintedT
 
 // The line of a count of segments.
 fn print_count(alloc: Global, count: u64) -> Result<Chunk, AllocError>
-    ensures { IfOk result (λ c. c ≡ count_line count) }
+    ensures { IfOk result (λ c. c ≡ count_line (codes "segments") count) }
 {
     let mut head = Chunk::empty(alloc);
-    head.add(b"segments ")?;
-    put_decimal(&mut head, count)?;
-    head.add(b"\n")?;
+    put_count(&mut head, b"segments", count as usize)?;
     Ok(head)
 }
 

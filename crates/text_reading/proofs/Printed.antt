@@ -8,7 +8,8 @@ use Rattle.std.proofs.lemmas.List.Elements.{All-head}
 use Rattle.std.proofs.lemmas.List.Folds.{flat_map-map}
 use Rattle.dir_parts.specs.declared.parts.Parts.{Parts}
 use Rattle.dir_compile.specs.Directory.{IsDirectory}
-use Rattle.error_ledger.specs.Printing.{IsWellPlaced, count_line, ended_lines, tree_lines, tree_text}
+use Rattle.error_ledger.specs.Printing.{IsWellPlaced, ended_lines, tree_lines, tree_text}
+use Rattle.edi_octets.specs.Decimal.{count_line}
 use Rattle.error_ledger.proofs.PrintLemmas.{lines_bounded}
 use Rattle.segment_walk.specs.Seen.{Follows, SeenSegment, seen_in}
 use Rattle.segment_walk.specs.Told.{line_in_tree}

@@ -1,7 +1,8 @@
 //! The tree of a text, as a list and printed.
 ghost use Rattle.std.specs.Prelude.{◌≡◌, ◌++◌, All, IfOk, codes, map};
 ghost use Rattle.dir_compile.specs.Directory.{tables_of};
-ghost use Rattle.error_ledger.specs.Printing.{IsWellPlaced, count_line, tree_text};
+ghost use Rattle.error_ledger.specs.Printing.{IsWellPlaced, tree_text};
+ghost use Rattle.edi_octets.specs.Decimal.{count_line};
 ghost use Rattle.segment_walk.specs.Groups.{numbers_in};
 ghost use Rattle.segment_walk.specs.Look.{seen_of};
 ghost use Rattle.segment_walk.specs.Seen.{Follows};

@@ -2,7 +2,7 @@ use Rattle.std.proofs.Common.{◌≡◌, ◌<◌, ◌≤◌, true, false, ◌++�
 use Rattle.std.specs.Prelude.{All, AllPairs, filter, not, ◌&&◌}
 use Rattle.std.specs.Option.{ForSome}
 use Rattle.std.proofs.lemmas.List.{append-nil}
-use Rattle.edi_tables.specs.Placement.{is_filled}
+use Rattle.edi_tables.specs.Filled.{is_filled}
 use Rattle.edi_tables.specs.Walk.{missing_between, reached_node}
 use Rattle.edi_tables.specs.Collisions.{is_follower, may_stand_again}
 use Rattle.edi_tables.proofs.Rising.{rising_pairs}

@@ -9,7 +9,8 @@ use Rattle.edi_tables.specs.contracts.element.PartDefPartialEq.TheImpl.{eq-value
 use Rattle.edi_tables.specs.declared.element.Class.{Class}
 use Rattle.edi_tables.specs.declared.element.Class.TheVariants.{A, N, An}
 use Rattle.edi_tables.specs.declared.element.PartDef.{PartDef}
-use Rattle.dir_segments.specs.Segments.{is_same_part, is_same_class, is_same_bool}
+use Rattle.dir_segments.specs.Segments.{is_same_part}
+use Rattle.edi_tables.specs.Same.{is_same_bool, is_same_class}
 use Rattle.dir_segments.proofs.details.are_same.Goals as goal
 
 same_bool : (a b : Bool) → beq a b ≡ is_same_bool a b
@@ -29,9 +30,8 @@ same_class An A = refl
 same_class An N = refl
 same_class An An = refl
 
-grouped : (a b c d e : Bool) → (a && (b && (c && (d && e)))) ≡ (a && b && c && d && e)
-grouped true true true true e = refl
-grouped true true true false e = refl
+grouped : (a b c d e : Bool) → (a && (b && (c && (d && e)))) ≡ (a && b && (c && d && e))
+grouped true true true d e = refl
 grouped true true false d e = refl
 grouped true false c d e = refl
 grouped false b c d e = refl

@@ -1,7 +1,8 @@
 use Rattle.std.proofs.Common.{◌≡◌, ◌++◌, length, take}
 use Rattle.std.specs.Prelude.{codes}
 use Rattle.std.specs.List.{flat_map}
-use Rattle.error_ledger.specs.Printing.{count_line, tree_lines, ended_lines}
+use Rattle.error_ledger.specs.Printing.{tree_lines, ended_lines}
+use Rattle.edi_octets.specs.Decimal.{count_line}
 use Rattle.error_ledger.proofs.tree_text.print_tree.Given as goal
 
 abbrev pub invariant-loop-line : goal.invariant-loop-line

@@ -1,6 +1,7 @@
 use Rattle.std.specs.Prelude.{decimal}
 use Rattle.std.proofs.lemmas.Result.{on_ok_weaker}
-use Rattle.dir_store.specs.Spelling.{row_name, status_text}
+use Rattle.dir_store.specs.Spelling.{row_name}
+use Rattle.edi_octets.specs.Profile.{status_text}
 use Rattle.dir_store.proofs.PutLemmas.{put-four}
 use Rattle.dir_store.proofs.segments.TableRowEntry.put.Goals as goal
 

@@ -1,7 +1,7 @@
 use Rattle.std.proofs.Common.{◌≡◌, ℕ, true, Some, refl, sym, ap, subst, ◌∙◌}
 use Rattle.std.specs.Prelude.{filter}
 use Rattle.edi_tables.specs.Walk.{missing_between}
-use Rattle.edi_tables.specs.Placement.{is_filled}
+use Rattle.edi_tables.specs.Filled.{is_filled}
 use Rattle.edi_tables.specs.Pairs.{entry_in, over_in, rank_in}
 use Rattle.table_walk.specs.Reading.{has_tag, least_from}
 use Rattle.table_walk.proofs.Choosing.{IsBest, rank_small, rank_high, best_first, best_free, best_meet, best_skip, best_stop, left_end}

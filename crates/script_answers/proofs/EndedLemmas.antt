@@ -1,5 +1,5 @@
 -- A script that ends with `end` is read to there, unless its source fails or memory is refused.
-use Rattle.std.proofs.Common.{◌≡◌, ◌⊎◌, ⊎_elim, ◌+◌, ◌++◌, ◌≤◌, ℕ, List, [], ◌∷◌, length, Option, Some, Ok, Err, refl, sym, ap, ◌∙◌, subst, inl, inr, arith, length-append}
+use Rattle.std.proofs.Common.{◌≡◌, ◌⊎◌, ⊎_elim, ◌++◌, ◌≤◌, ℕ, List, [], ◌∷◌, length, Option, Some, Ok, Err, refl, sym, ap, ◌∙◌, subst, inl, inr, arith, length-append}
 use Rattle.std.proofs.lemmas.List.{append_assoc, append-nil}
 use Rattle.edi_ports.specs.Faults.{HasRisen}
 use Rattle.edi_ports.specs.Sink.{IsCut}
@@ -14,7 +14,7 @@ use Rattle.script_words.specs.declared.stop.ScriptStop.TheVariants as stop
 use Rattle.script_words.proofs.OnceLemmas.{fronts}
 use Rattle.edit_script.proofs.ScriptLemmas.{bad_no_command, part_no_command, same_command}
 use Rattle.script_answers.specs.declared.status.Status.{Status}
-use Rattle.script_answers.specs.declared.status.Status.TheVariants.{Memory, WriteFault}
+use Rattle.script_answers.specs.declared.status.Status.TheVariants.{WriteFault}
 use Rattle.script_answers.specs.Finish.{Grew, IsFinish}
 use Rattle.script_answers.specs.Script.{IsAnsweredWhole, IsCaused, IsEnded, longest_script, stopped_by}
 use Rattle.script_answers.specs.Held.{Held}

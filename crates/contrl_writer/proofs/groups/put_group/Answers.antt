@@ -1,5 +1,4 @@
-use Rattle.std.proofs.Common.{◌∷◌, [], true, false, None, Option, map, sym, ap, ◌∙◌}
-use Rattle.std.specs.Prelude.{is_some}
+use Rattle.std.proofs.Common.{◌∷◌, [], None, Option, map, sym, ap, ◌∙◌}
 use Rattle.std.specs.List.{flat_map}
 use Rattle.std.proofs.lemmas.Result.{on_ok_weaker}
 use Rattle.error_ledger.specs.declared.error.ErrorLine.{ErrorLine}

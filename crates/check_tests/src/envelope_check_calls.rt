@@ -1,7 +1,7 @@
 //! The errors of envelopes, on rows that are worked out by hand.
 ghost use Rattle.std.specs.Prelude.{◌≡◌, ◌+◌, ◌++◌, ◌<◌, length, map, IfOk, OnOk};
 ghost use Rattle.std.specs.Option.{option_to_list};
-ghost use Rattle.envelope_check.specs.Heads.{Fits, place_of, place_by};
+ghost use Rattle.envelope_check.specs.Heads.{Fits, head_place_of, place_by};
 
 use edi_tables::{Chunk, Tag};
 use envelope_check::{Head, HeadKind, SegmentMark, envelope_errors};
@@ -21,7 +21,7 @@ fn head_of(
     row: &Row,
 ) -> Result<Head, AllocError>
     ensures { IfOk result
-        (λ h. place_of h ≡ record { segment = segment; start = start; kind = kind }) }
+        (λ h. head_place_of h ≡ record { segment = segment; start = start; kind = kind }) }
 {
     Ok(Head {
         segment,
@@ -42,8 +42,8 @@ fn push_head(
     mark: &SegmentMark,
     row: &Row,
 ) -> Result<(), AllocError>
-    ensures { OnOk result (map place_of heads.new.items
-        ≡ map place_of heads.old.items ++ option_to_list (place_by segment mark.now)) }
+    ensures { OnOk result (map head_place_of heads.new.items
+        ≡ map head_place_of heads.old.items ++ option_to_list (place_by segment mark.now)) }
 {
     match HeadKind::of(mark.tag) {
         Some(kind) => {

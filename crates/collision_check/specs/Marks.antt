@@ -3,6 +3,7 @@
 use Rattle.std.specs.Prelude.{◌≡◌, ◌≤◌, ℕ, Bool, true, false, ◌==◌, List, Option, Some, None, map, find, cond, length, slice_get, slice_set, unwrap_or, if◌then◌else◌}
 use Rattle.std.specs.List.{range_with_len}
 use Rattle.std.specs.Str.{bytes_eq}
+use Rattle.edi_tables.specs.Octets.{Octets}
 use Rattle.edi_tables.specs.declared.tag.Tag.{Tag}
 use Rattle.edi_tables.specs.declared.table.Node.{Node}
 use Rattle.edi_tables.specs.Walk.{tag_at}
@@ -11,12 +12,12 @@ use Rattle.collision_check.specs.declared.marks.Met.TheVariants.{Once, Twice}
 use Rattle.collision_check.specs.declared.marks.Mark.{Mark}
 
 -- a tag with these octets
-abbrev pub has_octets : List ℕ → Option Tag → Bool
+abbrev pub has_octets : Octets → Option Tag → Bool
 has_octets octets None = false
 has_octets octets (Some tag) = bytes_eq octets tag.octets
 
 -- the first of n nodes with a tag of these octets: the number of the tag
-abbrev pub number_among : List Node → ℕ → List ℕ → Option ℕ
+abbrev pub number_among : List Node → ℕ → Octets → Option ℕ
 number_among nodes n octets = find (λ j. has_octets octets (tag_at nodes j)) (range_with_len 0 n)
 
 -- the number of a node's tag; a group has none
@@ -67,9 +68,9 @@ MeetsNumber (Some n) entry follower old new first =
     × (new ≡ slice_set old n (Some (record { entry = entry; met = met_next (met_in entry (mark_at old n)) follower })))
 
 -- a node's tag is numbered by the first node with it, as looked up by its octets
-abbrev pub Numbers : Option Tag → ℕ → (List ℕ → Option ℕ) → (List ℕ → Option ℕ) → Option ℕ → Type 0
-Numbers None i old new number = (number ≡ None) × ((octets : List ℕ) → new octets ≡ old octets)
+abbrev pub Numbers : Option Tag → ℕ → (Octets → Option ℕ) → (Octets → Option ℕ) → Option ℕ → Type 0
+Numbers None i old new number = (number ≡ None) × ((octets : Octets) → new octets ≡ old octets)
 Numbers (Some tag) i old new number =
     (number ≡ Some (unwrap_or (old tag.octets) i))
-    × ((octets : List ℕ)
+    × ((octets : Octets)
     → new octets ≡ cond (bytes_eq tag.octets octets) (Some (unwrap_or (old tag.octets) i)) (old octets))

@@ -7,16 +7,16 @@ use Rattle.std.proofs.lemmas.Bool.{and_parts, cases_Bool}
 use Rattle.std.proofs.lemmas.Slice.Eq.{bytes_eq-Decides}
 use Rattle.edi_tables.specs.Tag.{is_tag_of}
 use Rattle.edi_tables.specs.declared.tag.Tag.{Tag}
-use Rattle.seg_lexer.specs.Context.{context_in, context_of, is_tagged, level_in, opening_in, opening_of, version_in}
+use Rattle.seg_lexer.specs.Context.{context_in, context_of, is_tagged, level_in, opening_in, opening_components_of, version_in}
 use Rattle.seg_lexer.specs.Fields.{Component, components_of, octets_at, separators_of}
 use Rattle.seg_lexer.specs.Segments.{boundaries_of, ends_of, segment_in, segments_of}
 use Rattle.seg_lexer.specs.Service.{default_service, service_of}
-use Rattle.value_lexer.specs.Stretch.{Stretch, octets_in}
+use Rattle.seg_lexer.specs.Stretch.{Stretch, octets_in}
 use Rattle.seg_lexer.specs.Tag.{tag_of}
 use Rattle.seg_lexer.specs.declared.context.Level.{Level}
 use Rattle.seg_lexer.specs.declared.context.Level.TheVariants as levels
 use Rattle.seg_lexer.specs.declared.service.Service.{Service}
-use Rattle.segment_records.specs.Segments.{Segment, segment_between, segments_by, segments_in, tag_read, value_in}
+use Rattle.segment_records.specs.Segments.{Segment, segment_between, segments_by, segments_of_text, tag_read, value_in}
 use Rattle.contrl_segments.specs.Service.{level_word}
 use Rattle.contrl_segments.specs.ReadBack.{IsReadAs, components_read, values_read}
 use Rattle.contrl_segments.specs.Written as written
@@ -115,20 +115,20 @@ fuse-tags s text [] = refl
 fuse-tags s text (p ∷ ps) = ap (λ (ts : List (Option Tag)). (segment_between s text p).tag ∷ ts) (fuse-tags s text ps)
 
 -- the tag of each segment of a text is that of its components
-pub tags-read : (text : List ℕ) → map (λ s. s.tag) (segments_in text) ≡ map (λ s. tag_read s.components) (segments_in text)
-unfolding segments_in segments_by
+pub tags-read : (text : List ℕ) → map (λ s. s.tag) (segments_of_text text) ≡ map (λ s. tag_read s.components) (segments_of_text text)
+unfolding segments_of_text segments_by
 tags-read text = fuse-tags (service_of text) text (zip (boundaries_of (service_of text) text) (ends_of (service_of text) text))
 
 module _ (ws : List written.Segment) (octets : List ℕ) (back : IsReadAs ws octets) where
-  components-back : map (λ s. s.components) (segments_in octets) ≡ map components_read ws
-  unfolding segments_in segments_by segments_of
+  components-back : map (λ s. s.components) (segments_of_text octets) ≡ map components_read ws
+  unfolding segments_of_text segments_by segments_of
   components-back =
       ap (λ (s : Service). map (λ x. x.components) (segments_by s octets)) back.service
       ∙ (fuse default_service octets (zip (boundaries_of default_service octets) (ends_of default_service octets))
       ∙ back.components)
 
-  pub segments-back : AreRead (segments_in octets) ws
-  segments-back = are-read (segments_in octets) ws components-back (tags-read octets)
+  pub segments-back : AreRead (segments_of_text octets) ws
+  segments-back = are-read (segments_of_text octets) ws components-back (tags-read octets)
 
 -- so the tags are those that were written
 abbrev pub AllTagged : List written.Segment → Type 0
@@ -146,7 +146,7 @@ have-tags (s ∷ ss) (w ∷ ws) read tagged = (
 
 -- what the first segment says
 opening-from : (s : Service) (text : List ℕ) (ps : List Stretch) (cs : List Component) (more : List (List Component))
-    → map (components_of (separators_of s)) (map (octets_in text) ps) ≡ cs ∷ more → opening_of s text (slice_get ps 0) ≡ opening_in cs
+    → map (components_of (separators_of s)) (map (octets_in text) ps) ≡ cs ∷ more → opening_components_of s text (slice_get ps 0) ≡ opening_in cs
 opening-from s text [] cs more same = absurd (let no : ⊥ = cc in no)
 opening-from s text (p ∷ ps) cs more same =
     ap opening_in (cons_parts (components_of (separators_of s) (octets_in text p)) cs (map (components_of (separators_of s)) (map (octets_in text) ps)) more same).0
@@ -177,10 +177,10 @@ pub context-back : (w : written.Segment) (ws : List written.Segment) (octets : L
 unfolding context_of
 context-back w ws octets back level tag word =
     let is : is_tag_of w.tag ≡ true = ap is_tag_of tag in
-    let opened : opening_of default_service octets (slice_get (segments_of default_service octets) 0) ≡ components_read w =
+    let opened : opening_components_of default_service octets (slice_get (segments_of default_service octets) 0) ≡ components_read w =
     opening-from default_service octets (segments_of default_service octets) (components_read w) (map components_read ws) back.components
     ∙ ap (λ (b : Bool). cond b (components_read w) []) (ap (is_tagged (codes "UNB")) (written-tag w is) ∙ (bytes_eq-Decides w.tag (codes "UNB")).1 tag) in
-    ap (λ (s : Service). context_in s (opening_of s octets (slice_get (segments_of s octets) 0))) back.service
+    ap (λ (s : Service). context_in s (opening_components_of s octets (slice_get (segments_of s octets) 0))) back.service
     ∙ (ap (context_in default_service) opened
     ∙ ap (λ (l : Level). context_with l (version_in (octets_at 1 2 (components_read w)))) (level-back level (octets_at 1 1 (components_read w)) (value-back w 1 1 0 0 refl refl ∙ word)))
 

@@ -12,17 +12,17 @@ use Rattle.edi_tables.specs.declared.segment.ItemDef.{ItemDef}
 use Rattle.edi_tables.specs.declared.segment.ItemDef.TheVariants.{Alone, Composite}
 use Rattle.error_ledger.specs.declared.kind.Kind.{Kind}
 use Rattle.error_ledger.specs.declared.kind.Kind.TheVariants.{Missing}
-use Rattle.dir_parts.specs.declared.parts.Parts.{Parts}
+use Rattle.dir_compile.specs.declared.parts.Parts.{Parts}
 use Rattle.service_tables.specs.ServiceTables.{service_items_of, service_parts_of}
 use Rattle.seg_lexer.specs.Fields.{Component}
 use Rattle.seg_lexer.specs.Tag.{tag_of}
 use Rattle.seg_lexer.specs.declared.context.Context.{Context}
-use Rattle.element_check.specs.Local.{elements_errors, error_at, errors_by, errors_tagged, is_filled, local_errors_of}
-use Rattle.value_check.specs.Repertoire.{is_admitted}
+use Rattle.element_check.specs.Local.{elements_errors, error_at, errors_by, errors_tagged, has_octet, local_errors_of}
+use Rattle.element_check.specs.Repertoire.{is_admitted}
 use Rattle.element_check.specs.Rules.{SegmentRules, list_of, parts_of, rules_of, service_rules}
 use Rattle.element_check.specs.Streams.{after_front, alone_errors, composite_errors, item_errors, items_errors, part_errors, parts_errors, told_errors}
 use Rattle.element_check.specs.Local.{is_list_named}
-use Rattle.value_check.specs.Value.{counted_length, has_foreign, is_decimal, is_numeric, test_results}
+use Rattle.element_check.specs.Value.{counted_length, has_foreign, is_decimal, is_numeric, test_results}
 use Rattle.element_check.specs.declared.error.LocalError.{LocalError}
 use Rattle.element_check.proofs.BridgeLemmas.{elements-walk}
 use Rattle.contrl_segments.specs.ReadBack.{components_read, element_read, values_read}
@@ -50,8 +50,8 @@ pub record Passes (context : Context) (repr : Repr) (value : List ℕ) : Type 0 
 
 -- a value may stand at a part: it is filled where the part is mandatory, and passes the tests where it is filled
 pub record IsGoodValue (context : Context) (must : Bool) (repr : Repr) (value : List ℕ) : Type 0 where
-  pub filled : must ≡ true → is_filled value ≡ true
-  pub passes : is_filled value ≡ true → Passes context repr value
+  pub filled : must ≡ true → has_octet value ≡ true
+  pub passes : has_octet value ≡ true → Passes context repr value
 
 -- the same of the values of a composite, each at its part
 abbrev pub AreGoodParts : Context → List PartDef → List (List ℕ) → Type 0
@@ -63,7 +63,7 @@ AreGoodParts context (p ∷ ps) (v ∷ vs) = IsGoodValue context p.must p.repr v
 -- a composite with such values, or one that may be empty and is
 abbrev pub IsGoodComposite : Context → Bool → List PartDef → List (List ℕ) → Type 0
 IsGoodComposite context must parts vs =
-    ((list_any is_filled vs ≡ true) × AreGoodParts context parts vs) ⊎ ((must ≡ false) × (list_any is_filled vs ≡ false))
+    ((list_any has_octet vs ≡ true) × AreGoodParts context parts vs) ⊎ ((must ≡ false) × (list_any has_octet vs ≡ false))
 
 abbrev pub IsGoodElement : Context → ItemDef → Element → Type 0
 IsGoodElement context (Alone part) [] = ⊥
@@ -99,28 +99,28 @@ pub empty-is : (x : List ℕ) → is_empty_value x ≡ true → x ≡ []
 empty-is [] is = refl
 empty-is (a ∷ more) is = absurd (omega (arith, eqb-true (length (a ∷ more)) 0 is))
 
-not_must : (must : Bool) (x : List ℕ) → (must ≡ true → is_filled x ≡ true) → is_empty_value x ≡ true → must ≡ false
+not_must : (must : Bool) (x : List ℕ) → (must ≡ true → has_octet x ≡ true) → is_empty_value x ≡ true → must ≡ false
 not_must false x filled is = refl
 not_must true x filled is = absurd (false≢true (sym (ap not is) ∙ filled refl))
 
-all_empty-none : (vs : List (List ℕ)) → list_all is_empty_value vs ≡ true → list_any is_filled vs ≡ false
+all_empty-none : (vs : List (List ℕ)) → list_all is_empty_value vs ≡ true → list_any has_octet vs ≡ false
 all_empty-none [] is = refl
 all_empty-none (v ∷ vs) is =
     let parts = and_parts (is_empty_value v) (list_all is_empty_value vs) is in
-    ap (λ (b : Bool). not b || list_any is_filled vs) parts.0 ∙ all_empty-none vs parts.1
+    ap (λ (b : Bool). not b || list_any has_octet vs) parts.0 ∙ all_empty-none vs parts.1
 
-any-trimmed : (vs : List (List ℕ)) → list_any is_filled (trimmed is_empty_value vs) ≡ list_any is_filled vs
+any-trimmed : (vs : List (List ℕ)) → list_any has_octet (trimmed is_empty_value vs) ≡ list_any has_octet vs
 any-trimmed [] = refl
 any-trimmed (v ∷ vs) = elim (cases_Bool (list_all is_empty_value (v ∷ vs))) [
-  | inl all ↦ ap (λ (b : Bool). list_any is_filled (cond b [] (v ∷ trimmed is_empty_value vs))) all ∙ sym (all_empty-none (v ∷ vs) all)
-  | inr some ↦ ap (λ (b : Bool). list_any is_filled (cond b [] (v ∷ trimmed is_empty_value vs))) some ∙ ap (λ (b : Bool). is_filled v || b) (any-trimmed vs)
+  | inl all ↦ ap (λ (b : Bool). list_any has_octet (cond b [] (v ∷ trimmed is_empty_value vs))) all ∙ sym (all_empty-none (v ∷ vs) all)
+  | inr some ↦ ap (λ (b : Bool). list_any has_octet (cond b [] (v ∷ trimmed is_empty_value vs))) some ∙ ap (λ (b : Bool). has_octet v || b) (any-trimmed vs)
 ]
 
-any-read : (vs : List (List ℕ)) → list_any is_filled (values_read vs) ≡ list_any is_filled vs
+any-read : (vs : List (List ℕ)) → list_any has_octet (values_read vs) ≡ list_any has_octet vs
 any-read [] = refl
 any-read (v ∷ vs) = refl
 
-some-read : (vs : List (List ℕ)) → list_any is_filled vs ≡ true → values_read vs ≡ vs
+some-read : (vs : List (List ℕ)) → list_any has_octet vs ≡ true → values_read vs ≡ vs
 some-read [] is = absurd (false≢true is)
 some-read (v ∷ vs) is = refl
 
@@ -130,7 +130,7 @@ alone-read x = elim (cases_Bool (is_empty_value x)) [
   | inr some ↦ ap (λ (b : Bool). values_read (cond (b && true) [] (x ∷ []))) some
 ]
 
-unfilled : (must : Bool) (x : List ℕ) → is_filled x ≡ false → (must ≡ true → is_filled x ≡ true) → must ≡ false
+unfilled : (must : Bool) (x : List ℕ) → has_octet x ≡ false → (must ≡ true → has_octet x ≡ true) → must ≡ false
 unfilled false x none filled = refl
 unfilled true x none filled = absurd (false≢true (sym none ∙ filled refl))
 
@@ -144,7 +144,7 @@ module _ (context : Context) (items : List ItemDef) where
   list-none false code = refl
 
   part-free : (e c : ℕ) (part : PartDef) (named : Bool) (x : List ℕ) → IsGoodValue context part.must part.repr x → part_errors rules e c part named x ≡ []
-  part-free e c part named x good = elim (cases_Bool (is_filled x)) [
+  part-free e c part named x good = elim (cases_Bool (has_octet x)) [
     | inl some ↦
         ap (λ (b : Bool). cond b (told_errors e c (test_results context part.repr (cond named None (list_of rules part.code.octets)) x)) (when part.must (error_at e c Missing))) some
         ∙ ap (λ (l : Option CodeList). told_errors e c (test_results context part.repr l x)) (list-none named part.code.octets)
@@ -185,7 +185,7 @@ module _ (context : Context) (items : List ItemDef) where
   composite-free : (e : ℕ) (must : Bool) (parts : List PartDef) (vs : List (List ℕ)) → IsGoodComposite context must parts vs
       → composite_errors rules e must parts (values_read (trimmed is_empty_value vs)) ≡ []
   composite-free e must parts vs (inl good) =
-      let any : list_any is_filled (trimmed is_empty_value vs) ≡ true = any-trimmed vs ∙ good.0 in
+      let any : list_any has_octet (trimmed is_empty_value vs) ≡ true = any-trimmed vs ∙ good.0 in
       ap (composite_errors rules e must parts) (some-read (trimmed is_empty_value vs) any)
       ∙ (ap (λ (b : Bool). cond b (parts_errors rules e 1 (is_list_named parts (trimmed is_empty_value vs)) parts (trimmed is_empty_value vs)) (when must (error_at e 0 Missing))) any
       ∙ parts-free e 1 (is_list_named parts (trimmed is_empty_value vs)) parts vs good.1)

@@ -18,7 +18,7 @@ use Rattle.service_tables.specs.ServiceTables as tables
 use Rattle.service_tables.specs.ServiceTables.{C, service_items_of, service_parts_of}
 use Rattle.seg_lexer.specs.declared.context.Context.{Context}
 use Rattle.seg_lexer.specs.declared.context.Level.{Level}
-use Rattle.element_check.specs.Local.{is_filled}
+use Rattle.element_check.specs.Local.{has_octet}
 use Rattle.contrl_segments.specs.Service.{acknowledged, group_party, interchange_party, rejected, ucf, uci, unb, unh, unt, unz}
 use Rattle.contrl_segments.specs.Details.{code_told, component_told, details_told, element_told, envelope_tag, has_position, is_envelope_tag, is_near, position_of, tag_told}
 use Rattle.contrl_writer.specs.Levels.{first_error}
@@ -137,7 +137,7 @@ module _ (context : Context) where
       let near = near_bounds e (and_parts (nat_le 1 e.element) (is_near e) is).1 in
       let element : IsGoodValue context true (up_to N 3) (element_told e) = number_good context true false 3 (element_told e) (element_number e is) (no_more 3 (length (element_told e))) in
       inl (
-        ap (λ (b : Bool). b || list_any is_filled (component_told e ∷ [])) (element.filled refl),
+        ap (λ (b : Bool). b || list_any has_octet (component_told e ∷ [])) (element.filled refl),
         (element, (component_good e (has_position e && nat_le 1 e.component) near.1, tt)),
       )
 
@@ -145,7 +145,7 @@ module _ (context : Context) where
   position_good e = elim (cases_Bool (has_position e)) [
     | inl is ↦ position_told false e is
     | inr is ↦
-        inr (refl, ap (λ (b : Bool). list_any is_filled (cond b (decimal (e.element + 1)) [] ∷ cond (b && nat_le 1 e.component) (decimal e.component) [] ∷ [])) is)
+        inr (refl, ap (λ (b : Bool). list_any has_octet (cond b (decimal (e.element + 1)) [] ∷ cond (b && nat_le 1 e.component) (decimal e.component) [] ∷ [])) is)
   ]
 
   details_good : (error : Option ErrorLine) → AreGoodElements context detail_items (details_told error)
@@ -163,25 +163,25 @@ module _ (context : Context) where
   sender_good : (p : Party) → IsGoodParty context p → IsGoodComposite context true (unwrap_or (service_parts_of (codes "S002")) []) (interchange_party p)
   unfolding service_parts_of
   sender_good p good =
-      inl (ap (λ (b : Bool). b || list_any is_filled (p.qualifier ∷ p.route ∷ [])) (good.id.filled refl), (good.id, (good.qualifier, (good.route, tt))))
+      inl (ap (λ (b : Bool). b || list_any has_octet (p.qualifier ∷ p.route ∷ [])) (good.id.filled refl), (good.id, (good.qualifier, (good.route, tt))))
 
   recipient_good : (p : Party) → IsGoodParty context p → IsGoodComposite context true (unwrap_or (service_parts_of (codes "S003")) []) (interchange_party p)
   unfolding service_parts_of
   recipient_good p good =
-      inl (ap (λ (b : Bool). b || list_any is_filled (p.qualifier ∷ p.route ∷ [])) (good.id.filled refl), (good.id, (good.qualifier, (good.route, tt))))
+      inl (ap (λ (b : Bool). b || list_any has_octet (p.qualifier ∷ p.route ∷ [])) (good.id.filled refl), (good.id, (good.qualifier, (good.route, tt))))
 
   group_sender_good : (p : Party) → IsGoodGroupParty context p → IsGoodComposite context true (unwrap_or (service_parts_of (codes "S006")) []) (group_party p)
   unfolding service_parts_of
-  group_sender_good p good = inl (ap (λ (b : Bool). b || list_any is_filled (p.qualifier ∷ [])) (good.id.filled refl), (good.id, (good.qualifier, tt)))
+  group_sender_good p good = inl (ap (λ (b : Bool). b || list_any has_octet (p.qualifier ∷ [])) (good.id.filled refl), (good.id, (good.qualifier, tt)))
 
   group_recipient_good : (p : Party) → IsGoodGroupParty context p → IsGoodComposite context true (unwrap_or (service_parts_of (codes "S007")) []) (group_party p)
   unfolding service_parts_of
-  group_recipient_good p good = inl (ap (λ (b : Bool). b || list_any is_filled (p.qualifier ∷ [])) (good.id.filled refl), (good.id, (good.qualifier, tt)))
+  group_recipient_good p good = inl (ap (λ (b : Bool). b || list_any has_octet (p.qualifier ∷ [])) (good.id.filled refl), (good.id, (good.qualifier, tt)))
 
   identifier_good : (m : MessageHead) → IsGoodMessage context m → IsGoodComposite context true (unwrap_or (service_parts_of (codes "S009")) []) (identifier_of m)
   unfolding service_parts_of
   identifier_good m good = inl (
-    ap (λ (b : Bool). b || list_any is_filled (m.version ∷ m.release ∷ m.agency ∷ m.association ∷ [])) (good.kind.filled refl),
+    ap (λ (b : Bool). b || list_any has_octet (m.version ∷ m.release ∷ m.agency ∷ m.association ∷ [])) (good.kind.filled refl),
     (good.kind, (good.version, (good.release, (good.agency, (good.association, tt))))),
   )
 
@@ -320,13 +320,13 @@ module _ (level : Level) (read_version version : ℕ) where
         items = items_at own_context (codes "UNB");
         known = refl;
         good = (
-          inl (ap (λ (b : Bool). b || list_any is_filled (decimal version ∷ [])) (level_is.filled refl), (level_is, (version_is, tt))),
+          inl (ap (λ (b : Bool). b || list_any has_octet (decimal version ∷ [])) (level_is.filled refl), (level_is, (version_is, tt))),
           (
             sender_good own_context recipient two,
             (
               recipient_good own_context sender one,
               (
-                inl (ap (λ (b : Bool). b || list_any is_filled (stamp.time ∷ [])) (date_is.filled refl), (date_is, (time_is, tt))),
+                inl (ap (λ (b : Bool). b || list_any has_octet (stamp.time ∷ [])) (date_is.filled refl), (date_is, (time_is, tt))),
                 (reference_good own_context own is, (refl, (refl, (refl, (refl, (refl, (refl, tt))))))),
               ),
             ),

@@ -4,7 +4,7 @@ use Rattle.std.specs.Prelude.{codes, unwrap_or, Bool}
 use Rattle.edi_tables.specs.declared.element.Class.TheVariants.{An}
 use Rattle.edi_tables.specs.declared.element.PartDef.{PartDef}
 use Rattle.edi_tables.specs.declared.segment.ItemDef.{ItemDef}
-use Rattle.dir_parts.specs.declared.parts.Parts.{Parts}
+use Rattle.dir_compile.specs.declared.parts.Parts.{Parts}
 use Rattle.service_tables.specs.ServiceTables as tables
 use Rattle.service_tables.specs.ServiceTables.{C, M, service_items_of, service_parts_of}
 use Rattle.seg_lexer.specs.Fields.{Component}

@@ -6,11 +6,11 @@ use Rattle.std.proofs.lemmas.Bool.{false≢true}
 use Rattle.edi_tables.specs.declared.segment.ItemDef.{ItemDef}
 use Rattle.error_ledger.specs.Kinds.{is_of_element, number_of}
 use Rattle.error_ledger.specs.declared.kind.Kind.{Kind}
-use Rattle.dir_parts.specs.declared.parts.Parts.{Parts}
+use Rattle.dir_compile.specs.declared.parts.Parts.{Parts}
 use Rattle.seg_lexer.specs.Fields.{Component}
 use Rattle.seg_lexer.specs.Tag.{tag_of}
 use Rattle.seg_lexer.specs.declared.context.Context.{Context}
-use Rattle.element_check.specs.Local.{element_errors, elements_errors, element_kinds, error_at, errors_at, errors_by, errors_tagged, errors_whole, is_broken_at, is_broken_whole, last_component, last_written, local_errors_of, values_in}
+use Rattle.element_check.specs.Local.{element_errors, elements_errors, element_kinds, error_at, component_errors_at, errors_by, errors_tagged, errors_whole, is_broken_at, is_broken_whole, last_component, last_written, local_errors_of, values_in}
 use Rattle.element_check.specs.Rules.{SegmentRules, rules_of}
 use Rattle.element_check.specs.declared.error.LocalError.{LocalError}
 use Rattle.contrl_laws.proofs.Each.{Each, each-all, each-append, each-flat, each-map}
@@ -28,9 +28,9 @@ module _ (rules : SegmentRules) where
   element_names item values element low =
       let made : (c : ℕ) (kinds : List Kind) → Each NamesElement (map (error_at element c) kinds) =
       λ c kinds. each-map (λ kind. Unit {0}) NamesElement (error_at element c) (λ kind t is. low) kinds (each-all (λ kind. Unit {0}) (λ kind. tt) kinds) in
-      each-append NamesElement (errors_whole rules item values element) (flat_map (errors_at rules item values element) (range_with_len 1 (last_component rules item values)))
+      each-append NamesElement (errors_whole rules item values element) (flat_map (component_errors_at rules item values element) (range_with_len 1 (last_component rules item values)))
       (made 0 (filter (is_broken_whole rules item values) element_kinds))
-      (each-flat (λ c. Unit {0}) NamesElement (errors_at rules item values element) (λ c t. made c (filter (is_broken_at rules item values c) element_kinds)) (range_with_len 1 (last_component rules item values))
+      (each-flat (λ c. Unit {0}) NamesElement (component_errors_at rules item values element) (λ c t. made c (filter (is_broken_at rules item values c) element_kinds)) (range_with_len 1 (last_component rules item values))
       (each-all (λ c. Unit {0}) (λ c. tt) (range_with_len 1 (last_component rules item values))))
 
   elements_name : (components : List Component) → Each NamesElement (elements_errors rules components)

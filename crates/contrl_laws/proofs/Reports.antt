@@ -10,7 +10,7 @@ use Rattle.edi_tables.specs.declared.element.Class.TheVariants.{An}
 use Rattle.contrl_writer.specs.Contrl.{group_answer, group_answers, is_member, lower_segments, members_of, report_where, reports_of}
 use Rattle.contrl_segments.specs.Details.{code_told, is_near}
 use Rattle.contrl_writer.specs.Levels.{errors_among, first_error, group_errors, is_among, is_level, message_errors}
-use Rattle.contrl_writer.specs.Report.{blocks_of, details_in, element_errors, errors_at, heads_of, message_blocks, positions_of, report, segment_blocks, segment_errors, ucd, ucs}
+use Rattle.contrl_writer.specs.Report.{blocks_of, details_in, element_errors, errors_of_position, heads_of, message_blocks, positions_of, report, segment_blocks, segment_errors, ucd, ucs}
 use Rattle.contrl_segments.specs.Service.{acknowledged, rejected}
 use Rattle.contrl_segments.specs.Written.{Segment}
 use Rattle.contrl_writer.specs.declared.level.ErrorLevel.TheVariants.{Message}
@@ -75,9 +75,9 @@ module _ (context : Context) where
     ucm_lawful context m es good,
     joined_lawful (take 999 (message_blocks m es))
         (each-take (Each Law) 999 (message_blocks m es)
-        (each-flat (λ p. p < 10 ^ 6) (Each Law) (λ position. segment_blocks position (errors_at m position es))
+        (each-flat (λ p. p < 10 ^ 6) (Each Law) (λ position. segment_blocks position (errors_of_position m position es))
         (λ position few.
-        let here : List Levelled = errors_at m position es in
+        let here : List Levelled = errors_of_position m position es in
         blocks_lawful (heads_of position (segment_errors here) (element_errors here)) (details_in (element_errors here))
         (heads_lawful position few (segment_errors here) (element_errors here))
         (details_lawful here (each-filter IsPlacedLevelled (λ x. eqb (x.error.segment + 1) (m.first + position)) es placed)))
@@ -175,9 +175,9 @@ report_walk grouped spot m es rest then = (
   to_message refl,
   blocks_walk grouped AtMessage (take 999 (message_blocks m es)) rest refl (omega (arith, length-take 999 (message_blocks m es)))
       (each-take IsBlock 999 (message_blocks m es)
-      (each-flat (λ p. Unit {0}) IsBlock (λ position. segment_blocks position (errors_at m position es))
+      (each-flat (λ p. Unit {0}) IsBlock (λ position. segment_blocks position (errors_of_position m position es))
       (λ position t.
-      let here : List Levelled = errors_at m position es in
+      let here : List Levelled = errors_of_position m position es in
       blocks_are (heads_of position (segment_errors here) (element_errors here)) (details_in (element_errors here))
       (heads_are position (segment_errors here) (element_errors here)) (details_are (element_errors here)) (details_few (element_errors here)))
       (positions_of m) (each-all (λ p. Unit {0}) (λ p. tt) (positions_of m))))

@@ -11,13 +11,13 @@ use Rattle.edi_tables.specs.Pairs.{pairs_of}
 use Rattle.edi_tables.specs.Placement.{entry_count, group_count}
 use Rattle.edi_tables.specs.Rows.{has_name, parent_of, end_of}
 use Rattle.edi_tables.specs.Walk.{candidates_of, groups_round, later_nodes, later_siblings, missing_between}
-use Rattle.dir_parts.specs.declared.parts.Parts.{Parts}
+use Rattle.dir_compile.specs.declared.parts.Parts.{Parts}
 use Rattle.dir_compile.specs.Directory.{IsDirectory}
 use Rattle.table_walk.specs.Errors.{Fault, StructureError}
 use Rattle.table_walk.specs.Errors.Fault.{Missing, Over}
 use Rattle.table_walk.specs.Steps.{is_over_in, member_in, missing_in, pairs_after}
 use Rattle.segment_records.specs.Laws.{end_faults, ends_after, faults_of_member, is_walked, missing_at_end, step_faults}
-use Rattle.segment_records.specs.Messages.{faults_at, mode_after, table_for}
+use Rattle.segment_records.specs.Messages.{structure_errors_at, mode_after, table_for}
 use Rattle.segment_records.specs.Segments.{Segment, tags_in}
 use Rattle.segment_records.specs.Steps.{Step, mode_from, opening_step, placed_step, step_of}
 use Rattle.segment_records.specs.declared.mode.Mode.{Mode}
@@ -253,7 +253,7 @@ map_none [] none = refl
 map_none (x ∷ xs) none = absurd (let no : ⊥ = cc in no)
 
 -- segments that run so have no structure error
-pub runs_free : (dir : Parts) → IsDirectory dir → (ss : List Segment) → Runs dir Outside ss → (i : ℕ) (segment : Segment) → slice_get ss i ≡ Some segment → faults_at dir ss i ≡ []
+pub runs_free : (dir : Parts) → IsDirectory dir → (ss : List Segment) → Runs dir Outside ss → (i : ℕ) (segment : Segment) → slice_get ss i ≡ Some segment → structure_errors_at dir ss i ≡ []
 runs_free dir directory ss runs i segment at =
     let within : i < length ss = slice_get_within ss i segment at in
     let here = runs_at dir Outside ss i segment runs at in
@@ -264,7 +264,7 @@ runs_free dir directory ss runs i segment at =
     let ends : (missing_at_end dir (mode_after dir ss (i + 1)) ≡ []) ⊎ (goes_on (drop (i + 1) ss) ≡ true) =
     subst (λ (mode : Mode). (missing_at_end dir mode ≡ []) ⊎ (goes_on (drop (i + 1) ss) ≡ true)) after
     (subst (λ (n : ℕ). (missing_at_end dir (mode_from dir Outside (take n ss)) ≡ []) ⊎ (goes_on (drop n ss) ≡ true)) (sym (add-one i)) here.ends) in
-    map_none (faults_at dir ss i)
+    map_none (structure_errors_at dir ss i)
     (steps_tell_faults dir directory ss i segment at
     ∙ (ap (λ (xs : List Fault). xs ++ end_faults dir (tags_in ss) i (mode_after dir ss (i + 1))) faultless
     ∙ no_end dir ss i (mode_after dir ss (i + 1)) ends))

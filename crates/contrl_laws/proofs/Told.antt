@@ -14,7 +14,7 @@ use Rattle.edi_tables.specs.declared.segment.ItemDef.TheVariants.{Alone, Composi
 use Rattle.edi_tables.specs.declared.tag.Tag.{Tag}
 use Rattle.error_ledger.specs.declared.kind.Kind.{Kind}
 use Rattle.error_ledger.specs.declared.kind.Kind.TheVariants.{Missing}
-use Rattle.dir_parts.specs.declared.parts.Parts.{Parts}
+use Rattle.dir_compile.specs.declared.parts.Parts.{Parts}
 use Rattle.service_tables.specs.ServiceTables.{service_items_of, service_parts_of}
 use Rattle.seg_lexer.specs.Fields.{Component, components_of, separators_of}
 use Rattle.seg_lexer.specs.Segments.{boundaries_of, ends_of}
@@ -23,15 +23,15 @@ use Rattle.seg_lexer.specs.Tag.{tag_of}
 use Rattle.seg_lexer.specs.declared.context.Context.{Context}
 use Rattle.seg_lexer.specs.declared.service.Separators.{Separators}
 use Rattle.seg_lexer.specs.declared.service.Service.{Service}
-use Rattle.value_lexer.specs.Released.{value_of}
+use Rattle.seg_lexer.specs.Released.{value_of}
 use Rattle.seg_lexer.proofs.ServiceLemmas.{service_of-usable}
-use Rattle.element_check.specs.Local.{elements_errors, error_at, is_filled, is_list_named, local_errors_of}
+use Rattle.element_check.specs.Local.{elements_errors, error_at, has_octet, is_list_named, local_errors_of}
 use Rattle.element_check.specs.Rules.{SegmentRules, list_of, parts_of, rules_of, service_rules}
 use Rattle.element_check.specs.Streams.{after_front, composite_errors, first_value, front_values, item_errors, items_errors, later_values, part_errors, parts_errors, surplus_components, told_errors}
-use Rattle.value_check.specs.Value.{test_results}
+use Rattle.element_check.specs.Value.{test_results}
 use Rattle.element_check.specs.declared.error.LocalError.{LocalError}
 use Rattle.element_check.proofs.BridgeLemmas.{elements-walk}
-use Rattle.segment_records.specs.Segments.{Segment, segment_between, segments_by, segments_in, tag_read, value_in}
+use Rattle.segment_records.specs.Segments.{Segment, segment_between, segments_by, segments_of_text, tag_read, value_in}
 use Rattle.contrl_segments.proofs.PieceLemmas.{component_piece, components-are, element_pieces, pieces}
 use Rattle.contrl_laws.proofs.Each.{Each}
 use Rattle.contrl_laws.proofs.Items.{AllFalse, IsGoodValue, Passes, errors-known, list-none, rules_for}
@@ -69,8 +69,8 @@ each-between s text [] apart = tt
 each-between s text (p ∷ ps) apart = (components-numbered (separators_of s) _ apart, each-between s text ps apart)
 
 -- the components of each segment of a text are numbered
-pub text-numbered : (text : List ℕ) → Each (λ (s : Segment). IsNumbered s.components) (segments_in text)
-unfolding segments_in segments_by
+pub text-numbered : (text : List ℕ) → Each (λ (s : Segment). IsNumbered s.components) (segments_of_text text)
+unfolding segments_of_text segments_by
 text-numbered text =
     let s : Service = service_of text in
     each-between s text (zip (boundaries_of s text) (ends_of s text)) (apart-by s.release s.element (service_of-usable text).from_element)
@@ -123,7 +123,7 @@ module _ (context : Context) (items : List ItemDef) where
   part-told e c part named v none =
       let told : List LocalError = told_errors e c (test_results context part.repr (cond named None (list_of rules part.code.octets)) v) in
       let missing : List LocalError = when part.must (error_at e c Missing) in
-      elim (cases_Bool (is_filled v)) [
+      elim (cases_Bool (has_octet v)) [
         | inl some ↦
             let all : AllFalse (test_results context part.repr None v) =
             told-all e c (test_results context part.repr None v)
@@ -148,7 +148,7 @@ module _ (context : Context) (items : List ItemDef) where
       (parts-told e (c + 1) named ps (later_values vs) j part (append-right (part_errors rules e c p named (first_value vs)) (parts_errors rules e (c + 1) named ps (later_values vs)) none) at)
 
   composite-told : (e : ℕ) (parts : List PartDef) (vs : List (List ℕ)) → composite_errors rules e true parts vs ≡ [] → parts_errors rules e 1 (is_list_named parts vs) parts vs ≡ []
-  composite-told e parts vs none = elim (cases_Bool (list_any is_filled vs)) [
+  composite-told e parts vs none = elim (cases_Bool (list_any has_octet vs)) [
     | inl some ↦ sym (ap (λ (b : Bool). cond b (parts_errors rules e 1 (is_list_named parts vs) parts vs) (when true (error_at e 0 Missing))) some) ∙ none
     | inr empty ↦
         let never : error_at e 0 Missing ∷ [] ≡ [] = sym (ap (λ (b : Bool). cond b (parts_errors rules e 1 (is_list_named parts vs) parts vs) (when true (error_at e 0 Missing))) empty) ∙ none in

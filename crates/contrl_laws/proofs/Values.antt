@@ -19,9 +19,9 @@ use Rattle.seg_lexer.specs.declared.context.Context.{Context}
 use Rattle.seg_lexer.specs.declared.context.Level.{Level}
 use Rattle.seg_lexer.specs.declared.context.Level.TheVariants as levels
 use Rattle.seg_lexer.specs.declared.service.Service.{Service}
-use Rattle.element_check.specs.Local.{is_filled}
-use Rattle.value_check.specs.Repertoire.{is_admitted, is_in_level_a, is_printable, is_small, signs}
-use Rattle.value_check.specs.Value.{counted_length, has_foreign, is_counted, is_decimal, is_digits, is_foreign, is_mark, is_sign, is_unsigned}
+use Rattle.element_check.specs.Local.{has_octet}
+use Rattle.element_check.specs.Repertoire.{is_admitted, is_in_level_a, is_printable, is_small, signs}
+use Rattle.element_check.specs.Value.{counted_length, has_foreign, is_counted, is_decimal, is_digits, is_foreign, is_mark, is_sign, is_unsigned}
 use Rattle.contrl_segments.specs.Service.{level_word}
 use Rattle.contrl_laws.proofs.Items.{IsGoodValue, Passes}
 
@@ -115,7 +115,7 @@ an_moved one two must max v level good = record {
 }
 
 -- the same of octets of a tag
-some_filled : (v : List ℕ) → 1 ≤ length v → is_filled v ≡ true
+some_filled : (v : List ℕ) → 1 ≤ length v → has_octet v ≡ true
 some_filled v some = ap not (ne_eqb (length v) 0 (λ same. omega arith))
 
 pub octets_good : (context : Context) (must exact : Bool) (max : ℕ) (v : List ℕ) → list_all is_tag_octet_of v ≡ true → 1 ≤ length v → length v ≤ max → (exact ≡ true → max ≤ length v)

@@ -6,12 +6,12 @@ use Rattle.std.proofs.lemmas.Bool.{and_left, and_parts, cases_Bool, eqb-true, ne
 use Rattle.std.proofs.lemmas.List.{append-nil, append_assoc, drop_more, get_or-drop, length-drop, map-append, take_all, take_more}
 use Rattle.std.proofs.lemmas.List.Edits.{between_none}
 use Rattle.seg_lexer.specs.Fields.{Component, component_in, components_of, cut, element_in, fields_of, is_cut, stretches, unplaced}
-use Rattle.value_lexer.specs.Stretch.{Stretch, octets_in, places_that}
-use Rattle.value_lexer.specs.Released.{is_release, is_released, value_of}
-use Rattle.value_lexer.specs.Scan.{releases}
+use Rattle.seg_lexer.specs.Stretch.{Stretch, octets_in, places_that}
+use Rattle.seg_lexer.specs.Released.{is_release, is_released, value_of}
+use Rattle.seg_lexer.specs.Scan.{releases}
 use Rattle.seg_lexer.specs.declared.service.Separators.{Separators}
-use Rattle.value_lexer.proofs.PlacesLemmas.{filter-fail, filter-pass}
-use Rattle.value_lexer.proofs.ReleasedLemmas.{is_released-more, is_released-start}
+use Rattle.seg_lexer.proofs.PlacesLemmas.{filter-fail, filter-pass}
+use Rattle.seg_lexer.proofs.ReleasedLemmas.{is_released-more, is_released-start}
 
 -- octets put before the first of some parts
 abbrev pub before : List ℕ → List (List ℕ) → List (List ℕ)

@@ -6,12 +6,12 @@ use Rattle.std.proofs.lemmas.Bool.{and_left, and_parts, cases_Bool, leb-true, ne
 use Rattle.std.proofs.lemmas.List.{append-nil}
 use Rattle.edi_tables.specs.Tag.{is_capital, is_digit, is_tag_octet_of, is_tag_of}
 use Rattle.seg_lexer.specs.Fields.{components_of, separators_of}
-use Rattle.value_lexer.specs.Released.{value_of}
-use Rattle.value_lexer.specs.Scan.{released_after, releases}
-use Rattle.value_lexer.specs.Breaks.{is_break}
+use Rattle.seg_lexer.specs.Released.{value_of}
+use Rattle.seg_lexer.specs.Scan.{released_after, releases}
+use Rattle.seg_lexer.specs.Breaks.{is_break}
 use Rattle.seg_lexer.specs.Service.{default_service}
 use Rattle.seg_lexer.proofs.EndsLemmas.{found}
-use Rattle.value_lexer.proofs.ForwardLemmas.{plain, value-is}
+use Rattle.seg_lexer.proofs.ForwardLemmas.{plain, value-is}
 use Rattle.contrl_segments.specs.ReadBack.{component_read, components_read, element_read, values_read}
 use Rattle.contrl_segments.specs.Written.{Element, Segment, alone, element_text, elements_text, is_empty_element, is_empty_value, is_service, octet_text, segment_text, trimmed, value_text, values_text}
 use Rattle.contrl_segments.proofs.PieceLemmas.{before, before-before, before-nil, component_piece, components-are, element_pieces, pieces}

@@ -5,11 +5,11 @@ use Rattle.std.specs.List.{between, prefix_len, starts_with, zip}
 use Rattle.std.specs.Option.{option_map}
 use Rattle.std.proofs.lemmas.List.{take_at}
 use Rattle.seg_lexer.specs.Fields.{components_of, separators_of}
-use Rattle.value_lexer.specs.Released.{is_released}
+use Rattle.seg_lexer.specs.Released.{is_released}
 use Rattle.seg_lexer.specs.Segments.{boundaries_of, ends_of, segment_in, segments_of, tail_of}
-use Rattle.value_lexer.specs.Breaks.{is_break, lead}
+use Rattle.seg_lexer.specs.Breaks.{is_break, lead}
 use Rattle.seg_lexer.specs.Service.{advised_service, default_service, service_of}
-use Rattle.value_lexer.specs.Stretch.{octets_in}
+use Rattle.seg_lexer.specs.Stretch.{octets_in}
 use Rattle.seg_lexer.specs.Whole.{IsWhole, contents_of}
 use Rattle.seg_lexer.proofs.AppendLemmas.{contents-append, tail-append}
 use Rattle.seg_lexer.proofs.EndsLemmas.{after-forward, ends-forward, ends-front, found}

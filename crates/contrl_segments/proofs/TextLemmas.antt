@@ -4,7 +4,7 @@ use Rattle.std.specs.Borrow.{Bor}
 use Rattle.std.specs.List.{flat_map, list_all}
 use Rattle.std.proofs.lemmas.List.{append_assoc}
 use Rattle.edi_tables.specs.declared.tag.Tag.{Tag}
-use Rattle.contrl_segments.specs.declared.segment.Value.{Value}
+use Rattle.contrl_segments.specs.declared.segment.WrittenValue.{WrittenValue}
 use Rattle.error_ledger.specs.declared.error.ErrorLine.{ErrorLine}
 use Rattle.error_ledger.specs.Kinds.{code_of}
 use Rattle.contrl_segments.specs.Details.{details_of, position_of, tag_told}
@@ -17,16 +17,16 @@ flat_map-map : {X Y Z : Type 0} (f : Y → List Z) (g : X → Y) (xs : List X) �
 flat_map-map f g [] = refl
 flat_map-map f g (x ∷ xs) = ap (λ zs. f (g x) ++ zs) (flat_map-map f g xs)
 
-pub values_text-lent : (first : Value) (later : List Value) → values_text (map value_lent (first ∷ later)) ≡ value_text (value_lent first) ++ flat_map (λ v. 58 ∷ value_text (value_lent v)) later
+pub values_text-lent : (first : WrittenValue) (later : List WrittenValue) → values_text (map value_lent (first ∷ later)) ≡ value_text (value_lent first) ++ flat_map (λ v. 58 ∷ value_text (value_lent v)) later
 values_text-lent first later = ap (λ zs. value_text (value_lent first) ++ zs) (flat_map-map (λ v. 58 ∷ value_text v) value_lent later)
 
 -- an element of which nothing is kept, and one of which some values are
-pub element_text-none : (element : Element) (kept : List Value) → map value_lent kept ≡ trimmed is_empty_value element → length kept ≡ 0 → element_text element ≡ []
+pub element_text-none : (element : Element) (kept : List WrittenValue) → map value_lent kept ≡ trimmed is_empty_value element → length kept ≡ 0 → element_text element ≡ []
 unfolding element_text
 element_text-none element [] is none = ap values_text (sym is)
 element_text-none element (k ∷ ks) is none = absurd (omega arith)
 
-pub element_text-some : (element : Element) (kept : List Value) (first : Value) (later : List Value) → map value_lent kept ≡ trimmed is_empty_value element → kept ≡ first ∷ later
+pub element_text-some : (element : Element) (kept : List WrittenValue) (first : WrittenValue) (later : List WrittenValue) → map value_lent kept ≡ trimmed is_empty_value element → kept ≡ first ∷ later
     → element_text element ≡ value_text (value_lent first) ++ flat_map (λ v. 58 ∷ value_text (value_lent v)) later
 unfolding element_text
 element_text-some element kept first later is some = ap values_text (sym is) ∙ (ap (λ zs. values_text (map value_lent zs)) some ∙ values_text-lent first later)
@@ -41,7 +41,7 @@ details-some e =
     ap (λ (b : Bool). (b && true) && (list_all is_empty_element (alone (tag_told e.kind e.tag) ∷ position_of e ∷ []))) (decimal-some (code_of e.kind))
 
 -- so the elements of an answer with an error are those of its subject, and what is kept of the details
-pub answer_text : (tag : Tag) (subject : List (Bor (List Value))) (e : ErrorLine)
+pub answer_text : (tag : Tag) (subject : List (Bor (List WrittenValue))) (e : ErrorLine)
     → segment_text (answer_lent tag subject (Some e)) ≡ tag.octets ++ elements_text (map element_lent subject) ++ elements_text (trimmed is_empty_element (details_of e)) ++ 39 ∷ []
 unfolding segment_text
 answer_text tag subject e =

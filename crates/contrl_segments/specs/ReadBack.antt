@@ -1,6 +1,7 @@
 -- What is written is read back as it was.
 use Rattle.std.specs.Prelude.{ℕ, ◌≡◌, List, [], ◌∷◌, map, None}
 use Rattle.std.specs.List.{enumerate_from, flat_map}
+use Rattle.edi_tables.specs.Octets.{Octets}
 use Rattle.seg_lexer.specs.Fields.{Component, components_of, separators_of}
 use Rattle.seg_lexer.specs.Segments.{tail_of}
 use Rattle.seg_lexer.specs.Service.{default_service, service_of}
@@ -12,7 +13,7 @@ abbrev pub values_read : Element → Element
 values_read [] = [] ∷ []
 values_read (v ∷ vs) = v ∷ vs
 
-abbrev pub component_read : ℕ → ℕ × List ℕ → Component
+abbrev pub component_read : ℕ → ℕ × Octets → Component
 component_read element p = record { element = element; component = p.0; octets = p.1 }
 
 abbrev pub element_read : ℕ × Element → List Component
@@ -24,7 +25,7 @@ components_read s = flat_map element_read (enumerate_from 0 (alone s.tag ∷ tri
 
 -- octets are read as these segments: by the default service characters, with these components segment by segment, and
 -- without a tail
-pub record IsReadAs (segments : List Segment) (octets : List ℕ) : Type 0 where
+pub record IsReadAs (segments : List Segment) (octets : Octets) : Type 0 where
   pub service : service_of octets ≡ default_service
   pub components : map (components_of (separators_of default_service)) (contents_of default_service octets)
       ≡ map components_read segments

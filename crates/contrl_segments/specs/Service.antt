@@ -1,5 +1,6 @@
 -- The service segments of an acknowledgement, except those of the reports of messages.
 use Rattle.std.specs.Prelude.{ℕ, List, [], ◌∷◌, ◌++◌, Option, codes, decimal}
+use Rattle.edi_tables.specs.Octets.{Octets}
 use Rattle.error_ledger.specs.declared.error.ErrorLine.{ErrorLine}
 use Rattle.seg_lexer.specs.declared.context.Level.{Level}
 use Rattle.seg_lexer.specs.declared.context.Level.TheVariants.{A, B, C, D, E, F}
@@ -10,18 +11,18 @@ use Rattle.contrl_segments.specs.Details.{details_told}
 use Rattle.contrl_segments.specs.Written.{Element, Segment, alone}
 
 -- 0083: 4 rejects what a segment answers, 7 acknowledges it
-abbrev pub rejected : List ℕ
+abbrev pub rejected : Octets
 rejected = codes "4"
 
-abbrev pub acknowledged : List ℕ
+abbrev pub acknowledged : Octets
 acknowledged = codes "7"
 
 -- UCI, UCF and UCM: what is answered, the action, and the error that it is rejected for, where one is told
-abbrev pub answer : List ℕ → List Element → List ℕ → Option ErrorLine → Segment
+abbrev pub answer : Octets → List Element → Octets → Option ErrorLine → Segment
 answer tag subject action error = record { tag = tag; elements = subject ++ alone action ∷ details_told error }
 
 -- the word of a level
-abbrev pub level_word : Level → List ℕ
+abbrev pub level_word : Level → Octets
 level_word A = codes "UNOA"
 level_word B = codes "UNOB"
 level_word C = codes "UNOC"
@@ -39,7 +40,7 @@ group_party p = p.id ∷ p.qualifier ∷ []
 
 -- UNB: the level and version of the text that is answered, its recipient as sender, its sender as recipient, the stamp,
 -- and a reference
-abbrev pub unb : Level → ℕ → Party → Party → Stamp → List ℕ → Segment
+abbrev pub unb : Level → ℕ → Party → Party → Stamp → Octets → Segment
 unb level version sender recipient stamp reference = record {
   tag = codes "UNB";
   elements = (level_word level ∷ decimal version ∷ []) ∷ interchange_party recipient ∷ interchange_party sender
@@ -54,12 +55,12 @@ unh = record {
 }
 
 -- UCI: the interchange that is answered, with its own sender and recipient
-abbrev pub uci : Party → Party → List ℕ → List ℕ → Option ErrorLine → Segment
+abbrev pub uci : Party → Party → Octets → Octets → Option ErrorLine → Segment
 uci sender recipient reference action error =
     answer (codes "UCI") (alone reference ∷ interchange_party sender ∷ interchange_party recipient ∷ []) action error
 
 -- UCF: a functional group that is answered
-abbrev pub ucf : GroupHead → List ℕ → Option ErrorLine → Segment
+abbrev pub ucf : GroupHead → Octets → Option ErrorLine → Segment
 ucf g action error =
     answer (codes "UCF") (alone g.reference ∷ group_party g.sender ∷ group_party g.recipient ∷ []) action error
 
@@ -68,5 +69,5 @@ abbrev pub unt : ℕ → Segment
 unt count = record { tag = codes "UNT"; elements = alone (decimal count) ∷ alone (codes "1") ∷ [] }
 
 -- UNZ: one message
-abbrev pub unz : List ℕ → Segment
+abbrev pub unz : Octets → Segment
 unz reference = record { tag = codes "UNZ"; elements = alone (codes "1") ∷ alone reference ∷ [] }

@@ -3,7 +3,7 @@ ghost use Rattle.std.specs.Prelude.{◌≡◌, map};
 ghost use Rattle.contrl_segments.specs.Details.{code_told, has_position as has_position_of, is_envelope_tag, is_near as is_near_of, position_of, tag_told as tag_told_of};
 ghost use Rattle.contrl_segments.specs.Lent.{value_lent};
 
-use crate::segment::Value;
+use crate::segment::WrittenValue;
 use edi_tables::Tag;
 use error_ledger::{ErrorLine, Kind, code_of};
 
@@ -14,17 +14,17 @@ const LAST_ELEMENT: u32 = 998;
 const LAST_COMPONENT: u32 = 999;
 
 /// The code of an error.
-pub fn told_code(error: &ErrorLine) -> Value<'_>
+pub fn told_code(error: &ErrorLine) -> WrittenValue<'_>
     ensures { value_lent result ≡ code_told error.now }
 {
-    Value::Number(u32::from(code_of(error.kind)))
+    WrittenValue::Number(u32::from(code_of(error.kind)))
 }
 
 // The envelope segment that is bad or missing, or that an error is at.
-pub(crate) fn told_tag(error: &ErrorLine) -> Value<'_>
+pub(crate) fn told_tag(error: &ErrorLine) -> WrittenValue<'_>
     ensures { value_lent result ≡ tag_told_of error.now.kind error.now.tag }
 {
-    Value::Octets(match error.kind {
+    WrittenValue::Octets(match error.kind {
         Kind::BadUna => b"UNA",
         Kind::NoUnz => b"UNZ",
         Kind::NoUne => b"UNE",
@@ -46,17 +46,17 @@ fn is_envelope(tag: &Tag) -> bool
 }
 
 /// The position of an error in its segment: that of the element, counted with the tag, and the number of the component.
-pub fn told_position(error: &ErrorLine) -> [Value<'_>; 2]
+pub fn told_position(error: &ErrorLine) -> [WrittenValue<'_>; 2]
     ensures { map value_lent result ≡ position_of error.now }
 {
     if !has_position(error) {
-        return [Value::Octets(b""), Value::Octets(b"")];
+        return [WrittenValue::Octets(b""), WrittenValue::Octets(b"")];
     }
-    let element = Value::Number(error.element + 1);
+    let element = WrittenValue::Number(error.element + 1);
     if error.component == 0 {
-        return [element, Value::Octets(b"")];
+        return [element, WrittenValue::Octets(b"")];
     }
-    [element, Value::Number(error.component)]
+    [element, WrittenValue::Number(error.component)]
 }
 
 // Whether an error is at an element, and near enough for its position to be told.

@@ -12,22 +12,22 @@ use std::alloc::AllocError;
 
 /// A value that is written: octets, or a number in decimal.
 #[derive(Clone, Copy)]
-pub enum Value<'a> {
+pub enum WrittenValue<'a> {
     Octets(&'a [u8]),
     Number(u32),
 }
 
 /// The values of an element's components.
-pub type Element<'a, 'v> = &'a [Value<'v>];
+pub type Element<'a, 'v> = &'a [WrittenValue<'v>];
 
-impl Value<'_> {
+impl WrittenValue<'_> {
     // Whether it has no octet.
     fn is_empty(self) -> bool
         ensures { result ≡ is_empty_value (value_lent self.entry) }
     {
         match self {
-            Value::Octets(octets) => octets.is_empty(),
-            Value::Number(_number) => false,
+            WrittenValue::Octets(octets) => octets.is_empty(),
+            WrittenValue::Number(_number) => false,
         }
     }
 }
@@ -94,14 +94,14 @@ fn kept_elements<'a, 'b, 'v>(elements: &'a [Element<'b, 'v>]) -> &'a [Element<'b
 }
 
 // Whether an element has no value but empty ones.
-fn is_empty(element: &[Value<'_>]) -> bool
+fn is_empty(element: &[WrittenValue<'_>]) -> bool
     ensures { result ≡ is_empty_element (map value_lent element.now) }
 {
     element.iter().all(|value| value.is_empty())
 }
 
 // Puts the values of an element, without the empty ones at the end.
-fn put_element(out: &mut Chunk, element: &[Value<'_>]) -> Result<(), AllocError>
+fn put_element(out: &mut Chunk, element: &[WrittenValue<'_>]) -> Result<(), AllocError>
     ensures { OnOk result (out.new ≡ out.old ++ element_text (map value_lent element.now)) }
 {
     let Some((first, later)) = kept_values(element).split_first() else {
@@ -116,7 +116,7 @@ fn put_element(out: &mut Chunk, element: &[Value<'_>]) -> Result<(), AllocError>
 }
 
 // The values up to the last that isn't empty.
-fn kept_values<'a, 'b>(values: &'a [Value<'b>]) -> &'a [Value<'b>]
+fn kept_values<'a, 'b>(values: &'a [WrittenValue<'b>]) -> &'a [WrittenValue<'b>]
     ensures { map value_lent result.now ≡ trimmed is_empty_value (map value_lent values.now) }
 {
     let mut kept = 0;
@@ -128,12 +128,12 @@ fn kept_values<'a, 'b>(values: &'a [Value<'b>]) -> &'a [Value<'b>]
     &values[..kept]
 }
 
-fn put_value(out: &mut Chunk, value: Value<'_>) -> Result<(), AllocError>
+fn put_value(out: &mut Chunk, value: WrittenValue<'_>) -> Result<(), AllocError>
     ensures { OnOk result (out.new ≡ out.old ++ value_text (value_lent value.entry)) }
 {
     match value {
-        Value::Octets(octets) => put_octets(out, octets),
-        Value::Number(number) => put_octets(out, Buffer::new().format(number).as_bytes()),
+        WrittenValue::Octets(octets) => put_octets(out, octets),
+        WrittenValue::Number(number) => put_octets(out, Buffer::new().format(number).as_bytes()),
     }
 }
 

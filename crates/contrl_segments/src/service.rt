@@ -5,7 +5,7 @@ ghost use Rattle.contrl_segments.specs.Service.{group_party as group_party_of, i
 ghost use Rattle.contrl_segments.specs.Lent.{action_for, value_lent};
 ghost use Rattle.std.specs.Option.{option_copied};
 
-use crate::segment::Value::{self, Number, Octets};
+use crate::segment::WrittenValue::{self, Number, Octets};
 use crate::segment::{put_answer, put_segment};
 use crate::stamp::Stamp;
 use crate::summary::Party;
@@ -83,7 +83,7 @@ fn level_word<'a>(level: Level) -> &'a [u8]
     }
 }
 
-fn interchange_party(party: &Party) -> [Value<'_>; 3]
+fn interchange_party(party: &Party) -> [WrittenValue<'_>; 3]
     ensures { map value_lent result ≡ interchange_party_of party.now }
 {
     [
@@ -94,7 +94,7 @@ fn interchange_party(party: &Party) -> [Value<'_>; 3]
 }
 
 /// A party of a functional group, as it is written: its identification and the qualifier of that.
-pub fn group_party(party: &Party) -> [Value<'_>; 2]
+pub fn group_party(party: &Party) -> [WrittenValue<'_>; 2]
     ensures { map value_lent result ≡ group_party_of party.now }
 {
     [Octets(party.id.octets()), Octets(party.qualifier.octets())]

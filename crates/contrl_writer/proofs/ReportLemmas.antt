@@ -13,7 +13,7 @@ use Rattle.contrl_segments.specs.declared.summary.MessageHead.{MessageHead}
 use Rattle.contrl_writer.specs.Levels.{is_level}
 use Rattle.contrl_writer.specs.Lower.{AreInMessage, joined, told, with_segments}
 use Rattle.contrl_writer.specs.Raising.{segment_of}
-use Rattle.contrl_writer.specs.Report.{errors_at, message_blocks, report, segment_blocks, ucm}
+use Rattle.contrl_writer.specs.Report.{errors_of_position, message_blocks, report, segment_blocks, ucm}
 use Rattle.contrl_segments.specs.Written.{Segment}
 use Rattle.contrl_writer.proofs.LowerLemmas.{take-append, take-nil, with_segments-append, with_segments-nil}
 
@@ -77,17 +77,17 @@ module _ {Y : Type 0} where
   ]
 
 module _ (m : MessageHead) where
-  none-at : (q : ℕ) (es : List Levelled) → Each (λ x. m.first + q ≢ segment_of x + 1) es → errors_at m q es ≡ []
+  none-at : (q : ℕ) (es : List Levelled) → Each (λ x. m.first + q ≢ segment_of x + 1) es → errors_of_position m q es ≡ []
   none-at q es each = filter-none (λ x. eqb (x.error.segment + 1) (m.first + q)) es (each-map _ _ es (λ x other. ne_eqb (x.error.segment + 1) (m.first + q) (λ same. other (sym same))) each)
 
-  all-at : (q : ℕ) (es : List Levelled) → Each (λ x. m.first + q ≡ segment_of x + 1) es → errors_at m q es ≡ es
+  all-at : (q : ℕ) (es : List Levelled) → Each (λ x. m.first + q ≡ segment_of x + 1) es → errors_of_position m q es ≡ es
   all-at q es each = filter-each (λ x. eqb (x.error.segment + 1) (m.first + q)) es (each-map _ _ es (λ x same. eq-eqb (x.error.segment + 1) (m.first + q) (sym same)) each)
 
   -- errors after the last position that is told have no blocks
   far-blocks : (es : List Levelled) → Each (λ x. m.first + 999999 ≤ segment_of x) es → message_blocks m es ≡ []
   far-blocks es each =
       let count : ℕ = min 999999 (m.last + 1 - m.first) in
-      flat_map-none (λ q. segment_blocks q (errors_at m q es)) 1 count (λ q low high.
+      flat_map-none (λ q. segment_blocks q (errors_of_position m q es)) 1 count (λ q low high.
       ap (segment_blocks q) (none-at q es (each-map _ _ es (λ x beyond. λ same. omega arith) each)))
 
   -- errors of one segment, and of later ones
@@ -97,17 +97,17 @@ module _ (m : MessageHead) where
   split-blocks s here later first last near at after =
       let count : ℕ = min 999999 (m.last + 1 - m.first) in
       let p : ℕ = s - m.first + 1 in
-      let f : ℕ → List (List Segment) = λ q. segment_blocks q (errors_at m q (here ++ later)) in
-      let g : ℕ → List (List Segment) = λ q. segment_blocks q (errors_at m q later) in
-      let both : (q : ℕ) → errors_at m q (here ++ later) ≡ errors_at m q here ++ errors_at m q later = λ q. filter-append (λ x. eqb (x.error.segment + 1) (m.first + q)) here later in
-      let no_here : (q : ℕ) → (q ≢ p) → errors_at m q here ≡ [] = λ q other. none-at q here (each-map _ _ here (λ x is. λ same. other (omega arith)) at) in
-      let no_later : (q : ℕ) → q ≤ p → errors_at m q later ≡ [] = λ q low. none-at q later (each-map _ _ later (λ x is. λ same. omega arith) after) in
-      let own : errors_at m p (here ++ later) ≡ here =
-      both p ∙ (ap (λ es. es ++ errors_at m p later) (all-at p here (each-map _ _ here (λ x is. omega arith) at)) ∙ (ap (λ es. here ++ es) (no_later p (omega arith)) ∙ append-nil here)) in
+      let f : ℕ → List (List Segment) = λ q. segment_blocks q (errors_of_position m q (here ++ later)) in
+      let g : ℕ → List (List Segment) = λ q. segment_blocks q (errors_of_position m q later) in
+      let both : (q : ℕ) → errors_of_position m q (here ++ later) ≡ errors_of_position m q here ++ errors_of_position m q later = λ q. filter-append (λ x. eqb (x.error.segment + 1) (m.first + q)) here later in
+      let no_here : (q : ℕ) → (q ≢ p) → errors_of_position m q here ≡ [] = λ q other. none-at q here (each-map _ _ here (λ x is. λ same. other (omega arith)) at) in
+      let no_later : (q : ℕ) → q ≤ p → errors_of_position m q later ≡ [] = λ q low. none-at q later (each-map _ _ later (λ x is. λ same. omega arith) after) in
+      let own : errors_of_position m p (here ++ later) ≡ here =
+      both p ∙ (ap (λ es. es ++ errors_of_position m p later) (all-at p here (each-map _ _ here (λ x is. omega arith) at)) ∙ (ap (λ es. here ++ es) (no_later p (omega arith)) ∙ append-nil here)) in
       flat_map-split f g p
-      (λ q low. ap (segment_blocks q) (both q ∙ (ap (λ es. es ++ errors_at m q later) (no_here q (λ same. omega arith)) ∙ no_later q (omega arith))))
+      (λ q low. ap (segment_blocks q) (both q ∙ (ap (λ es. es ++ errors_of_position m q later) (no_here q (λ same. omega arith)) ∙ no_later q (omega arith))))
       (λ q low. ap (segment_blocks q) (no_later q low))
-      (λ q high. ap (segment_blocks q) (both q ∙ ap (λ es. es ++ errors_at m q later) (no_here q (λ same. omega arith))))
+      (λ q high. ap (segment_blocks q) (both q ∙ ap (λ es. es ++ errors_of_position m q later) (no_here q (λ same. omega arith))))
       1 count (omega arith) (omega arith)
       ∙ ap (λ es. segment_blocks p es ++ message_blocks m later) own
 

@@ -16,7 +16,7 @@ use Rattle.contrl_segments.specs.Service.{uci, unt, unz}
 use Rattle.contrl_segments.specs.Details.{code_told}
 use Rattle.contrl_writer.specs.Levels.{first_error, interchange_errors, levelled, message_errors}
 use Rattle.contrl_writer.specs.Lower.{joined}
-use Rattle.contrl_writer.specs.Report.{blocks_of, details_in, errors_at, heads_of, message_blocks, positions_of, report, segment_blocks, segment_errors, element_errors, ucd, ucs}
+use Rattle.contrl_writer.specs.Report.{blocks_of, details_in, errors_of_position, heads_of, message_blocks, positions_of, report, segment_blocks, segment_errors, element_errors, ucd, ucs}
 use Rattle.contrl_segments.specs.Written.{Segment, contrl_text, segment_text}
 use Rattle.contrl_segments.proofs.QuietLemmas.{IsWritten, tag-written}
 use Rattle.contrl_segments.proofs.ReadLemmas.{AllWritten}
@@ -74,9 +74,9 @@ report-written : (m : MessageHead) (es : List Levelled) → AllWritten (report m
 unfolding report
 report-written m es = (
   tag-written (codes "UCM") refl,
-  blocks-joined (take 999 (message_blocks m es)) (blocks-take 999 (message_blocks m es) (blocks-all (λ position. segment_blocks position (errors_at m position es)) (λ position.
-      blocks-of (heads_of position (segment_errors (errors_at m position es)) (element_errors (errors_at m position es))) (details_in (element_errors (errors_at m position es)))
-      (heads-written position (segment_errors (errors_at m position es)) (element_errors (errors_at m position es)))
+  blocks-joined (take 999 (message_blocks m es)) (blocks-take 999 (message_blocks m es) (blocks-all (λ position. segment_blocks position (errors_of_position m position es)) (λ position.
+      blocks-of (heads_of position (segment_errors (errors_of_position m position es)) (element_errors (errors_of_position m position es))) (details_in (element_errors (errors_of_position m position es)))
+      (heads-written position (segment_errors (errors_of_position m position es)) (element_errors (errors_of_position m position es)))
       (written-take 99 _ (written-map ucd (λ x. tag-written (codes "UCD") refl) _)))
       (positions_of m))),
 )

@@ -1,6 +1,7 @@
 -- The acknowledgement of an interchange: a CONTRL message, and the interchange that it is sent in.
 use Rattle.std.specs.Prelude.{ℕ, ◌+◌, ◌==◌, Bool, false, List, [], ◌∷◌, ◌++◌, length, filter, take, Option, Some, None}
 use Rattle.std.specs.List.{enumerate_from, flat_map}
+use Rattle.edi_tables.specs.Octets.{Octets}
 use Rattle.error_ledger.specs.declared.error.ErrorLine.{ErrorLine}
 use Rattle.contrl_writer.specs.declared.answer.Contrl.{Contrl}
 use Rattle.contrl_writer.specs.declared.answer.Contrl.TheVariants as answers
@@ -53,7 +54,7 @@ lower_segments errors messages (g ∷ gs) = flat_map (group_answers errors messa
 
 -- the answer to an interchange: rejected for its first error at interchange level; else acknowledged, with the first
 -- 99,000 lower segments
-abbrev pub interchange_answer : (List ℕ → Option ErrorLine → Segment) → Option ErrorLine → List Segment → List Segment
+abbrev pub interchange_answer : (Octets → Option ErrorLine → Segment) → Option ErrorLine → List Segment → List Segment
 interchange_answer told (Some e) lower = told rejected (Some e) ∷ []
 interchange_answer told None lower = told acknowledged None ∷ take 99000 lower
 
@@ -62,7 +63,7 @@ abbrev pub message_of : List Segment → List Segment
 message_of body = unh ∷ body ++ unt (length body + 2) ∷ []
 
 -- the segments of the acknowledgement of an interchange that is opened so; none where its UNB is missing or bad
-abbrev pub contrl_for : Opening → Summary → Stamp → List ℕ → List Segment
+abbrev pub contrl_for : Opening → Summary → Stamp → Octets → List Segment
 contrl_for NoUnb s stamp own = []
 contrl_for BadUnb s stamp own = []
 contrl_for (Good level version sender recipient reference) s stamp own =
@@ -72,7 +73,7 @@ contrl_for (Good level version sender recipient reference) s stamp own =
     unb level version sender recipient stamp own ∷ message_of body ++ unz own ∷ []
 
 -- the segments of the acknowledgement of a summary, with a stamp and a reference of its own
-unfoldable pub contrl_of : Summary → Stamp → List ℕ → List Segment
+unfoldable pub contrl_of : Summary → Stamp → Octets → List Segment
 contrl_of s stamp own = contrl_for s.opening s stamp own
 
 -- what is answered: that the UNB is missing, or bad, or the octets of these segments
@@ -81,5 +82,5 @@ answer_by NoUnb segments = answers.NoUnb
 answer_by BadUnb segments = answers.BadUnb
 answer_by (Good level version sender recipient reference) segments = answers.Octets (contrl_text segments)
 
-abbrev pub answer_to : Summary → Stamp → List ℕ → Contrl
+abbrev pub answer_to : Summary → Stamp → Octets → Contrl
 answer_to s stamp own = answer_by s.opening (contrl_of s stamp own)

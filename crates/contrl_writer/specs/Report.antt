@@ -1,6 +1,7 @@
 -- The report of a message: a UCM, and for each segment with errors its UCS and UCD.
 use Rattle.std.specs.Prelude.{ℕ, ◌+◌, ◌-◌, min, Bool, true, false, ◌==◌, List, [], ◌∷◌, map, filter, take, codes, decimal}
 use Rattle.std.specs.List.{flat_map, range_with_len}
+use Rattle.edi_tables.specs.Octets.{Octets}
 use Rattle.error_ledger.specs.declared.kind.Kind.{Kind}
 use Rattle.error_ledger.specs.declared.kind.Kind.TheVariants.{NoTable, Reference, Count}
 use Rattle.error_ledger.specs.Kinds.{is_of_element, is_of_segment}
@@ -38,7 +39,7 @@ ucm m errors =
     answer (codes "UCM") (alone m.reference ∷ identifier_of m ∷ []) rejected (first_error (whole_errors errors))
 
 -- UCS: the position of a segment in its message, where UNH has position 1, and a code
-abbrev pub ucs : ℕ → List ℕ → Segment
+abbrev pub ucs : ℕ → Octets → Segment
 ucs position code = record { tag = codes "UCS"; elements = alone (decimal position) ∷ alone code ∷ [] }
 
 -- UCD: the code and the place of an error of an element
@@ -68,8 +69,8 @@ segment_blocks position errors =
     blocks_of (heads_of position (segment_errors errors) (element_errors errors)) (details_in (element_errors errors))
 
 -- the errors of the segment with this position in a message
-abbrev pub errors_at : MessageHead → ℕ → List Levelled → List Levelled
-errors_at m position errors = filter (λ x. x.error.segment + 1 == m.first + position) errors
+abbrev pub errors_of_position : MessageHead → ℕ → List Levelled → List Levelled
+errors_of_position m position errors = filter (λ x. x.error.segment + 1 == m.first + position) errors
 
 -- the positions of the segments of a message, as far as they have at most six digits
 abbrev pub positions_of : MessageHead → List ℕ
@@ -77,7 +78,7 @@ positions_of m = range_with_len 1 (min 999999 (m.last + 1 - m.first))
 
 -- the blocks of a message with these errors, segment by segment
 abbrev pub message_blocks : MessageHead → List Levelled → List (List Segment)
-message_blocks m errors = flat_map (λ position. segment_blocks position (errors_at m position errors)) (positions_of m)
+message_blocks m errors = flat_map (λ position. segment_blocks position (errors_of_position m position errors)) (positions_of m)
 
 -- the report of a message with these errors: at most 999 blocks
 unfoldable pub report : MessageHead → List Levelled → List Segment

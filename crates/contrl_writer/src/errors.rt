@@ -19,11 +19,11 @@ const UNE: Tag = Tag { octets: *b"UNE" };
 
 /// The errors of a summary in order, each with its level: seen as their list.
 #[derive(Debug, Drop)]
-pub(crate) struct Errors {
+pub(crate) struct LevelledErrors {
     items: Vec<Levelled>,
 }
 
-impl Model for Errors {
+impl Model for LevelledErrors {
     ghost use Rattle.std.specs.Prelude.{List};
     ghost use Rattle.std.specs.List.Sorted.{IsNonDecreasingBy};
     ghost use Rattle.contrl_writer.specs.declared.level.Levelled as levels;
@@ -35,9 +35,9 @@ impl Model for Errors {
     ghost invariant = { λ e. IsNonDecreasingBy (λ x. x.error.segment) e.items.items };
 }
 
-impl Errors {
+impl LevelledErrors {
     /// Those of a summary.
-    pub(crate) fn of(alloc: Global, summary: &Summary) -> Result<Errors, AllocError>
+    pub(crate) fn of(alloc: Global, summary: &Summary) -> Result<LevelledErrors, AllocError>
         ensures { IfOk result (λ e. e ≡ levelled summary.now) }
     {
         let errors = put_in_order(alloc, summary.errors.items())?;
@@ -48,7 +48,7 @@ impl Errors {
         for message in summary.messages.items() {
             raise_to_message(&mut items, message);
         }
-        Ok(Errors { items })
+        Ok(LevelledErrors { items })
     }
 
     /// All of them.
@@ -81,7 +81,7 @@ pub(crate) fn first_told(errors: &[Levelled], level: ErrorLevel) -> Option<&Erro
     None
 }
 
-// Errors in order.
+// LevelledErrors in order.
 fn put_in_order(alloc: Global, errors: &[ErrorLine]) -> Result<Vec<ErrorLine>, AllocError>
     ensures { IfOk result (λ v. v.items ≡ in_order errors.now) }
 {
@@ -90,7 +90,7 @@ fn put_in_order(alloc: Global, errors: &[ErrorLine]) -> Result<Vec<ErrorLine>, A
     Ok(ordered)
 }
 
-// Errors with the levels that they have where there are no groups and no messages.
+// LevelledErrors with the levels that they have where there are no groups and no messages.
 fn told_alone(alloc: Global, errors: &[ErrorLine]) -> Result<Vec<Levelled>, AllocError>
     ensures { IfOk result (λ v. v.items ≡ map (with_level [] []) errors.now) }
 {

@@ -8,12 +8,12 @@ ghost use Rattle.contrl_segments.specs.Lent.{action_for};
 ghost use Rattle.contrl_writer.specs.Levels.{first_error, group_errors, message_errors};
 ghost use Rattle.contrl_writer.specs.Lower.{has_told, with_segments};
 
-use crate::errors::{Errors, first_told};
+use crate::errors::{LevelledErrors, first_told};
 use crate::level::ErrorLevel;
 use crate::lower::Lower;
 use crate::members::{Member, Members};
 use crate::report::put_report;
-use contrl_segments::Value::Octets;
+use contrl_segments::WrittenValue::Octets;
 use contrl_segments::{GroupHead, MessageHead, group_party};
 use edi_tables::Tag;
 use error_ledger::ErrorLine;
@@ -25,7 +25,7 @@ const UCF: Tag = Tag { octets: *b"UCF" };
 pub(crate) fn put_lower(
     alloc: Global,
     out: &mut Lower,
-    errors: &Errors,
+    errors: &LevelledErrors,
     groups: &[GroupHead],
     messages: &[MessageHead],
 ) -> Result<(), AllocError>
@@ -43,7 +43,11 @@ pub(crate) fn put_lower(
 }
 
 // Puts the reports of those messages that have an error.
-fn put_reports(out: &mut Lower, errors: &Errors, messages: &[MessageHead]) -> Result<(), AllocError>
+fn put_reports(
+    out: &mut Lower,
+    errors: &LevelledErrors,
+    messages: &[MessageHead],
+) -> Result<(), AllocError>
     ensures { OnOk result (out.new ≡ with_segments out.old (reports_of errors.now messages.now)) }
 {
     for message in messages {
@@ -55,7 +59,7 @@ fn put_reports(out: &mut Lower, errors: &Errors, messages: &[MessageHead]) -> Re
 // Puts the answer to a group with these messages, where it has one.
 fn put_group(
     out: &mut Lower,
-    errors: &Errors,
+    errors: &LevelledErrors,
     group: &GroupHead,
     members: &[Member<'_>],
 ) -> Result<(), AllocError>
@@ -92,7 +96,7 @@ fn put_ucf(out: &mut Lower, group: &GroupHead, error: Option<&ErrorLine>) -> Res
 }
 
 // Whether one of these messages has an error.
-fn have_error(errors: &Errors, members: &[Member<'_>]) -> bool
+fn have_error(errors: &LevelledErrors, members: &[Member<'_>]) -> bool
     ensures { result ≡ list_any (λ x. has_told errors.now x.message.now) members.now }
 {
     members
@@ -101,7 +105,7 @@ fn have_error(errors: &Errors, members: &[Member<'_>]) -> bool
 }
 
 // Whether a message has an error that is told of it.
-fn has_error(errors: &Errors, message: &MessageHead) -> bool
+fn has_error(errors: &LevelledErrors, message: &MessageHead) -> bool
     ensures { result ≡ has_told errors.now message.now }
 {
     errors
@@ -113,7 +117,7 @@ fn has_error(errors: &Errors, message: &MessageHead) -> bool
 // Puts the report of a message, where it has an error.
 fn put_report_where(
     out: &mut Lower,
-    errors: &Errors,
+    errors: &LevelledErrors,
     message: &MessageHead,
 ) -> Result<(), AllocError>
     ensures { OnOk result

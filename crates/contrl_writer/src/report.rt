@@ -10,7 +10,7 @@ ghost use Rattle.contrl_writer.specs.Report.{identifier_of, report, segment_bloc
 
 use crate::level::{ErrorLevel, Levelled};
 use crate::lower::Lower;
-use contrl_segments::Value::{self, Number, Octets};
+use contrl_segments::WrittenValue::{self, Number, Octets};
 use contrl_segments::{MessageHead, is_near, told_code, told_position};
 use edi_tables::Tag;
 use error_ledger::{ErrorLine, Kind};
@@ -73,7 +73,7 @@ fn put_ucm(out: &mut Lower, message: &MessageHead, errors: &[Levelled]) -> Resul
 }
 
 // What identifies the type of a message.
-fn message_identifier(message: &MessageHead) -> [Value<'_>; 5]
+fn message_identifier(message: &MessageHead) -> [WrittenValue<'_>; 5]
     ensures { map value_lent result ≡ identifier_of message.now }
 {
     [

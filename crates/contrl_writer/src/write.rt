@@ -10,7 +10,7 @@ ghost use Rattle.contrl_segments.specs.Stamp.{IsStamp, is_reference_of};
 ghost use Rattle.contrl_segments.specs.Written.{contrl_text};
 
 use crate::answer::Contrl;
-use crate::errors::{Errors, first_told};
+use crate::errors::{LevelledErrors, first_told};
 use crate::groups::put_lower;
 use crate::level::ErrorLevel;
 use crate::lower::Lower;
@@ -71,7 +71,7 @@ fn put_message(
         (first_error (interchange_errors (levelled summary.now)))
         (lower_segments (levelled summary.now) summary.now.messages summary.now.groups)))) }
 {
-    let errors = Errors::of(alloc, summary)?;
+    let errors = LevelledErrors::of(alloc, summary)?;
     let error = first_told(errors.items(), ErrorLevel::Interchange);
     let mut text = text;
     put_unh(&mut text)?;
@@ -88,7 +88,7 @@ fn put_message(
 fn put_below(
     alloc: Global,
     out: &mut Lower,
-    errors: &Errors,
+    errors: &LevelledErrors,
     summary: &Summary,
     error: Option<&ErrorLine>,
 ) -> Result<(), AllocError>

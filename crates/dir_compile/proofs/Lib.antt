@@ -1,3 +1,14 @@
-pub mod Making
+pub mod Apart
+pub mod AscendingLemmas
+pub mod Faults
+pub mod Formed
+pub mod Groups
 pub mod Kept
+pub mod Lawful
+pub mod Making
+pub mod Members
+pub mod NameSets
+pub mod Named
+pub mod Orders
 pub mod TableNames
+pub mod Twice

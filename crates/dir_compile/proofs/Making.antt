@@ -2,25 +2,25 @@
 use Rattle.std.proofs.Common.{◌≡◌, ℕ, suc, List, [], ◌∷◌, length, ◌<◌, All, Some, slice_get, Result, Ok, Err, sym, ap, ◌∙◌, refl, subst, if◌then◌else◌, Bool, true, false}
 use Rattle.std.proofs.lemmas.Option.{same_Some}
 use Rattle.edi_tables.specs.Rows.{table_faults}
-use Rattle.dir_parts.specs.declared.parts.Parts.{Parts}
-use Rattle.dir_parts.specs.declared.stop.CompileStop.{CompileStop}
-use Rattle.dir_parts.specs.declared.stop.CompileStop.TheVariants.{Fault, Memory}
+use Rattle.dir_compile.specs.declared.parts.Parts.{Parts}
+use Rattle.dir_compile.specs.declared.stop.CompileStop.{CompileStop}
+use Rattle.dir_compile.specs.declared.stop.CompileStop.TheVariants.{Fault, Memory}
 use Rattle.edi_tables.specs.Ascending.{is_before}
-use Rattle.dir_parts.specs.InOrder.{put_in_order, ascending_by, ordered_parts}
-use Rattle.dir_parts.specs.Ordered.{IsOrdered}
-use Rattle.dir_parts.specs.Forms.{HasForms}
-use Rattle.dir_parts.specs.Compile.{compile_faults, message_fault, message_faults, message_name}
+use Rattle.dir_compile.specs.InOrder.{put_in_order, ascending_by, ordered_parts}
+use Rattle.dir_compile.specs.Ordered.{IsOrdered}
+use Rattle.dir_compile.specs.Forms.{HasForms}
+use Rattle.dir_compile.specs.Compile.{compile_faults, message_fault, message_faults, message_name}
 use Rattle.edi_tables.specs.Filled.{is_filled}
 use Rattle.dir_compile.specs.Directory.{IsDirectory, directory_of}
-use Rattle.edi_tables.specs.First.{unless_faulty, Answers}
-use Rattle.dir_parts.specs.Judges.{IsFirstFault}
-use Rattle.dir_parts.specs.Stop.{PartsFault, fault_with, fault_in}
-use Rattle.dir_parts.proofs.Faults.{nil-right, when-nil}
-use Rattle.dir_parts.proofs.Members.{none-place}
-use Rattle.dir_parts.proofs.Groups.{fault-free}
-use Rattle.dir_parts.proofs.Lawful.{ordered-faultless, ordered-in-order}
-use Rattle.dir_parts.proofs.Formed.{forms-ordered}
-use Rattle.dir_parts.proofs.Orders.{ordered_parts-ordered}
+use Rattle.edi_tables.specs.First.{unless_faulty, IsVerdict}
+use Rattle.dir_compile.specs.Judges.{IsFirstFault}
+use Rattle.dir_compile.specs.Stop.{PartsFault, fault_with, fault_in}
+use Rattle.dir_compile.proofs.Faults.{nil-right, when-nil}
+use Rattle.dir_compile.proofs.Members.{none-place}
+use Rattle.dir_compile.proofs.Groups.{fault-free}
+use Rattle.dir_compile.proofs.Lawful.{ordered-faultless, ordered-in-order}
+use Rattle.dir_compile.proofs.Formed.{forms-ordered}
+use Rattle.dir_compile.proofs.Orders.{ordered_parts-ordered}
 
 -- parts that a stop is told of
 unless_faulty-err : {A : Type 0} (faults : List PartsFault) (x : A) (fault : PartsFault) → slice_get faults 0 ≡ Some fault → unless_faulty faults x ≡ Err fault
@@ -29,7 +29,7 @@ unless_faulty-err (f ∷ faults) x fault h = ap Err (same_Some f fault h)
 
 -- what compiling answers
 abbrev pub Compiles : Result Parts CompileStop → Parts → Type 0
-Compiles result parts = Answers (λ directory. directory) fault_in result (directory_of parts)
+Compiles result parts = IsVerdict (λ directory. directory) fault_in result (directory_of parts)
 
 compiles-stop : (stop : CompileStop) (parts : Parts) → IsFirstFault stop (compile_faults parts) → Compiles (Err stop) parts
 unfolding directory_of

@@ -10,10 +10,10 @@ use Rattle.std.proofs.lemmas.Option.{slice_get-map, slice_get_read}
 use Rattle.std.proofs.lemmas.Slice.Eq.{bytes_eq-Decides}
 use Rattle.edi_tables.specs.Rows.{nodes_of}
 use Rattle.edi_tables.specs.declared.segment.MessageDef.{MessageDef}
-use Rattle.dir_parts.specs.declared.parts.Parts.{Parts}
-use Rattle.dir_parts.specs.Compile.{message_name}
+use Rattle.dir_compile.specs.declared.parts.Parts.{Parts}
+use Rattle.dir_compile.specs.Compile.{message_name}
 use Rattle.dir_compile.specs.Directory.{TableName, contrl_name, message_table, table_names, is_table_named, table_named, tables_of}
-use Rattle.dir_parts.proofs.AscendingLemmas.{Has, Contains-from-Has}
+use Rattle.dir_compile.proofs.AscendingLemmas.{Has, Contains-from-Has}
 
 first : (m : ℕ) → cond {A = Option ℕ} (nat_lt 0 (suc m)) (Some 0) None ≡ Some 0
 first m = grind (arith, nat_tests)

@@ -1,19 +1,24 @@
 -- What a directory is, and what it has under a name.
 use Rattle.std.specs.Prelude.{◌≡◌, ◌<◌, ℕ, Bool, ◌&&◌, List, [], ◌∷◌, length, map, position, Option, Result, codes}
 use Rattle.std.specs.Str.{bytes_eq}
+use Rattle.edi_tables.specs.Octets.{Octets}
 use Rattle.edi_tables.specs.declared.segment.MessageDef.{MessageDef}
 use Rattle.edi_tables.specs.declared.table.Node.{Node}
 use Rattle.edi_tables.specs.First.{unless_faulty}
 use Rattle.edi_tables.specs.Rows.{nodes_of}
 use Rattle.service_tables.specs.ServiceTables.{contrl_table_rows}
-use Rattle.dir_parts.specs.declared.parts.Parts.{Parts}
-use Rattle.dir_parts.specs.Stop.{PartsFault}
-use Rattle.dir_parts.specs.Forms.{HasForms}
-use Rattle.dir_parts.specs.Compile.{message_name, compile_faults}
-use Rattle.dir_parts.specs.Ordered.{IsInOrder}
-use Rattle.dir_parts.specs.InOrder.{ordered_parts}
+use Rattle.dir_compile.specs.declared.parts.Parts.{Parts}
+use Rattle.dir_compile.specs.Stop.{PartsFault}
+use Rattle.dir_compile.specs.Forms.{HasForms}
+use Rattle.dir_compile.specs.Compile.{message_name, compile_faults}
+use Rattle.dir_compile.specs.Ordered.{IsInOrder}
+use Rattle.dir_compile.specs.InOrder.{ordered_parts}
 
--- a directory: fewer than 4,000,000,000 messages, all of good form, without fault, in ascending order of names
+-- a directory, seen as its parts
+abbrev pub Directory : Type 0
+Directory = Parts
+
+-- parts are a directory: fewer than 4,000,000,000 messages, all of good form, without fault, in ascending order of names
 pub record IsDirectory (parts : Parts) : Type 0 where
   pub few : length parts.messages < 4000000000
   pub forms : HasForms parts
@@ -30,10 +35,10 @@ tables_of parts = nodes_of contrl_table_rows ∷ map (λ message. nodes_of messa
 
 -- the names of the tables: message, version, release, agency
 pub record TableName : Type 0 where
-  pub name : List ℕ
-  pub version : List ℕ
-  pub release : List ℕ
-  pub agency : List ℕ
+  pub name : Octets
+  pub version : Octets
+  pub release : Octets
+  pub agency : Octets
 
 -- CONTRL's table
 abbrev pub contrl_name : TableName
@@ -47,12 +52,12 @@ message_table parts message =
 abbrev pub table_names : Parts → List TableName
 table_names parts = contrl_name ∷ map (message_table parts) parts.messages
 
-abbrev pub is_table_named : List ℕ → List ℕ → List ℕ → List ℕ → TableName → Bool
+abbrev pub is_table_named : Octets → Octets → Octets → Octets → TableName → Bool
 is_table_named name version release agency table =
     bytes_eq table.name name && bytes_eq table.version version
     && bytes_eq table.release release && bytes_eq table.agency agency
 
 -- the number of the table with these four names, if there is one
-abbrev pub table_named : Parts → List ℕ → List ℕ → List ℕ → List ℕ → Option ℕ
+abbrev pub table_named : Parts → Octets → Octets → Octets → Octets → Option ℕ
 table_named parts name version release agency =
     position (is_table_named name version release agency) (table_names parts)

@@ -3,7 +3,7 @@ use Rattle.std.specs.Prelude.{◌≡◌, map}
 use Rattle.collision_check.specs.Listed.{collision_seen}
 use Rattle.edi_tables.specs.Collisions.{collisions_of}
 use Rattle.dir_compile.specs.declared.directory.Directory.TheInside.{Inside}
-use Rattle.dir_parts.specs.Names.{IsNamesOf}
+use Rattle.dir_compile.specs.Names.{IsNamesOf}
 use Rattle.dir_compile.specs.Directory.{IsDirectory, tables_of}
 
 -- its parts are a directory's, each name is at the place of its definition, and the tables and collisions are those

@@ -1,2 +1,10 @@
+pub mod Compile
+pub mod CompileKind
 pub mod Directory
+pub mod Forms
+pub mod InOrder
 pub mod Indexed
+pub mod Judges
+pub mod Names
+pub mod Ordered
+pub mod Stop

@@ -6,7 +6,7 @@ ghost use Rattle.collision_check.specs.Listed.{collision_seen};
 ghost use Rattle.edi_tables.specs.Collisions.{collisions_of};
 ghost use Rattle.edi_tables.specs.Rows.{nodes_of, table_faults};
 ghost use Rattle.service_tables.specs.ServiceTables.{contrl_table_rows};
-ghost use Rattle.dir_parts.specs.Compile.{composite_name, list_name, message_name, named_in, segment_name};
+ghost use Rattle.dir_compile.specs.Compile.{composite_name, list_name, message_name, named_in, segment_name};
 ghost use Rattle.dir_compile.specs.Directory.{
   IsDirectory,
   contrl_name,
@@ -16,8 +16,9 @@ ghost use Rattle.dir_compile.specs.Directory.{
   tables_of,
 };
 
+use crate::names::{Names, octets_of};
+use crate::parts::Parts;
 use collision_check::{Collision, list_collisions};
-use dir_parts::{Names, Parts, octets_of};
 use edi_tables::{
     Code, CodeList, CompositeDef, List, MessageDef, SegmentDef, Table, TableRow, Tag,
 };
@@ -37,7 +38,7 @@ pub struct Directory {
 }
 
 impl Model for Directory {
-    ghost use Rattle.dir_parts.specs.declared.parts.Parts.{Parts};
+    ghost use Rattle.dir_compile.specs.declared.parts.Parts.{Parts};
 
     ghost Value = { Parts };
 

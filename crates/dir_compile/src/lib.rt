@@ -1,9 +1,16 @@
-//! A directory from its parts, with its segment tables and their collisions.
+//! A directory from its parts, unless they break a rule, with its segment tables and their collisions.
 #![tactic(auto)]
 
 mod build;
 mod directory;
+mod judge;
+mod names;
+mod order;
+mod parts;
+mod stop;
+mod verdict;
 
 pub use build::compile;
-pub use dir_parts::{CompileKind, CompileStop, Parts};
 pub use directory::Directory;
+pub use parts::Parts;
+pub use stop::{CompileKind, CompileStop};

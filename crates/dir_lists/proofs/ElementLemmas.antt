@@ -9,7 +9,7 @@ use Rattle.edi_octets.specs.declared.fault.DirFault.{DirFault}
 use Rattle.edi_octets.specs.declared.fault.DirKind.TheVariants.{BadLine, BadRepr, NoRepr}
 use Rattle.edi_octets.specs.declared.fault.DirStop.TheVariants.{Fault}
 use Rattle.edi_octets.specs.Lines.{Line}
-use Rattle.edi_tables.specs.First.{Answers, unless_faulty}
+use Rattle.edi_tables.specs.First.{IsVerdict, unless_faulty}
 use Rattle.edi_octets.specs.DirStop.{at_line, fault_in}
 use Rattle.dir_lists.specs.Elements.{is_repr_line, repr_of_line, repr_of_entry, body_faults, end_faults}
 
@@ -67,6 +67,6 @@ found-turn earlier line found after is any none read =
     (cases_Bool (is_repr_line line))
 
 -- where the lines end
-pub entry-end : (head : Line) (body : List Line) (found : Option Repr) → found ≡ repr_of_entry body → is_some found ≡ list_any is_repr_line body → Answers (λ (repr : Repr). Some repr) fault_in (ok_or found (Fault (at_line NoRepr head))) (unless_faulty (end_faults head body) (repr_of_entry body))
+pub entry-end : (head : Line) (body : List Line) (found : Option Repr) → found ≡ repr_of_entry body → is_some found ≡ list_any is_repr_line body → IsVerdict (λ (repr : Repr). Some repr) fault_in (ok_or found (Fault (at_line NoRepr head))) (unless_faulty (end_faults head body) (repr_of_entry body))
 entry-end head body None is any = rw (← any) refl
 entry-end head body (Some repr) is any = rw (← any) (ap Ok (sym is))

@@ -6,7 +6,7 @@ use Rattle.std.proofs.lemmas.List.{map_push}
 use Rattle.std.proofs.lemmas.List.Elements.{filter_map-append}
 use Rattle.edi_octets.specs.declared.fault.DirFault.{DirFault}
 use Rattle.edi_octets.specs.declared.fault.DirStop.{DirStop}
-use Rattle.edi_tables.specs.First.{Answers, unless_faulty}
+use Rattle.edi_tables.specs.First.{IsVerdict, unless_faulty}
 use Rattle.edi_octets.specs.DirStop.{fault_in}
 use Rattle.edi_octets.specs.Profile.{with_earlier}
 use Rattle.edi_octets.proofs.TurnLemmas.{fault-turn}
@@ -24,7 +24,7 @@ module _ {A B C : Type 0} (view : A → B) where
 
 -- x comes, at which the reading stops: the reading of all stops so
 module _ {S A B : Type 0} (view : A → B) (rest : S → List B) (judge : List B × B → List DirFault) where
-  pub stopped-turn : (s : S) (seen : List A) (t : S) → Yields (YieldsFirstBy view rest) s seen t → (x : A) (u : S) → rest t ≡ view x ∷ rest u → flat_map judge (with_earlier (map view seen)) ≡ [] → {X P : Type 0} (part_view : X → P) (part : P) (stop : DirStop) → Answers part_view fault_in (Err stop) (unless_faulty (judge (map view seen, view x)) part) → (all : List B) → all ≡ rest s → {D : Type 0} (definitions : D) → Answers (λ (d : D). d) fault_in (Err stop) (unless_faulty (flat_map judge (with_earlier all)) definitions)
+  pub stopped-turn : (s : S) (seen : List A) (t : S) → Yields (YieldsFirstBy view rest) s seen t → (x : A) (u : S) → rest t ≡ view x ∷ rest u → flat_map judge (with_earlier (map view seen)) ≡ [] → {X P : Type 0} (part_view : X → P) (part : P) (stop : DirStop) → IsVerdict part_view fault_in (Err stop) (unless_faulty (judge (map view seen, view x)) part) → (all : List B) → all ≡ rest s → {D : Type 0} (definitions : D) → IsVerdict (λ (d : D). d) fault_in (Err stop) (unless_faulty (flat_map judge (with_earlier all)) definitions)
   stopped-turn s seen t steps x u here none part_view part stop given all is_all definitions =
       Answers-stopped part_view (λ d. d) stop (unless_faulty (judge (map view seen, view x)) part) (unless_faulty (flat_map judge (with_earlier all)) definitions)
       (λ fault is.

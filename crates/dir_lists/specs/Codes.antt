@@ -1,7 +1,8 @@
 -- What a code file is.
-use Rattle.std.specs.Prelude.{ℕ, Bool, not, ◌&&◌, ◌||◌, nat_le, List, [], ◌∷◌, ◌++◌, length, Result, filter, map, codes, if◌then◌else◌}
+use Rattle.std.specs.Prelude.{Bool, not, ◌&&◌, ◌||◌, nat_le, List, [], ◌∷◌, ◌++◌, length, Result, filter, map, codes, if◌then◌else◌}
 use Rattle.std.specs.List.{list_any, flat_map}
 use Rattle.std.specs.Str.{bytes_eq}
+use Rattle.edi_tables.specs.Octets.{Octets}
 use Rattle.edi_tables.specs.declared.element.CodeList.{CodeList}
 use Rattle.edi_octets.specs.declared.fault.DirFault.{DirFault}
 use Rattle.edi_octets.specs.declared.fault.DirKind.TheVariants.{BadLine, Twice}
@@ -20,7 +21,7 @@ is_text line =
     || begins_with_word (codes "Note:") fields || nat_le 10 (indentation_of line.octets)
 
 -- a code of 1 to 35 octets
-abbrev pub is_value : List ℕ → Bool
+abbrev pub is_value : Octets → Bool
 is_value field = nat_le 1 (length field) && nat_le (length field) 35
 
 -- a line of a code: indented by 1 to 7, a code and a name
@@ -30,11 +31,11 @@ is_value_line line =
     && is_code_and_name is_value (fields_of line.octets)
 
 -- the code of a line
-abbrev pub value_of : Line → List ℕ
+abbrev pub value_of : Line → Octets
 value_of line = first_field (fields_of line.octets)
 
 -- the codes of these lines, in order
-abbrev pub values_of : List Line → List (List ℕ)
+abbrev pub values_of : List Line → List Octets
 values_of lines = map value_of (filter is_value_line lines)
 
 -- a line of an entry after these: text, or a code that the entry hasn't yet
@@ -56,7 +57,7 @@ list_of [] = record { element = code_of []; values = [] }
 list_of (head ∷ body) = record { element = code_of (head ∷ body); values = values_of body }
 
 -- a code file stands for one list an entry, or for its first fault
-unfoldable pub codes_in : List ℕ → Result (List CodeList) DirFault
+unfoldable pub codes_in : Octets → Result (List CodeList) DirFault
 codes_in file =
     let entries = entries_of (lines_of file) in
     unless_faulty (flat_map (λ p. list_faults p.0 p.1) (with_earlier entries)) (map list_of entries)

@@ -1,6 +1,7 @@
 -- What an element file is.
-use Rattle.std.specs.Prelude.{ℕ, Bool, not, List, [], ◌∷◌, ◌++◌, Option, Some, None, is_some, Result, codes, if◌then◌else◌}
+use Rattle.std.specs.Prelude.{Bool, not, List, [], ◌∷◌, ◌++◌, Option, Some, None, is_some, Result, codes, if◌then◌else◌}
 use Rattle.std.specs.List.{list_any, filter_map, flat_map}
+use Rattle.edi_tables.specs.Octets.{Octets}
 use Rattle.edi_tables.specs.declared.element.Repr.{Repr}
 use Rattle.edi_tables.specs.declared.element.ElementDef.{ElementDef}
 use Rattle.edi_octets.specs.declared.fault.DirFault.{DirFault}
@@ -17,7 +18,7 @@ abbrev pub is_repr_line : Line → Bool
 is_repr_line line = begins_with_word (codes "Repr:") (fields_of line.octets)
 
 -- the representation of such a line: it has one further field, which is one
-abbrev pub repr_behind_word : List (List ℕ) → Option Repr
+abbrev pub repr_behind_word : List Octets → Option Repr
 repr_behind_word (word ∷ field ∷ []) = repr_in field
 repr_behind_word fields = None
 
@@ -56,7 +57,7 @@ element_of [] = None
 element_of (head ∷ body) = element_with (head ∷ body) (repr_of_entry body)
 
 -- an element file stands for one data element an entry, or for its first fault
-unfoldable pub elements_in : List ℕ → Result (List ElementDef) DirFault
+unfoldable pub elements_in : Octets → Result (List ElementDef) DirFault
 elements_in file =
     let entries = entries_of (lines_of file) in
     unless_faulty (flat_map (λ p. element_faults p.0 p.1) (with_earlier entries)) (filter_map element_of entries)

@@ -2,16 +2,17 @@
 ghost use Rattle.std.specs.Prelude.{◌≡◌, ◌≤◌, ◌&&◌, nat_le, List, [], ◌∷◌, ◌++◌, length, map, true, IfOk, OnOk};
 ghost use Rattle.std.specs.List.{list_all, flat_map};
 ghost use Rattle.edi_tables.specs.Forms.{is_list_formed};
-ghost use Rattle.edi_tables.specs.First.{Answers, unless_faulty};
+ghost use Rattle.edi_tables.specs.First.{IsVerdict, unless_faulty};
 ghost use Rattle.edi_octets.specs.DirStop.{fault_in};
 ghost use Rattle.edi_octets.specs.Head.{head_field, is_code_and_name};
 ghost use Rattle.edi_octets.specs.Left.{line_shown, body_left, entry_shown};
 ghost use Rattle.edi_octets.specs.Lines.{Line};
 ghost use Rattle.edi_octets.specs.Profile.{with_earlier, fields_of, indentation_of};
 ghost use Rattle.dir_lists.specs.Codes as codes;
+ghost use Rattle.edi_octets.specs.declared.octets.TheConstants.{LONGEST_TEXT};
 
 use crate::head::read_head;
-use edi_octets::{Body, DirKind, DirStop, Entries, Entry, LineText, Seen};
+use edi_octets::{Body, DirKind, DirStop, EarlierNames, Entries, Entry, LineText};
 use edi_tables::{Chunk, CodeList, List};
 use std::alloc::Global;
 
@@ -19,12 +20,12 @@ use std::alloc::Global;
 /// an empty list. Else the first fault in judging order: `bad-code` and `twice` at a head, `bad-line` at a
 /// line that is neither text nor a code, `twice` at a code that its entry has already.
 pub fn read_codes(alloc: Global, file: &[u8]) -> Result<Vec<CodeList>, DirStop>
-    requires { length file.now ≤ 4194304 }
-    ensures answers { Answers (λ lists. lists.items) fault_in result (codes.codes_in file.now) }
+    requires { length file.now ≤ LONGEST_TEXT }
+    ensures answers { IsVerdict (λ lists. lists.items) fault_in result (codes.codes_in file.now) }
     ensures forms { IfOk result (λ lists. list_all is_list_formed lists.items ≡ true) }
 {
     let mut lists = Vec::new(alloc);
-    let mut seen = Seen::new(alloc);
+    let mut seen = EarlierNames::new(alloc);
     for entry in Entries::of(file) {
         let list = read_list(alloc, &entry, &mut seen)?;
         lists.push(list)?;
@@ -33,9 +34,13 @@ pub fn read_codes(alloc: Global, file: &[u8]) -> Result<Vec<CodeList>, DirStop>
 }
 
 /// Reads an entry after others, whose codes are seen.
-fn read_list<'a>(alloc: Global, entry: &Entry<'a>, seen: &mut Seen<'a>) -> Result<CodeList, DirStop>
+fn read_list<'a>(
+    alloc: Global,
+    entry: &Entry<'a>,
+    seen: &mut EarlierNames<'a>,
+) -> Result<CodeList, DirStop>
     ensures judged { (earlier : List (List Line)) → seen.old ≡ map head_field earlier
-        → Answers (λ list. list) fault_in result
+        → IsVerdict (λ list. list) fault_in result
         (unless_faulty (codes.list_faults earlier (entry_shown entry.now))
         (codes.list_of (entry_shown entry.now))) }
     ensures joins { OnOk result (seen.new ≡ seen.old ++ head_field (entry_shown entry.now) ∷ []) }
@@ -51,11 +56,11 @@ fn read_list<'a>(alloc: Global, entry: &Entry<'a>, seen: &mut Seen<'a>) -> Resul
 /// Reads the codes of an entry, from its lines after its head.
 fn read_values(alloc: Global, body: Body<'_>) -> Result<Vec<Chunk>, DirStop>
     ensures { let lines = body_left body.entry in
-        Answers (λ values. values.items) fault_in result
+        IsVerdict (λ values. values.items) fault_in result
         (unless_faulty (flat_map (λ p. codes.body_faults p.0 p.1) (with_earlier lines))
         (codes.values_of lines)) }
 {
-    let mut seen = Seen::new(alloc);
+    let mut seen = EarlierNames::new(alloc);
     for line in body {
         read_line(&line, &mut seen)?;
     }
@@ -63,9 +68,9 @@ fn read_values(alloc: Global, body: Body<'_>) -> Result<Vec<Chunk>, DirStop>
 }
 
 /// Reads a line of an entry after others, whose codes are seen. Its code joins them.
-fn read_line<'a>(line: &LineText<'a>, seen: &mut Seen<'a>) -> Result<(), DirStop>
+fn read_line<'a>(line: &LineText<'a>, seen: &mut EarlierNames<'a>) -> Result<(), DirStop>
     ensures judged { (earlier : List Line) → seen.old ≡ codes.values_of earlier
-        → Answers (λ done. done) fault_in result
+        → IsVerdict (λ done. done) fault_in result
         (unless_faulty (codes.body_faults earlier (line_shown line.now)) tt) }
     ensures joins { OnOk result
         (seen.new ≡ seen.old ++ codes.values_of (line_shown line.now ∷ [])) }

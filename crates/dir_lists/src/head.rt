@@ -1,19 +1,22 @@
 //! The head of an entry.
 ghost use Rattle.std.specs.Prelude.{◌≡◌, List, [], ◌∷◌, ◌++◌, map, OnOk};
-ghost use Rattle.edi_tables.specs.First.{Answers, unless_faulty};
+ghost use Rattle.edi_tables.specs.First.{IsVerdict, unless_faulty};
 ghost use Rattle.edi_tables.specs.Forms.{is_element_code};
 ghost use Rattle.edi_octets.specs.DirStop.{fault_in};
 ghost use Rattle.edi_octets.specs.Head.{head_faults, head_field};
 ghost use Rattle.edi_octets.specs.Left.{line_shown};
 ghost use Rattle.edi_octets.specs.Lines.{Line};
 
-use edi_octets::{DirStop, LineText, Seen, read_element_code};
+use edi_octets::{DirStop, EarlierNames, LineText, read_element_code};
 use edi_tables::Code;
 
 /// Reads the head of an entry after others, whose codes are seen: a data element's code and a name.
-pub(crate) fn read_head<'a>(head: &LineText<'a>, seen: &mut Seen<'a>) -> Result<Code, DirStop>
+pub(crate) fn read_head<'a>(
+    head: &LineText<'a>,
+    seen: &mut EarlierNames<'a>,
+) -> Result<Code, DirStop>
     ensures judged { (earlier : List (List Line)) → seen.old ≡ map head_field earlier
-        → Answers (λ code. code) fault_in result
+        → IsVerdict (λ code. code) fault_in result
         (unless_faulty (head_faults is_element_code earlier (line_shown head.now))
         (record { octets = head_field (line_shown head.now ∷ []) })) }
     ensures joins { OnOk result

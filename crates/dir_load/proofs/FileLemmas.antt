@@ -2,7 +2,7 @@
 use Rattle.std.proofs.Common.{◌≡◌, ◌++◌, ℕ, List, Vec, Result, Ok, Err, refl, sym, ap}
 use Rattle.std.specs.declared.alloc.Global.{Global}
 use Rattle.std.specs.Result.{result_map_both}
-use Rattle.edi_tables.specs.First.{Answers}
+use Rattle.edi_tables.specs.First.{IsVerdict}
 use Rattle.edi_octets.specs.declared.fault.DirFault.{DirFault}
 use Rattle.edi_octets.specs.declared.fault.DirStop.{DirStop}
 use Rattle.edi_octets.specs.declared.fault.DirStop.TheVariants as dir
@@ -19,14 +19,14 @@ use Rattle.dir_load.specs.Stop.{file_fault_in, grammar_stop, unread_stop}
 
 module _ {A : Type 0} (grammar : List ℕ → Result A DirFault) (files : List ShelfFile) (name : List ℕ) where
   -- a file that was not read
-  pub Answers-unread : {X Y : Type 0} (view : X → List ℕ) (shown : Y → A) (stop : NamedStop) → Answers view unread_in (Err stop) (octets_named 4194304 files name) → Answers shown file_fault_in (Err (unread_stop stop)) (file_by grammar files name)
+  pub Answers-unread : {X Y : Type 0} (view : X → List ℕ) (shown : Y → A) (stop : NamedStop) → IsVerdict view unread_in (Err stop) (octets_named 4194304 files name) → IsVerdict shown file_fault_in (Err (unread_stop stop)) (file_by grammar files name)
   Answers-unread view shown (named.Unread unread) given =
       ap (λ r. and_then (map_err Unread r) (λ o. map_err Grammar (grammar o))) given
   Answers-unread view shown named.Fault given = tt
   Answers-unread view shown named.Memory given = tt
 
 -- a file that breaks a rule of its grammar
-pub Answers-broken : {X Y A : Type 0} (view : X → A) (shown : Y → A) (stop : DirStop) (file : Result A DirFault) → Answers view fault_in (Err stop) file → Answers shown file_fault_in (Err (grammar_stop stop)) (map_err Grammar file)
+pub Answers-broken : {X Y A : Type 0} (view : X → A) (shown : Y → A) (stop : DirStop) (file : Result A DirFault) → IsVerdict view fault_in (Err stop) file → IsVerdict shown file_fault_in (Err (grammar_stop stop)) (map_err Grammar file)
 Answers-broken view shown (dir.Fault fault) file given = rw given refl
 Answers-broken view shown dir.Memory file given = tt
 
@@ -36,7 +36,7 @@ map_both-map_err make as_other (Ok value) = refl
 map_both-map_err make as_other (Err error) = refl
 
 -- what was read of a file is put after what was there
-pub Answers-appended : {D : Type 0} (read : Result (Vec D Global) DirStop) (before now : List D) (result : Result Unit FileStop) (file : Result (List D) DirFault) (old new : Found) (put : List D → Found) → Appends read before now result → Answers (λ (found : Vec D Global). found.items) fault_in read file → ((more : List D) → now ≡ before ++ more → new ≡ joined old (put more)) → Answers (λ (done : Unit {0}). new) file_fault_in result (result_map_both (joined old) Grammar (result_map_both put (λ fault. fault) file))
+pub Answers-appended : {D : Type 0} (read : Result (Vec D Global) DirStop) (before now : List D) (result : Result Unit FileStop) (file : Result (List D) DirFault) (old new : Found) (put : List D → Found) → Appends read before now result → IsVerdict (λ (found : Vec D Global). found.items) fault_in read file → ((more : List D) → now ≡ before ++ more → new ≡ joined old (put more)) → IsVerdict (λ (done : Unit {0}). new) file_fault_in result (result_map_both (joined old) Grammar (result_map_both put (λ fault. fault) file))
 Answers-appended (Ok found) before now (Ok done) file old new put appends given same =
     rw given (ap Ok (sym (same found.items appends)))
 Answers-appended (Ok found) before now (Err stop) file old new put appends given same = rw appends tt

@@ -10,13 +10,13 @@ use Rattle.edi_tables.specs.declared.element.CompositeDef.{CompositeDef}
 use Rattle.edi_tables.specs.declared.segment.SegmentDef.{SegmentDef}
 use Rattle.edi_tables.specs.declared.segment.MessageDef.{MessageDef}
 use Rattle.edi_octets.specs.declared.fault.DirStop.{DirStop}
-use Rattle.dir_parts.specs.Forms.{HasForms}
+use Rattle.dir_compile.specs.Forms.{HasForms}
 use Rattle.dir_load.specs.declared.gather.Gathered.{Gathered}
 use Rattle.dir_load.specs.declared.stop.FileStop.{FileStop}
-use Rattle.line_words.specs.declared.labels.Labels.{Labels}
+use Rattle.edi_octets.specs.declared.labels.Labels.{Labels}
 use Rattle.dir_load.specs.Gathered.{Appends, IsFormed, found_of}
 use Rattle.dir_load.specs.Load.{parts_with}
-use Rattle.line_words.specs.Labels.{HasLabelForms}
+use Rattle.edi_octets.specs.Labels.{HasLabelForms}
 
 -- what was read has its forms, and so has what was there: so has all of it
 formed-appended : {A : Type 0} (formed : A → Bool) (read : Result (Vec A Global) DirStop) (before now : List A) (result : Result Unit FileStop) → Appends read before now result → IfOk read (λ found. list_all formed found.items ≡ true) → list_all formed before ≡ true → OnOk result (list_all formed now ≡ true)

@@ -3,7 +3,7 @@ use Rattle.std.proofs.Common.{◌≡◌, ◌+◌, ◌<◌, ◌++◌, ℕ, List, 
 use Rattle.std.specs.List.{flat_map}
 use Rattle.std.specs.Result.{result_map_both, result_unwrap_or}
 use Rattle.std.proofs.lemmas.List.{take-append-drop}
-use Rattle.edi_tables.specs.First.{Answers, unless_faulty}
+use Rattle.edi_tables.specs.First.{IsVerdict, unless_faulty}
 use Rattle.edi_tables.specs.declared.element.CompositeDef.{CompositeDef}
 use Rattle.edi_tables.specs.declared.segment.SegmentDef.{SegmentDef}
 use Rattle.edi_octets.specs.declared.fault.DirFault.{DirFault}
@@ -12,10 +12,10 @@ use Rattle.edi_octets.proofs.EarlierLemmas.{judged-push, judged-first}
 use Rattle.edi_ports.specs.declared.shelf.ShelfFile.{ShelfFile}
 use Rattle.edi_ports.specs.declared.named.Unread.{Unread}
 use Rattle.edi_ports.specs.Named.{octets_named}
-use Rattle.dir_segments.specs.Segments.{segments_in}
-use Rattle.dir_manifest.specs.declared.manifest.FileKind.{FileKind}
-use Rattle.dir_manifest.specs.declared.manifest.FileKind.TheVariants.{Elements, Codes, Composites, Segments, Message}
-use Rattle.dir_manifest.specs.declared.manifest.FileLine.{FileLine}
+use Rattle.dir_segments.specs.Segments.{segments_in_file}
+use Rattle.dir_load.specs.declared.manifest.FileKind.{FileKind}
+use Rattle.dir_load.specs.declared.manifest.FileKind.TheVariants.{Elements, Codes, Composites, Segments, Message}
+use Rattle.dir_load.specs.declared.manifest.FileLine.{FileLine}
 use Rattle.dir_load.specs.declared.stop.FileFault.{FileFault}
 use Rattle.dir_load.specs.declared.stop.FileFault.TheVariants as fault
 use Rattle.dir_load.specs.declared.stop.Refusal.{Refusal}
@@ -42,7 +42,7 @@ module _ (files : List ShelfFile) where
   composites-known Codes known name = refl
   composites-known Composites known name = refl
   composites-known Segments known name =
-      no_composites (octets_named 4194304 files name) (segments_in known) ∙ sym (no_composites (octets_named 4194304 files name) (segments_in []))
+      no_composites (octets_named 4194304 files name) (segments_in_file known) ∙ sym (no_composites (octets_named 4194304 files name) (segments_in_file []))
   composites-known Message known name = refl
 
   composites-from : (earlier lines : List FileLine) → flat_map (λ p. (result_unwrap_or (file_after files p.0 p.1) nothing).composites) (with_earlier_from earlier lines) ≡ composites_of files lines
@@ -80,7 +80,7 @@ module _ (files : List ShelfFile) where
         by (Err broken) told = let e : File line.name broken ≡ refusal = cc in ap (λ r. r ∷ []) e
 
 -- nothing is refused so far, and the next file stops: the reading of all stops so
-pub Answers-turn : (files : List ShelfFile) (lines : List FileLine) (i : ℕ) (line : FileLine) → i < length lines → line ≡ get_or lines i line → (old : Found) → refusals_of files (take i lines) ≡ [] → old ≡ found_on files (take i lines) → {X Y A : Type 0} (view : X → Found) (shown : Y → A) (all : A) (stop : LoadStop) → Answers view refusal_in (Err stop) (map_err (File line.name) (file_on files old.composites line)) → Answers shown refusal_in (Err stop) (unless_faulty (refusals_of files lines) all)
+pub Answers-turn : (files : List ShelfFile) (lines : List FileLine) (i : ℕ) (line : FileLine) → i < length lines → line ≡ get_or lines i line → (old : Found) → refusals_of files (take i lines) ≡ [] → old ≡ found_on files (take i lines) → {X Y A : Type 0} (view : X → Found) (shown : Y → A) (all : A) (stop : LoadStop) → IsVerdict view refusal_in (Err stop) (map_err (File line.name) (file_on files old.composites line)) → IsVerdict shown refusal_in (Err stop) (unless_faulty (refusals_of files lines) all)
 Answers-turn files lines i line lt is old none held view shown all (Refused refusal) given =
     let judge : List FileLine × FileLine → List Refusal = λ p. refusals_in p.1.name (file_after files p.0 p.1) in
     let whole : lines ≡ take i lines ++ line ∷ drop (i + 1) lines = sym (take-append-drop i lines) ∙ ap (λ later. take i lines ++ later) (rw add-one (rw is (drop-cons lines i line lt))) in

@@ -2,7 +2,7 @@
 use Rattle.std.proofs.Common.{◌≡◌, ◌≤◌, ◌<◌, ◌^◌, ℕ, Bool, true, false, List, length, Option, Some, None, Ok, Err, refl, sym, ap, ◌∙◌, arith}
 use Rattle.std.specs.Prelude.{nat_lt, if◌then◌else◌}
 use Rattle.std.proofs.lemmas.Bool.{ltb-false}
-use Rattle.edi_tables.specs.First.{Answers, unless_faulty}
+use Rattle.edi_tables.specs.First.{IsVerdict, unless_faulty}
 use Rattle.edi_octets.specs.declared.fault.DirStop.{DirStop}
 use Rattle.edi_octets.specs.declared.fault.DirStop.TheVariants as dir
 use Rattle.edi_octets.specs.DirStop as grammar
@@ -12,30 +12,30 @@ use Rattle.edi_ports.specs.declared.named.NamedStop.{NamedStop}
 use Rattle.edi_ports.specs.declared.named.NamedStop.TheVariants as named
 use Rattle.edi_ports.specs.Named.{octets_named, octets_within, unread_in}
 use Rattle.edi_ports.specs.Shelf.{file_named}
-use Rattle.dir_parts.specs.declared.parts.Parts.{Parts}
-use Rattle.dir_parts.specs.declared.stop.CompileStop.{CompileStop}
-use Rattle.dir_parts.specs.declared.stop.CompileStop.TheVariants as compile
+use Rattle.dir_compile.specs.declared.parts.Parts.{Parts}
+use Rattle.dir_compile.specs.declared.stop.CompileStop.{CompileStop}
+use Rattle.dir_compile.specs.declared.stop.CompileStop.TheVariants as compile
 use Rattle.dir_compile.specs.Directory.{IsDirectory, directory_of}
-use Rattle.dir_parts.specs.Stop.{fault_in}
+use Rattle.dir_compile.specs.Stop.{fault_in}
 use Rattle.dir_store.specs.declared.stop.StoreStop.{StoreStop}
 use Rattle.dir_store.specs.declared.stop.StoreStop.TheVariants as store
 use Rattle.dir_store.specs.Spelling.{store_text}
 use Rattle.dir_store.specs.Stop as place
 use Rattle.dir_store.specs.Store.{store_of}
 use Rattle.dir_store.proofs.WholeLemmas.{store-again}
-use Rattle.dir_manifest.specs.declared.manifest.Manifest.{Manifest}
+use Rattle.dir_load.specs.declared.manifest.Manifest.{Manifest}
 use Rattle.dir_load.specs.declared.stop.FileFault.TheVariants.{Unread as unread, Grammar}
 use Rattle.dir_load.specs.declared.stop.LoadStop.{LoadStop}
 use Rattle.dir_load.specs.declared.stop.LoadStop.TheVariants.{Refused, Fault, Memory}
 use Rattle.dir_load.specs.declared.stop.Refusal.TheVariants.{File, Store}
 use Rattle.dir_load.specs.Load.{Found, and_then, found_on, is_store, lines_under, load_of, load_with, map_err, octets_under, parts_refusal, parts_with, refusals_of, store_under}
-use Rattle.dir_manifest.specs.Manifest.{manifest_in}
+use Rattle.dir_load.specs.Manifest.{manifest_in}
 use Rattle.dir_load.specs.Stop.{IsStopAt, IsStopIn, compile_stop, grammar_stop, refusal_in, unread_stop}
 use Rattle.dir_load.proofs.AnswerLemmas.{Answers-and_then}
 
 module _ {Y : Type 0} (shown : Y → Parts) (files : List ShelfFile) (name : List ℕ) where
   -- the manifest was not read
-  pub Answers-unread : {X : Type 0} (view : X → List ℕ) (stop : NamedStop) (told : LoadStop) → IsStopAt name (unread_stop stop) told → Answers view unread_in (Err stop) (octets_named 4194304 files name) → Answers shown refusal_in (Err told) (load_of files name)
+  pub Answers-unread : {X : Type 0} (view : X → List ℕ) (stop : NamedStop) (told : LoadStop) → IsStopAt name (unread_stop stop) told → IsVerdict view unread_in (Err stop) (octets_named 4194304 files name) → IsVerdict shown refusal_in (Err told) (load_of files name)
   unfolding load_of
   Answers-unread view (named.Unread why) (Refused refusal) is given =
       ap (λ r. and_then (map_err (λ w. File name (unread w)) r) (octets_under files name)) given ∙ ap Err (sym is)
@@ -61,14 +61,14 @@ module _ {Y : Type 0} (shown : Y → Parts) (files : List ShelfFile) (name : Lis
         load_of-read octets read ∙ ap (λ (b : Bool). if b then store_under name octets else lines_under files name octets) is
 
     -- a store is at fault
-    pub Answers-no_store : {X : Type 0} (view : X → Parts) (stop : StoreStop) (told : LoadStop) → IsStopIn name stop told → Answers view place.fault_in (Err stop) (store_of octets) → Answers shown refusal_in (Err told) (store_under name octets)
+    pub Answers-no_store : {X : Type 0} (view : X → Parts) (stop : StoreStop) (told : LoadStop) → IsStopIn name stop told → IsVerdict view place.fault_in (Err stop) (store_of octets) → IsVerdict shown refusal_in (Err told) (store_under name octets)
     Answers-no_store view (store.Fault at) (Refused refusal) is given = ap (map_err (Store name)) given ∙ ap Err (sym is)
     Answers-no_store view (store.Fault at) Fault is given = absurd is
     Answers-no_store view (store.Fault at) Memory is given = tt
     Answers-no_store view store.Memory told is given = rw is tt
 
     -- the lines are at fault
-    pub Answers-no_lines : {X : Type 0} (view : X → Manifest) (stop : DirStop) (told : LoadStop) → IsStopAt name (grammar_stop stop) told → Answers view grammar.fault_in (Err stop) (manifest_in octets) → Answers shown refusal_in (Err told) (lines_under files name octets)
+    pub Answers-no_lines : {X : Type 0} (view : X → Manifest) (stop : DirStop) (told : LoadStop) → IsStopAt name (grammar_stop stop) told → IsVerdict view grammar.fault_in (Err stop) (manifest_in octets) → IsVerdict shown refusal_in (Err told) (lines_under files name octets)
     Answers-no_lines view (dir.Fault fault) (Refused refusal) is given =
         ap (λ r. and_then (map_err (λ f. File name (Grammar f)) r) (load_with files)) given ∙ ap Err (sym is)
     Answers-no_lines view (dir.Fault fault) Fault is given = absurd is
@@ -80,7 +80,7 @@ module _ {Y : Type 0} (shown : Y → Parts) (files : List ShelfFile) (name : Lis
       lines_under-read = ap (λ r. and_then (map_err (λ f. File name (Grammar f)) r) (load_with files)) read
 
       -- a file was refused
-      pub Answers-refused : {X : Type 0} (view : X → Found) (stop : LoadStop) → Answers view refusal_in (Err stop) (unless_faulty (refusals_of files manifest.files) (found_on files manifest.files)) → Answers shown refusal_in (Err stop) (lines_under files name octets)
+      pub Answers-refused : {X : Type 0} (view : X → Found) (stop : LoadStop) → IsVerdict view refusal_in (Err stop) (unless_faulty (refusals_of files manifest.files) (found_on files manifest.files)) → IsVerdict shown refusal_in (Err stop) (lines_under files name octets)
       Answers-refused view stop given =
           rw lines_under-read (Answers-and_then view shown refusal_in stop (unless_faulty (refusals_of files manifest.files) (found_on files manifest.files)) (λ found. map_err parts_refusal (directory_of (parts_with manifest.labels found))) given)
 
@@ -90,7 +90,7 @@ module _ {Y : Type 0} (shown : Y → Parts) (files : List ShelfFile) (name : Lis
             lines_under-read ∙ ap (λ r. and_then r (λ f. map_err parts_refusal (directory_of (parts_with manifest.labels f)))) gathered
 
         -- the parts were refused
-        pub Answers-uncompiled : (stop : CompileStop) → Answers (λ (d : Parts). d) fault_in (Err stop) (directory_of (parts_with manifest.labels found)) → Answers shown refusal_in (Err (compile_stop stop)) (lines_under files name octets)
+        pub Answers-uncompiled : (stop : CompileStop) → IsVerdict (λ (d : Parts). d) fault_in (Err stop) (directory_of (parts_with manifest.labels found)) → IsVerdict shown refusal_in (Err (compile_stop stop)) (lines_under files name octets)
         Answers-uncompiled (compile.Fault kind other) compiles = lines_under-gathered ∙ ap (map_err parts_refusal) compiles
         Answers-uncompiled compile.Memory compiles = tt
 

@@ -8,16 +8,16 @@ use Rattle.edi_octets.specs.Lines.{lines_from, cells_of}
 use Rattle.edi_octets.specs.Name.{is_name_of}
 use Rattle.edi_octets.specs.Profile.{fields_of, indentation_of, entries_of, repr_in}
 use Rattle.dir_lists.specs.Elements.{elements_in}
-use Rattle.dir_composites.specs.Composites.{composites_in}
-use Rattle.dir_parts.specs.declared.stop.CompileKind.TheVariants.{UnknownElement}
-use Rattle.dir_parts.specs.Compile.{compile_faults}
+use Rattle.dir_segments.specs.Composites.{composites_in}
+use Rattle.dir_compile.specs.declared.stop.CompileKind.TheVariants.{UnknownElement}
+use Rattle.dir_compile.specs.Compile.{compile_faults}
 use Rattle.dir_compile.specs.Directory.{directory_of}
-use Rattle.dir_parts.specs.InOrder.{ordered_parts}
+use Rattle.dir_compile.specs.InOrder.{ordered_parts}
 use Rattle.edi_ports.specs.declared.named.Unread.TheVariants.{Absent}
 use Rattle.dir_store.specs.Store.{definitions_at, parts_at, section_at, store_of}
 use Rattle.dir_load.specs.declared.stop.FileFault.TheVariants.{Unread, Grammar}
 use Rattle.dir_load.specs.declared.stop.Refusal.TheVariants.{File, Parts, Store}
-use Rattle.dir_manifest.specs.Manifest.{manifest_in}
+use Rattle.dir_load.specs.Manifest.{manifest_in}
 use Rattle.dir_load.specs.Load.{load_of}
 
 abbrev file : List ℕ → List ℕ → ShelfFile

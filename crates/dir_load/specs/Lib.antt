@@ -1,3 +1,5 @@
+pub mod Counted
 pub mod Gathered
 pub mod Load
+pub mod Manifest
 pub mod Stop

@@ -1,7 +1,8 @@
 -- What the files of a shelf give under the name of a manifest.
-use Rattle.std.specs.Prelude.{ℕ, Bool, nat_eq, List, [], ◌∷◌, Result, Ok, Err, if◌then◌else◌}
+use Rattle.std.specs.Prelude.{Bool, nat_eq, List, [], ◌∷◌, Result, Ok, Err, if◌then◌else◌}
 use Rattle.std.specs.List.{flat_map, starts_with}
 use Rattle.std.specs.Result.{result_map_both, result_unwrap_or}
+use Rattle.edi_tables.specs.Octets.{Octets}
 use Rattle.edi_tables.specs.First.{unless_faulty}
 use Rattle.edi_tables.specs.declared.element.ElementDef.{ElementDef}
 use Rattle.edi_tables.specs.declared.element.CodeList.{CodeList}
@@ -14,24 +15,24 @@ use Rattle.edi_ports.specs.declared.shelf.ShelfFile.{ShelfFile}
 use Rattle.edi_ports.specs.Named.{octets_named}
 use Rattle.dir_lists.specs.Elements.{elements_in}
 use Rattle.dir_lists.specs.Codes.{codes_in}
-use Rattle.dir_composites.specs.Composites.{composites_in}
-use Rattle.dir_segments.specs.Segments.{segments_in}
+use Rattle.dir_segments.specs.Composites.{composites_in}
+use Rattle.dir_segments.specs.Segments.{segments_in_file}
 use Rattle.dir_messages.specs.Message.{message_in}
-use Rattle.dir_parts.specs.declared.parts.Parts.{Parts}
-use Rattle.dir_compile.specs.Directory.{directory_of}
-use Rattle.dir_parts.specs.Stop.{PartsFault}
+use Rattle.dir_compile.specs.Directory.{Directory, directory_of}
+use Rattle.dir_compile.specs.Stop.{PartsFault}
 use Rattle.dir_store.specs.Spelling.{first_line, line_of}
 use Rattle.dir_store.specs.Store.{store_of}
-use Rattle.dir_manifest.specs.declared.manifest.FileKind.{FileKind}
-use Rattle.dir_manifest.specs.declared.manifest.FileKind.TheVariants.{Elements, Codes, Composites, Segments, Message}
-use Rattle.dir_manifest.specs.declared.manifest.FileLine.{FileLine}
-use Rattle.line_words.specs.declared.labels.Labels.{Labels}
-use Rattle.dir_manifest.specs.declared.manifest.Manifest.{Manifest}
+use Rattle.dir_load.specs.declared.manifest.FileKind.{FileKind}
+use Rattle.dir_load.specs.declared.manifest.FileKind.TheVariants.{Elements, Codes, Composites, Segments, Message}
+use Rattle.dir_load.specs.declared.manifest.FileLine.{FileLine}
+use Rattle.edi_octets.specs.declared.labels.Labels.{Labels}
+use Rattle.dir_load.specs.declared.manifest.Manifest.{Manifest}
 use Rattle.dir_load.specs.declared.stop.FileFault.{FileFault}
 use Rattle.dir_load.specs.declared.stop.FileFault.TheVariants.{Unread, Grammar}
 use Rattle.dir_load.specs.declared.stop.Refusal.{Refusal}
 use Rattle.dir_load.specs.declared.stop.Refusal.TheVariants as refusal
-use Rattle.dir_manifest.specs.Manifest.{manifest_in}
+use Rattle.dir_load.specs.Manifest.{manifest_in}
+use Rattle.edi_octets.specs.declared.octets.TheConstants.{LONGEST_TEXT}
 
 -- the same result, with its error as another
 abbrev pub map_err : {A E D : Type 0} → (E → D) → Result A E → Result A D
@@ -48,9 +49,9 @@ and_then (Err error) next = Err error
 
 -- what the file of that name gives by its grammar; else it is absent, has over 4,194,304 octets or breaks a rule
 abbrev pub file_by : {A : Type 0}
-    → (List ℕ → Result A DirFault) → List ShelfFile → List ℕ → Result A FileFault
+    → (Octets → Result A DirFault) → List ShelfFile → Octets → Result A FileFault
 file_by grammar files name =
-    and_then (map_err Unread (octets_named 4194304 files name)) (λ octets. map_err Grammar (grammar octets))
+    and_then (map_err Unread (octets_named LONGEST_TEXT files name)) (λ octets. map_err Grammar (grammar octets))
 
 -- definitions, by kind
 pub record Found : Type 0 where
@@ -64,11 +65,11 @@ abbrev pub nothing : Found
 nothing = record { elements = []; lists = []; composites = []; segments = []; messages = [] }
 
 -- what a file of this kind defines; a segment file is read with known composites
-abbrev pub found_by : FileKind → List CompositeDef → List ℕ → Result Found DirFault
+abbrev pub found_by : FileKind → List CompositeDef → Octets → Result Found DirFault
 found_by Elements known octets = map_ok (λ found. record nothing { elements = found }) (elements_in octets)
 found_by Codes known octets = map_ok (λ found. record nothing { lists = found }) (codes_in octets)
 found_by Composites known octets = map_ok (λ found. record nothing { composites = found }) (composites_in octets)
-found_by Segments known octets = map_ok (λ found. record nothing { segments = found }) (segments_in known octets)
+found_by Segments known octets = map_ok (λ found. record nothing { segments = found }) (segments_in_file known octets)
 found_by Message known octets = map_ok (λ found. record nothing { messages = found ∷ [] }) (message_in octets)
 
 -- what the file of a line gives, where these composites are known
@@ -99,7 +100,7 @@ found_on files lines = record {
 }
 
 -- the refusal of a file that gives nothing
-abbrev pub refusals_in : List ℕ → Result Found FileFault → List Refusal
+abbrev pub refusals_in : Octets → Result Found FileFault → List Refusal
 refusals_in name (Ok found) = []
 refusals_in name (Err fault) = refusal.File name fault ∷ []
 
@@ -108,7 +109,7 @@ abbrev pub refusals_of : List ShelfFile → List FileLine → List Refusal
 refusals_of files lines = flat_map (λ p. refusals_in p.1.name (file_after files p.0 p.1)) (with_earlier lines)
 
 -- the parts of a directory: its labels and its definitions
-abbrev pub parts_with : Labels → Found → Parts
+abbrev pub parts_with : Labels → Found → Directory
 parts_with labels found = record {
   version = labels.version;
   release = labels.release;
@@ -125,31 +126,31 @@ abbrev pub parts_refusal : PartsFault → Refusal
 parts_refusal fault = refusal.Parts fault.kind fault.name
 
 -- the directory of a manifest: its files are judged in order, and then their parts
-abbrev pub load_with : List ShelfFile → Manifest → Result Parts Refusal
+abbrev pub load_with : List ShelfFile → Manifest → Result Directory Refusal
 load_with files manifest =
     and_then (unless_faulty (refusals_of files manifest.files) (found_on files manifest.files))
     (λ found. map_err parts_refusal (directory_of (parts_with manifest.labels found)))
 
 -- the directory of a manifest of lines, the octets of the file of that name: the whole manifest is judged before any
 -- file that it names
-abbrev pub lines_under : List ShelfFile → List ℕ → List ℕ → Result Parts Refusal
+abbrev pub lines_under : List ShelfFile → Octets → Octets → Result Directory Refusal
 lines_under files name octets =
     and_then (map_err (λ fault. refusal.File name (Grammar fault)) (manifest_in octets)) (load_with files)
 
 -- the directory of a store, the octets of the file of that name
-abbrev pub store_under : List ℕ → List ℕ → Result Parts Refusal
+abbrev pub store_under : Octets → Octets → Result Directory Refusal
 store_under name octets = map_err (refusal.Store name) (store_of octets)
 
 -- a manifest that begins with `EDIDIR1` and LF is a store, and every other one is lines
-abbrev pub is_store : List ℕ → Bool
+abbrev pub is_store : Octets → Bool
 is_store octets = starts_with nat_eq octets (line_of (first_line ∷ []))
 
 -- the directory of a manifest, the octets of the file of that name
-abbrev pub octets_under : List ShelfFile → List ℕ → List ℕ → Result Parts Refusal
+abbrev pub octets_under : List ShelfFile → Octets → Octets → Result Directory Refusal
 octets_under files name octets = if is_store octets then store_under name octets else lines_under files name octets
 
 -- what files give under the name of a manifest: it is absent, has over 4,194,304 octets, or is a store or lines
-unfoldable pub load_of : List ShelfFile → List ℕ → Result Parts Refusal
+unfoldable pub load_of : List ShelfFile → Octets → Result Directory Refusal
 load_of files name =
-    and_then (map_err (λ why. refusal.File name (Unread why)) (octets_named 4194304 files name))
+    and_then (map_err (λ why. refusal.File name (Unread why)) (octets_named LONGEST_TEXT files name))
     (octets_under files name)

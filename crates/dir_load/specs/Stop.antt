@@ -1,11 +1,12 @@
 -- What a stop tells.
-use Rattle.std.specs.Prelude.{◌≡◌, ℕ, List, Option, Some, None}
+use Rattle.std.specs.Prelude.{◌≡◌, Option, Some, None}
+use Rattle.edi_tables.specs.Octets.{Octets}
 use Rattle.edi_octets.specs.declared.fault.DirStop.{DirStop}
 use Rattle.edi_octets.specs.declared.fault.DirStop.TheVariants as dir
 use Rattle.edi_ports.specs.declared.named.NamedStop.{NamedStop}
 use Rattle.edi_ports.specs.declared.named.NamedStop.TheVariants as named
-use Rattle.dir_parts.specs.declared.stop.CompileStop.{CompileStop}
-use Rattle.dir_parts.specs.declared.stop.CompileStop.TheVariants as compile
+use Rattle.dir_compile.specs.declared.stop.CompileStop.{CompileStop}
+use Rattle.dir_compile.specs.declared.stop.CompileStop.TheVariants as compile
 use Rattle.dir_store.specs.declared.stop.StoreStop.{StoreStop}
 use Rattle.dir_store.specs.declared.stop.StoreStop.TheVariants as store
 use Rattle.dir_load.specs.declared.stop.FileFault.{FileFault}
@@ -46,7 +47,7 @@ compile_stop (compile.Fault kind name) = Refused (Parts kind name)
 compile_stop compile.Memory = Memory
 
 -- a stop at the file of this name, as one of loading; there may be no memory for the name
-abbrev pub IsStopAt : List ℕ → FileStop → LoadStop → Type 0
+abbrev pub IsStopAt : Octets → FileStop → LoadStop → Type 0
 IsStopAt name (file.Refused fault) (Refused refusal) = refusal ≡ File name fault
 IsStopAt name (file.Refused fault) Fault = ⊥
 IsStopAt name (file.Refused fault) Memory = Unit {0}
@@ -54,7 +55,7 @@ IsStopAt name file.Fault stop = stop ≡ Fault
 IsStopAt name file.Memory stop = stop ≡ Memory
 
 -- a stop in the store of this name, as one of loading; there may be no memory for the name
-abbrev pub IsStopIn : List ℕ → StoreStop → LoadStop → Type 0
+abbrev pub IsStopIn : Octets → StoreStop → LoadStop → Type 0
 IsStopIn name (store.Fault at) (Refused refusal) = refusal ≡ Store name at
 IsStopIn name (store.Fault at) Fault = ⊥
 IsStopIn name (store.Fault at) Memory = Unit {0}

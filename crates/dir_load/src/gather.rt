@@ -1,29 +1,26 @@
 //! Definitions gathered from files.
 ghost use Rattle.std.specs.Prelude.{◌≡◌, ◌≤◌, ◌+◌, ℕ, List as Members, Some, IfOk, IsErrOf, OnOk, length};
 ghost use Rattle.std.specs.Result.{result_map_both};
-ghost use Rattle.edi_tables.specs.First.{Answers, unless_faulty};
+ghost use Rattle.edi_tables.specs.First.{IsVerdict, unless_faulty};
 ghost use Rattle.edi_ports.specs.declared.shelf.ShelfFile.{ShelfFile};
 ghost use Rattle.edi_ports.specs.Faults.{HasRisen};
 ghost use Rattle.dir_load.specs.declared.stop.FileFault.TheVariants.{Grammar};
 ghost use Rattle.dir_load.specs.Gathered.{Appends, IsFormed, found_of, joined};
 ghost use Rattle.dir_load.specs.Load.{file_on, found_by, found_on, nothing, parts_with, refusals_of};
 ghost use Rattle.dir_load.specs.Stop.{file_fault_in, refusal_in};
+ghost use Rattle.edi_octets.specs.declared.octets.TheConstants.{LONGEST_TEXT};
 
 use crate::LoadStop;
+use crate::manifest::{FileKind, FileLine};
 use crate::stop::FileStop;
 use dir_compile::Parts;
-use dir_composites::read_composites;
 use dir_lists::{read_codes, read_elements};
-use dir_manifest::{FileKind, FileLine, Labels};
 use dir_messages::read_message;
-use dir_segments::read_segments;
-use edi_octets::DirStop;
+use dir_segments::{read_composites, read_segments};
+use edi_octets::{DirStop, LONGEST_TEXT, Labels};
 use edi_ports::{Shelf, read_named};
 use edi_tables::{CodeList, CompositeDef, ElementDef, List, MessageDef, SegmentDef};
 use std::alloc::Global;
-
-/// The most octets of a file.
-pub const LONGEST_FILE: usize = 4_194_304;
 
 /// What the files so far define, each kind in the order of the files.
 #[derive(Drop)]
@@ -42,7 +39,7 @@ pub fn gather_files<S: Shelf>(
     lines: &[FileLine],
 ) -> Result<Gathered, LoadStop>
     ensures gathers { (files : Members ShelfFile) → S.files shelf.old ≡ Some files
-        → Answers found_of refusal_in result
+        → IsVerdict found_of refusal_in result
         (unless_faulty (refusals_of files lines.now) (found_on files lines.now)) }
     ensures formed { IfOk result (IsFormed (length lines.now)) }
     ensures files { S.files shelf.new ≡ S.files shelf.old }
@@ -84,7 +81,7 @@ impl Gathered {
         line: &FileLine,
     ) -> Result<(), FileStop>
         ensures adds { (files : Members ShelfFile) → S.files shelf.old ≡ Some files
-            → Answers (λ _. found_of self.new) file_fault_in result
+            → IsVerdict (λ _. found_of self.new) file_fault_in result
             (result_map_both (joined (found_of self.old)) (λ fault. fault)
             (file_on files self.old.composites.items line.now)) }
         ensures formed { (most : ℕ) → IsFormed most self.old
@@ -96,14 +93,14 @@ impl Gathered {
         ensures steady { S.is_steady shelf.old
             → (IsErrOf result FileStop.Fault → ⊥) × S.is_steady shelf.new }
     {
-        let octets = read_named(alloc, shelf, line.name.octets(), LONGEST_FILE)?;
+        let octets = read_named(alloc, shelf, line.name.octets(), LONGEST_TEXT)?;
         self.add_octets(alloc, line.kind, &octets)
     }
 
     // Adds what a file of that kind defines. A segment file is read with the composites so far.
     fn add_octets(&mut self, alloc: Global, kind: FileKind, octets: &[u8]) -> Result<(), FileStop>
-        requires { length octets.now ≤ 4194304 }
-        ensures adds { Answers (λ _. found_of self.new) file_fault_in result
+        requires { length octets.now ≤ LONGEST_TEXT }
+        ensures adds { IsVerdict (λ _. found_of self.new) file_fault_in result
             (result_map_both (joined (found_of self.old)) Grammar
             (found_by kind self.old.composites.items octets.now)) }
         ensures formed { (most : ℕ) → IsFormed most self.old
@@ -124,8 +121,8 @@ impl Gathered {
 
     // Adds the message of a message file.
     fn add_message(&mut self, alloc: Global, octets: &[u8]) -> Result<(), FileStop>
-        requires { length octets.now ≤ 4194304 }
-        ensures adds { Answers (λ _. found_of self.new) file_fault_in result
+        requires { length octets.now ≤ LONGEST_TEXT }
+        ensures adds { IsVerdict (λ _. found_of self.new) file_fault_in result
             (result_map_both (joined (found_of self.old)) Grammar
             (found_by FileKind.Message self.old.composites.items octets.now)) }
         ensures formed { (most : ℕ) → IsFormed most self.old

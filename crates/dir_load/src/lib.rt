@@ -1,8 +1,10 @@
-//! Directories from the files of a shelf: a manifest is a store, or names files that are read and compiled together.
+//! Directories from the files of a shelf: a manifest is a store, or names files in lines; these are read and compiled together.
 #![tactic(auto)]
 
+mod counted;
 mod gather;
 mod loading;
+mod manifest;
 mod stop;
 
 pub use loading::load;

@@ -1,21 +1,22 @@
 //! A directory from the files of a shelf.
 ghost use Rattle.std.specs.Prelude.{◌≡◌, ◌≤◌, List, Some, Ok, IsErrOf, length};
-ghost use Rattle.edi_tables.specs.First.{Answers};
+ghost use Rattle.edi_tables.specs.First.{IsVerdict};
 ghost use Rattle.edi_ports.specs.declared.shelf.ShelfFile.{ShelfFile};
 ghost use Rattle.edi_ports.specs.Faults.{HasRisen};
 ghost use Rattle.edi_ports.specs.Named.{octets_named};
-ghost use Rattle.dir_parts.specs.declared.parts.Parts.{Parts};
+ghost use Rattle.dir_compile.specs.declared.parts.Parts.{Parts};
 ghost use Rattle.dir_compile.specs.Directory.{IsDirectory};
 ghost use Rattle.dir_store.specs.Spelling.{store_text};
 ghost use Rattle.dir_load.specs.Load.{is_store as is_store_of, lines_under, load_of, store_under};
 ghost use Rattle.dir_load.specs.Stop.{refusal_in};
 
 use crate::LoadStop;
-use crate::gather::{LONGEST_FILE, gather_files};
+use crate::gather::gather_files;
+use crate::manifest::read_manifest;
 use crate::stop::FileStop;
 use dir_compile::{Directory, compile};
-use dir_manifest::read_manifest;
 use dir_store::read_store;
+use edi_octets::LONGEST_TEXT;
 use edi_ports::{Shelf, read_named};
 use std::alloc::Global;
 
@@ -26,7 +27,7 @@ use std::alloc::Global;
 /// with the name that it is about. `Fault` comes only where the shelf failed.
 pub fn load<S: Shelf>(alloc: Global, shelf: &mut S, name: &[u8]) -> Result<Directory, LoadStop>
     ensures loads { (files : List ShelfFile) → S.files shelf.old ≡ Some files
-        → Answers (λ directory. directory) refusal_in result (load_of files name.now) }
+        → IsVerdict (λ directory. directory) refusal_in result (load_of files name.now) }
     ensures files { S.files shelf.new ≡ S.files shelf.old }
     ensures counted { S.faults shelf.old ≤ S.faults shelf.new }
     ensures cause { IsErrOf result LoadStop.Fault
@@ -36,10 +37,10 @@ pub fn load<S: Shelf>(alloc: Global, shelf: &mut S, name: &[u8]) -> Result<Direc
 
     // The store of a directory, under that name, gives this directory again.
     ensures again { (files : List ShelfFile) (directory : Parts) → IsDirectory directory
-        → octets_named 4194304 files name.now ≡ Ok (store_text directory)
+        → octets_named LONGEST_TEXT files name.now ≡ Ok (store_text directory)
         → load_of files name.now ≡ Ok directory }
 {
-    let octets = match read_named(alloc, shelf, name, LONGEST_FILE) {
+    let octets = match read_named(alloc, shelf, name, LONGEST_TEXT) {
         Ok(octets) => octets,
         Err(stop) => return Err(FileStop::from(stop).at_file(alloc, name)),
     };
@@ -59,8 +60,8 @@ fn is_store(octets: &[u8]) -> bool
 
 // The directory of the store of that name.
 fn load_store(alloc: Global, name: &[u8], octets: &[u8]) -> Result<Directory, LoadStop>
-    requires { length octets.now ≤ 4194304 }
-    ensures loads { Answers (λ directory. directory) refusal_in result
+    requires { length octets.now ≤ LONGEST_TEXT }
+    ensures loads { IsVerdict (λ directory. directory) refusal_in result
         (store_under name.now octets.now) }
     ensures unfailing { IsErrOf result LoadStop.Fault → ⊥ }
 {
@@ -77,9 +78,9 @@ fn load_lines<S: Shelf>(
     name: &[u8],
     octets: &[u8],
 ) -> Result<Directory, LoadStop>
-    requires { length octets.now ≤ 4194304 }
+    requires { length octets.now ≤ LONGEST_TEXT }
     ensures loads { (files : List ShelfFile) → S.files shelf.old ≡ Some files
-        → Answers (λ directory. directory) refusal_in result
+        → IsVerdict (λ directory. directory) refusal_in result
         (lines_under files name.now octets.now) }
     ensures files { S.files shelf.new ≡ S.files shelf.old }
     ensures counted { S.faults shelf.old ≤ S.faults shelf.new }

@@ -11,7 +11,7 @@ use Rattle.edi_tables.specs.declared.segment.TableRow.{TableRow}
 use Rattle.edi_tables.specs.declared.table.RowFault.{RowFault}
 use Rattle.edi_tables.specs.declared.table.TableKind.{TableKind}
 use Rattle.edi_tables.specs.declared.table.TableKind.TheVariants.{NoUnhUnt, EnvelopeTag, BadMax, BadDepth, TooDeep, NoTrigger}
-use Rattle.edi_tables.specs.Rows.{is_group_row, breaks_frame, breaks_envelope, breaks_max, breaks_depth, breaks_trigger, depth_behind, row_before, is_trigger_row, when, row_faults, faults_at, table_faults}
+use Rattle.edi_tables.specs.Rows.{is_group_row, breaks_frame, breaks_envelope, breaks_max, breaks_depth, breaks_trigger, depth_behind, row_before, is_trigger_row, when, row_faults, row_faults_at, table_faults}
 use Rattle.edi_tables.proofs.Faults.{first_of_nil, small_depth}
 use Rattle.edi_octets.specs.declared.fault.DirFault.{DirFault}
 use Rattle.edi_octets.specs.Lines.{Line}
@@ -138,7 +138,7 @@ module _ (rows : List TableRow) where
   first_of-map : {A B : Type 0} (h : A → B) (xs ys : List A) → slice_get xs 0 ≡ slice_get ys 0 → slice_get (map h xs) 0 ≡ slice_get (map h ys) 0
   first_of-map h xs ys same = slice_get-map h xs 0 ∙ ap (option_map h) same ∙ sym (slice_get-map h ys 0)
 
-  at-held : (i : ℕ) (row : Option TableRow) → IsShallow (row_before rows i) → slice_get (faults_at all_held i (option_map held row)) 0 ≡ slice_get (faults_at rows i row) 0
+  at-held : (i : ℕ) (row : Option TableRow) → IsShallow (row_before rows i) → slice_get (row_faults_at all_held i (option_map held row)) 0 ≡ slice_get (row_faults_at rows i row) 0
   at-held i None few = refl
   at-held i (Some row) few = first_of-map _ (row_faults all_held i (held row)) (row_faults rows i row) (row-held i row few)
 
@@ -147,7 +147,7 @@ module _ (rows : List TableRow) where
   none-map h (x ∷ xs) none = cc
 
   -- a row that breaks nothing isn't too deep
-  shallow-at : (i : ℕ) (row : Option TableRow) → faults_at rows i row ≡ [] → IsShallow row
+  shallow-at : (i : ℕ) (row : Option TableRow) → row_faults_at rows i row ≡ [] → IsShallow row
   shallow-at i None none = shallow-none
   shallow-at i (Some row) none =
       let nothing : row_faults rows i row ≡ [] = none-map _ (row_faults rows i row) none in
@@ -166,11 +166,11 @@ module _ (rows : List TableRow) where
   first-append (x ∷ xs) [] ys ys' same later = cc
   first-append (x ∷ xs) (y ∷ xs') ys ys' same later = same
 
-  from-held : (i n : ℕ) → IsShallow (row_before rows i) → slice_get (flat_map (λ i. faults_at all_held i (slice_get all_held i)) (range_with_len i n)) 0 ≡ slice_get (flat_map (λ i. faults_at rows i (slice_get rows i)) (range_with_len i n)) 0
+  from-held : (i n : ℕ) → IsShallow (row_before rows i) → slice_get (flat_map (λ i. row_faults_at all_held i (slice_get all_held i)) (range_with_len i n)) 0 ≡ slice_get (flat_map (λ i. row_faults_at rows i (slice_get rows i)) (range_with_len i n)) 0
   from-held i zero few = refl
   from-held i (suc n) few =
-      let here : slice_get (faults_at all_held i (slice_get all_held i)) 0 ≡ slice_get (faults_at rows i (slice_get rows i)) 0 = rw (slice_get-map held rows i) (at-held i (slice_get rows i) few) in
-      first-append (faults_at all_held i (slice_get all_held i)) (faults_at rows i (slice_get rows i)) (flat_map (λ i. faults_at all_held i (slice_get all_held i)) (range_with_len (i + 1) n)) (flat_map (λ i. faults_at rows i (slice_get rows i)) (range_with_len (i + 1) n)) here
+      let here : slice_get (row_faults_at all_held i (slice_get all_held i)) 0 ≡ slice_get (row_faults_at rows i (slice_get rows i)) 0 = rw (slice_get-map held rows i) (at-held i (slice_get rows i) few) in
+      first-append (row_faults_at all_held i (slice_get all_held i)) (row_faults_at rows i (slice_get rows i)) (flat_map (λ i. row_faults_at all_held i (slice_get all_held i)) (range_with_len (i + 1) n)) (flat_map (λ i. row_faults_at rows i (slice_get rows i)) (range_with_len (i + 1) n)) here
       (λ none. from-held (i + 1) n (rw (before-next i) (shallow-at i (slice_get rows i) none)))
 
   -- the first fault of the rows is that of the rows as they are held

@@ -10,7 +10,7 @@ use Rattle.edi_octets.specs.declared.fault.DirStop.{DirStop}
 use Rattle.edi_octets.specs.declared.fault.DirStop.TheVariants.{Fault, Memory}
 use Rattle.edi_octets.specs.Lines.{Line, lines_of}
 use Rattle.edi_octets.specs.Profile.{with_earlier, with_earlier_from, fields_of}
-use Rattle.edi_tables.specs.First.{Answers, unless_faulty}
+use Rattle.edi_tables.specs.First.{IsVerdict, unless_faulty}
 use Rattle.edi_octets.specs.DirStop.{fault_in}
 use Rattle.edi_octets.proofs.EarlierLemmas.{judged-none, judged-first}
 use Rattle.dir_messages.specs.declared.drawing.Drawing.{Drawing}
@@ -54,7 +54,7 @@ unfolding answer
 answer-none type lines = refl
 
 -- a line at which the reading stops
-pub Answers-stopped : (type : Line) (lines seen rest : List Line) (line : Line) (old new : Drawing) (stop : DirStop) → lines ≡ seen ++ (line ∷ rest) → HasRead seen old → DrawsOrStops seen line (Err stop) new → Answers (λ (m : MessageDef). m) fault_in (Err stop) (message_after type lines)
+pub Answers-stopped : (type : Line) (lines seen rest : List Line) (line : Line) (old new : Drawing) (stop : DirStop) → lines ≡ seen ++ (line ∷ rest) → HasRead seen old → DrawsOrStops seen line (Err stop) new → IsVerdict (λ (m : MessageDef). m) fault_in (Err stop) (message_after type lines)
 Answers-stopped type lines seen rest line old new (Fault fault) whole read first =
     message_after-is type lines ∙ ap (λ all. answer type lines (flat_map judge (with_earlier all))) whole
     ∙ ap (answer type lines) (judged-first judge seen line rest fault first.0 read.sound first.1)
@@ -62,13 +62,13 @@ Answers-stopped type lines seen rest line old new (Fault fault) whole read first
 Answers-stopped type lines seen rest line old new Memory whole read first = tt
 
 -- the lines end
-pub Answers-end : (type : Line) (lines : List Line) (name : List ℕ) (drawing : Drawing) (result : Result MessageDef DirStop) → name_on (fields_of type.octets) ≡ Some name → HasRead lines drawing → Answers (λ (m : MessageDef). m) fault_in result (unless_faulty (open_faults (filter is_table_line lines) ++ rows_faults type (filter is_table_line lines)) (record { name = name; rows = rows_of (filter is_table_line lines) })) → Answers (λ (m : MessageDef). m) fault_in result (message_after type lines)
+pub Answers-end : (type : Line) (lines : List Line) (name : List ℕ) (drawing : Drawing) (result : Result MessageDef DirStop) → name_on (fields_of type.octets) ≡ Some name → HasRead lines drawing → IsVerdict (λ (m : MessageDef). m) fault_in result (unless_faulty (open_faults (filter is_table_line lines) ++ rows_faults type (filter is_table_line lines)) (record { name = name; rows = rows_of (filter is_table_line lines) })) → IsVerdict (λ (m : MessageDef). m) fault_in result (message_after type lines)
 Answers-end type lines name drawing result named read given =
     let drawn = filter is_table_line lines in
     let same : message_after type lines ≡ unless_faulty (open_faults drawn ++ rows_faults type drawn) (record { name = name; rows = rows_of drawn }) =
     message_after-is type lines ∙ ap (answer type lines) read.sound ∙ answer-none type lines
     ∙ ap (λ (n : List ℕ). unless_faulty (open_faults drawn ++ rows_faults type drawn) (record { name = n; rows = rows_of drawn })) (ap (λ o. unwrap_or o []) named) in
-    subst (λ file. Answers (λ (m : MessageDef). m) fault_in result file) (sym same) given
+    subst (λ file. IsVerdict (λ (m : MessageDef). m) fault_in result file) (sym same) given
 
 -- the type line isn't among so many lines, and stands among those that are left, if anywhere
 pub record IsSought (file : List ℕ) (left : List Line) (count : ℕ) : Type 0 where

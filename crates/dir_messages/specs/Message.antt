@@ -3,6 +3,7 @@ use Rattle.std.specs.Prelude.{◌-◌, ◌+◌, ℕ, Bool, false, not, ◌==◌,
 use Rattle.std.specs.List.{list_all, flat_map, before_last, after_last, prefix_len, join_with_byte}
 use Rattle.std.specs.Str.{all_ascii_digits, bytes_eq, str_eq_ignore_ascii_case}
 use Rattle.std.specs.Str.Parse.{digits_value}
+use Rattle.edi_tables.specs.Octets.{Octets}
 use Rattle.edi_tables.specs.Forms.{is_message_name}
 use Rattle.edi_tables.specs.Tag.{is_digit, is_tag_of}
 use Rattle.edi_tables.specs.declared.tag.Tag.{Tag}
@@ -22,12 +23,12 @@ use Rattle.edi_tables.specs.First.{unless_faulty}
 use Rattle.edi_octets.specs.DirStop.{at_line}
 
 -- the words that a type line begins with
-abbrev pub begins_type : List ℕ → List ℕ → List ℕ → Bool
+abbrev pub begins_type : Octets → Octets → Octets → Bool
 begins_type message type colon =
     bytes_eq message (codes "Message") && bytes_eq type (codes "Type") && bytes_eq colon (codes ":")
 
 -- the name on a type line: a line with exactly the fields `Message`, `Type`, `:` and a message's name
-abbrev pub name_on : List (List ℕ) → Option (List ℕ)
+abbrev pub name_on : List Octets → Option Octets
 name_on (message ∷ type ∷ colon ∷ name ∷ []) =
     if begins_type message type colon && is_message_name name then Some name else None
 name_on fields = None
@@ -40,10 +41,10 @@ abbrev pub is_table_line : Line → Bool
 is_table_line line = nat_le (indentation_of line.octets) 4 && has_position 4 line
 
 -- the pieces of a line between single spaces
-abbrev pub pieces_of : Line → List (List ℕ)
+abbrev pub pieces_of : Line → List Octets
 pieces_of line = pieces_in (unmarked line.octets)
 
-abbrev pub is_status : List ℕ → Bool
+abbrev pub is_status : Octets → Bool
 is_status part = is_some (status_in part)
 
 -- the status of a table line is its last field that is `M` or `C`
@@ -51,15 +52,15 @@ abbrev pub status_of : Line → Option Bool
 status_of line = option_and_then status_in (find is_status (reverse (pieces_of line)))
 
 -- what follows the status on the line, without the spaces in front
-abbrev pub rest_of : Line → List ℕ
+abbrev pub rest_of : Line → Octets
 rest_of line = after_spaces (join_with_byte 32 (after_last is_status (pieces_of line)))
 
 -- the greatest count in such a rest: the digits that it begins with
-abbrev pub max_in : List ℕ → ℕ
+abbrev pub max_in : Octets → ℕ
 max_in rest = digits_value 10 (take (prefix_len is_digit rest) rest)
 
 -- the tail after it, in which the groups are drawn
-abbrev pub tail_in : List ℕ → List ℕ
+abbrev pub tail_in : Octets → Octets
 tail_in rest = drop (prefix_len is_digit rest) rest
 
 -- a tail has spaces, `-`, `|` and `+`
@@ -67,11 +68,11 @@ abbrev pub is_tail_octet : ℕ → Bool
 is_tail_octet x = x == 32 || x == 45 || x == 124 || x == 43
 
 -- how many `+` a tail has
-abbrev pub ends_in : List ℕ → ℕ
+abbrev pub ends_in : Octets → ℕ
 ends_in tail = count_by (λ x. x == 43) tail
 
 -- one to six digits, and a tail
-abbrev pub has_counts : List ℕ → Bool
+abbrev pub has_counts : Octets → Bool
 has_counts rest =
     nat_le 1 (prefix_len is_digit rest) && nat_le (prefix_len is_digit rest) 6 && list_all is_tail_octet (tail_in rest)
 
@@ -87,31 +88,31 @@ abbrev pub has_rest : Line → Bool
 has_rest line = is_some (status_of line) && has_counts (rest_of line)
 
 -- the fields between the position and the status
-abbrev pub middle_of : Line → List (List ℕ)
+abbrev pub middle_of : Line → List Octets
 middle_of line = after_position (drop 1 (filter is_filled (before_last is_status (pieces_of line))))
 
 -- a segment line has a tag and a name there
-abbrev pub tag_drawn : List (List ℕ) → Option Tag
+abbrev pub tag_drawn : List Octets → Option Tag
 tag_drawn (tag ∷ name ∷ more) = if is_tag_of tag then Some (record { octets = tag }) else None
 tag_drawn fields = None
 
 -- `-` alone, any number of them
-abbrev pub is_dashes : List ℕ → Bool
+abbrev pub is_dashes : Octets → Bool
 is_dashes field = list_all (λ x. x == 45) field
 
 -- a number without leading zero
-abbrev pub is_plain_number : List ℕ → Bool
+abbrev pub is_plain_number : Octets → Bool
 is_plain_number field =
     is_filled field && all_ascii_digits field && (length field == 1 || not (slice_index field 0 == 48))
 
 -- the fields that a group line begins with: two or more `-`, and the words `Segment` and `group` in any case
-abbrev pub begins_group : List ℕ → List ℕ → List ℕ → Bool
+abbrev pub begins_group : Octets → Octets → Octets → Bool
 begins_group dashes segment group =
     nat_le 2 (length dashes) && is_dashes dashes && str_eq_ignore_ascii_case segment (codes "Segment")
     && str_eq_ignore_ascii_case group (codes "group")
 
 -- a group line has these there, a number, and fields of `-` alone
-abbrev pub number_drawn : List (List ℕ) → Option ℕ
+abbrev pub number_drawn : List Octets → Option ℕ
 number_drawn (dashes ∷ segment ∷ group ∷ number ∷ more) =
     if begins_group dashes segment group && is_plain_number number && list_all is_dashes more
     then Some (digits_value 10 number) else None
@@ -139,7 +140,7 @@ abbrev pub is_in_order : List Line → Line → Bool
 is_in_order earlier line = is_greater (last_position earlier) (position_of line)
 
 -- what a group line or a segment line breaks, with so many `+`, after so many groups, of which so many are open
-abbrev pub form_faults : List (List ℕ) → ℕ → ℕ → ℕ → List DirKind
+abbrev pub form_faults : List Octets → ℕ → ℕ → ℕ → List DirKind
 form_faults middle ends groups open_groups =
     elim (number_drawn middle) [
       | Some number ↦ when (not (ends == 1 && number == groups + 1)) BadGroup
@@ -166,7 +167,7 @@ line_faults earlier line =
     else (if is_table_line line then table_line_faults (filter is_table_line earlier) line else [])
 
 -- the tag of a table line's row: a group has none
-abbrev pub row_tag : List (List ℕ) → Option Tag
+abbrev pub row_tag : List Octets → Option Tag
 row_tag middle = if is_some (number_drawn middle) then None else tag_drawn middle
 
 -- the row of a table line after these: it is as deep as groups are open
@@ -227,5 +228,5 @@ message_from count [] = Err (record { line = count; kind = NoType })
 message_from count (line ∷ lines) = if is_type_line line then message_after line lines else message_from count lines
 
 -- a message file stands for its message, or for its first fault
-unfoldable pub message_in : List ℕ → Result MessageDef DirFault
+unfoldable pub message_in : Octets → Result MessageDef DirFault
 message_in file = let lines = lines_of file in message_from (length lines) lines

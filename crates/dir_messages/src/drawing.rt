@@ -4,7 +4,7 @@ ghost use Rattle.edi_octets.specs.Left.{cells_left};
 ghost use Rattle.dir_messages.specs.Message as message;
 ghost use Rattle.dir_messages.specs.Message.{form_faults, row_tag};
 
-use crate::form::{Form, form_of};
+use crate::form::{LineForm, form_of};
 use crate::table_line::read_table_line;
 use crate::words;
 use edi_octets::{Cells, DirKind, DirStop, LineText, is_greater};
@@ -39,7 +39,7 @@ impl Drawing {
     ghost use Rattle.edi_octets.specs.Lines.{Line};
     ghost use Rattle.edi_octets.specs.Left.{line_shown};
     ghost use Rattle.edi_octets.specs.Profile.{position_of};
-    ghost use Rattle.edi_tables.specs.First.{Answers, unless_faulty};
+    ghost use Rattle.edi_tables.specs.First.{IsVerdict, unless_faulty};
     ghost use Rattle.edi_octets.specs.DirStop.{fault_in};
     ghost use Rattle.dir_messages.specs.Message.{is_table_line, kinds_broken, open_faults, rows_faults, rows_of};
     ghost use Rattle.dir_messages.specs.Drawing.{IsDrawn, DrawsOrStops, FirstOf, DrawsRow, Puts, BeginsWith};
@@ -87,7 +87,7 @@ impl Drawing {
         type_line: u32,
     ) -> Result<MessageDef, DirStop>
         ensures { (type : Line) (drawn : List Line) → type.number ≡ type_line → IsDrawn drawn self
-            → Answers (λ m. m) fault_in result
+            → IsVerdict (λ m. m) fault_in result
             (unless_faulty (open_faults drawn ++ rows_faults type drawn)
             (record { name = name.now; rows = rows_of drawn })) }
     {
@@ -218,14 +218,14 @@ fn judge_form(
 {
     match form_of(middle) {
         None => Err(DirKind::BadLine),
-        Some(Form::Group(number)) => {
+        Some(LineForm::Group(number)) => {
             if ends == 1 && number == Some(groups + 1) {
                 Ok(None)
             } else {
                 Err(DirKind::BadGroup)
             }
         }
-        Some(Form::Segment(tag)) => {
+        Some(LineForm::Segment(tag)) => {
             if ends <= open_groups {
                 Ok(Some(tag))
             } else {

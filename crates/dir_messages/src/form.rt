@@ -14,23 +14,23 @@ use edi_tables::Tag;
 
 /// What stands between the position and the status of a table line.
 #[derive(Clone, Copy, Debug)]
-pub(crate) enum Form {
+pub(crate) enum LineForm {
     Segment(Tag),
     /// A group with its number, which is `None` where it has 20 or more digits.
     Group(Option<u64>),
 }
 
 /// The form of the fields between position and status; `None` where they have neither.
-pub(crate) fn form_of(middle: Cells<'_>) -> Option<Form>
+pub(crate) fn form_of(middle: Cells<'_>) -> Option<LineForm>
     ensures { MatchOption result
         (HasNoForm (cells_left middle.entry))
         (λ form. IsForm (cells_left middle.entry) form) }
 {
     if let Some(number) = group_number(middle) {
-        return Some(Form::Group(read_decimal(number)));
+        return Some(LineForm::Group(read_decimal(number)));
     }
     let tag = segment_tag(middle)?;
-    Some(Form::Segment(tag))
+    Some(LineForm::Segment(tag))
 }
 
 /// The tag of a segment line: a tag and a name stand there.

@@ -1,12 +1,13 @@
 //! Reading a drawn message file.
 ghost use Rattle.std.specs.Prelude.{◌≡◌, ◌≤◌, Some, true, length, IfOk};
 ghost use Rattle.edi_tables.specs.Forms.{is_message_formed};
-ghost use Rattle.edi_tables.specs.First.{Answers};
+ghost use Rattle.edi_tables.specs.First.{IsVerdict};
 ghost use Rattle.edi_octets.specs.DirStop.{fault_in};
 ghost use Rattle.edi_octets.specs.Left.{lines_left};
 ghost use Rattle.edi_octets.specs.Lines.{Line};
 ghost use Rattle.edi_octets.specs.Profile.{fields_of};
 ghost use Rattle.dir_messages.specs.Message.{message_in, message_after, name_on};
+ghost use Rattle.edi_octets.specs.declared.octets.TheConstants.{LONGEST_TEXT};
 
 use crate::drawing::Drawing;
 use crate::words::type_name;
@@ -19,8 +20,8 @@ use std::alloc::Global;
 /// lines draw the rows, which have to be a segment table. Memory is taken for the
 /// rows, the lines of the rows, and the name.
 pub fn read_message(alloc: Global, file: &[u8]) -> Result<MessageDef, DirStop>
-    requires { length file.now ≤ 4194304 }
-    ensures answers { Answers (λ m. m) fault_in result (message_in file.now) }
+    requires { length file.now ≤ LONGEST_TEXT }
+    ensures answers { IsVerdict (λ m. m) fault_in result (message_in file.now) }
     ensures forms { IfOk result (λ m. is_message_formed m ≡ true) }
 {
     let mut lines = Lines::of(file);
@@ -41,10 +42,10 @@ fn read_drawing(
     type_line: u32,
     lines: Lines<'_>,
 ) -> Result<MessageDef, DirStop>
-    requires { length (lines_left lines) ≤ 4194304 }
+    requires { length (lines_left lines) ≤ LONGEST_TEXT }
     ensures { (type : Line) → type.number ≡ type_line
         → name_on (fields_of type.octets) ≡ Some name.now
-        → Answers (λ m. m) fault_in result (message_after type (lines_left lines.entry)) }
+        → IsVerdict (λ m. m) fault_in result (message_after type (lines_left lines.entry)) }
 {
     let mut drawing = Drawing::new(alloc);
     for line in lines {

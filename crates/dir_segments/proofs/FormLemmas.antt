@@ -17,11 +17,11 @@ use Rattle.edi_octets.proofs.AnswerLemmas.{none_from_ok}
 use Rattle.edi_octets.proofs.EachLemmas.{passes_if_made, nothing-append, All-each, passes-filter_map, length-filter_map, All-judged}
 use Rattle.edi_octets.proofs.HeadLemmas.{head_faults-code}
 use Rattle.edi_octets.proofs.PlainLemmas.{IsEntry, entries_of-entries}
-use Rattle.dir_composites.specs.Parts.{fields_behind, last_of, is_placed, is_element_form, is_composite_form, composite_status, element_fault, composite_fault, part_in, count_faults}
-use Rattle.dir_segments.specs.Segments.{Item, place_of, items_of, items_in, item_in, item_of, alone_item, composite_item, line_faults, detail_faults, item_end_faults, repeated_parts, item_faults, items_faults, segment_faults, segment_of, segments_in}
-use Rattle.dir_composites.proofs.FieldLemmas.{is_composite_form-element}
-use Rattle.dir_composites.proofs.StopLemmas.{none_listed}
-use Rattle.dir_composites.proofs.FormLemmas.{composite_rules, part_in-formed, first_rule, part_in-made, counted}
+use Rattle.dir_segments.specs.Parts.{fields_behind, last_of, is_placed, is_element_form, is_composite_form, composite_status, element_fault, composite_fault, part_in, count_faults}
+use Rattle.dir_segments.specs.Segments.{Item, item_position, items_of, items_in, item_in, item_of, alone_item, composite_item, line_faults, detail_faults, item_end_faults, repeated_parts, item_faults, items_faults, segment_faults, segment_of, segments_in_file}
+use Rattle.dir_segments.proofs.FieldLemmas.{is_composite_form-element}
+use Rattle.dir_segments.proofs.StopLemmas.{none_listed}
+use Rattle.dir_segments.proofs.CompositeForms.{composite_rules, part_in-formed, first_rule, part_in-made, counted}
 
 -- ---- items
 
@@ -76,9 +76,9 @@ line_faults-made before line none =
     (cases_Bool (is_composite_form fields)))
     (cases_Bool (is_element_form fields))
 
-item_faults-made : (known : List CompositeDef) (earlier : List Item) (item : Item) → Unit {0} → item_faults known (last_of (map place_of earlier)) item ≡ [] → is_some (item_of item) ≡ true
+item_faults-made : (known : List CompositeDef) (earlier : List Item) (item : Item) → Unit {0} → item_faults known (last_of (map item_position earlier)) item ≡ [] → is_some (item_of item) ≡ true
 item_faults-made known earlier item given none =
-    let before = last_of (map place_of earlier) in
+    let before = last_of (map item_position earlier) in
     line_faults-made before item.line (nothing-append (line_faults before item.line) (flat_map (detail_faults (is_composite_form (fields_behind item.line))) item.details ++ item_end_faults known item.line (repeated_parts item.details)) none).0
 
 -- ---- segments
@@ -90,13 +90,13 @@ segment_of-formed known earlier (head ∷ body) is none =
     let faults = nothing-append (head_faults is_tag_of earlier head) (items_faults known body ++ count_faults head (length items)) none in
     let behind = nothing-append (items_faults known body) (count_faults head (length items)) faults.1 in
     let tag = head_faults-code is_tag_of earlier head faults.0 in
-    let made = All-judged (λ (p : List Item × Item). item_faults known (last_of (map place_of p.0)) p.1) (λ _. Unit {0}) (λ item. is_some (item_of item) ≡ true) (item_faults-made known) items (All-each (λ _. Unit {0}) (λ _. tt) items) behind.0 in
+    let made = All-judged (λ (p : List Item × Item). item_faults known (last_of (map item_position p.0)) p.1) (λ _. Unit {0}) (λ item. is_some (item_of item) ≡ true) (item_faults-made known) items (All-each (λ _. Unit {0}) (λ _. tt) items) behind.0 in
     let many = ap is_count_formed (length-filter_map item_of items made) ∙ counted head (length items) behind.1 in
     rw (tag, many) (list_all-from_AllPass is_item_formed (items_in body) (passes-filter_map is_item_formed item_of items (All-each (λ item. passes_if_made is_item_formed (item_of item) ≡ true) (λ item. item_in-formed (fields_behind item.line)) items)))
 
 -- the segments of a file are formed
-pub segments_in-formed : (known : List CompositeDef) (file : List ℕ) (found : List SegmentDef) → segments_in known file ≡ Ok found → list_all is_segment_formed found ≡ true
-unfolding segments_in
+pub segments_in-formed : (known : List CompositeDef) (file : List ℕ) (found : List SegmentDef) → segments_in_file known file ≡ Ok found → list_all is_segment_formed found ≡ true
+unfolding segments_in_file
 segments_in-formed known file found is =
     let entries = entries_of (lines_of file) in
     let judge = λ (p : List (List Line) × List Line). segment_faults known p.0 p.1 in

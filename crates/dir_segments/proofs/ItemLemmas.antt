@@ -7,14 +7,14 @@ use Rattle.std.proofs.lemmas.List.Elements.{filter-append, filter_map-append}
 use Rattle.std.proofs.lemmas.List.Sums.{take_while-cons}
 use Rattle.edi_tables.specs.declared.element.PartDef.{PartDef}
 use Rattle.edi_octets.specs.declared.fault.DirStop.{DirStop}
-use Rattle.edi_tables.specs.First.{Answers, unless_faulty}
+use Rattle.edi_tables.specs.First.{IsVerdict, unless_faulty}
 use Rattle.edi_octets.specs.DirStop.{fault_in}
 use Rattle.edi_octets.specs.Lines.{Line}
 use Rattle.edi_octets.specs.Profile.{fields_of}
-use Rattle.dir_composites.specs.Parts.{is_item_line, part_in, is_placed, fields_behind, is_element_form, is_composite_form, element_fault, composite_fault, fault_list}
+use Rattle.dir_segments.specs.Parts.{is_item_line, part_in, is_placed, fields_behind, is_element_form, is_composite_form, element_fault, composite_fault, fault_list}
 use Rattle.dir_segments.specs.Segments.{item_at, items_of, details_of, is_part_line, detail_faults, repeated_parts, line_faults}
-use Rattle.dir_composites.proofs.StopLemmas.{stops}
-use Rattle.dir_composites.proofs.FrontLemmas.{goes_on, goes_at}
+use Rattle.dir_segments.proofs.StopLemmas.{stops}
+use Rattle.dir_segments.proofs.FrontLemmas.{goes_on, goes_at}
 
 pub items_of-item : (line : Line) (lines : List Line) → is_item_line line ≡ true → items_of (line ∷ lines) ≡ item_at line lines ∷ items_of lines
 items_of-item line lines item = rw item refl
@@ -65,7 +65,7 @@ module _ (below_composite : Bool) where
       }
 
   -- a line has come, and stops
-  pub details_stop : {X Y X' Y' : Type 0} (view : X → Y) (outer : X' → Y') (stop : DirStop) (all rest : List Line) (line : Line) (later : List Line) (parts : List PartDef) (v : Y) (w : Y') → AreDetails all rest parts → rest ≡ line ∷ later → Answers view fault_in (Err stop) (unless_faulty (detail_faults below_composite line) v) → Answers outer fault_in (Err stop) (unless_faulty (flat_map (detail_faults below_composite) all) w)
+  pub details_stop : {X Y X' Y' : Type 0} (view : X → Y) (outer : X' → Y') (stop : DirStop) (all rest : List Line) (line : Line) (later : List Line) (parts : List PartDef) (v : Y) (w : Y') → AreDetails all rest parts → rest ≡ line ∷ later → IsVerdict view fault_in (Err stop) (unless_faulty (detail_faults below_composite line) v) → IsVerdict outer fault_in (Err stop) (unless_faulty (flat_map (detail_faults below_composite) all) w)
   details_stop view outer stop all rest line later parts v w read here given =
       let judge = detail_faults below_composite in
       let is : flat_map judge all ≡ flat_map judge read.front ++ (judge line ++ flat_map judge later) =

@@ -1,1 +1,3 @@
+pub mod Composites
+pub mod Parts
 pub mod Segments

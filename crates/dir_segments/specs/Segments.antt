@@ -3,6 +3,7 @@ use Rattle.std.specs.Prelude.{ℕ, Bool, false, not, ◌&&◌, List, [], ◌∷�
 use Rattle.std.specs.Cmp.Lexicographic.{pointwise}
 use Rattle.std.specs.List.{filter_map, flat_map, position}
 use Rattle.std.specs.Str.{bytes_eq}
+use Rattle.edi_tables.specs.Octets.{Octets}
 use Rattle.edi_tables.specs.Tag.{is_tag_of}
 use Rattle.edi_tables.specs.declared.element.PartDef.{PartDef}
 use Rattle.edi_tables.specs.declared.element.CompositeDef.{CompositeDef}
@@ -19,7 +20,7 @@ use Rattle.edi_tables.specs.First.{unless_faulty}
 use Rattle.edi_tables.specs.Same.{is_same_bool, is_same_repr}
 use Rattle.edi_octets.specs.DirStop.{at_line}
 use Rattle.edi_octets.specs.Head.{head_faults, head_field}
-use Rattle.dir_composites.specs.Parts.{is_item_line, fields_behind, is_placed, last_of, count_faults, is_element_form, is_composite_form, part_in, composite_status, element_fault, composite_fault, fault_list}
+use Rattle.dir_segments.specs.Parts.{is_item_line, fields_behind, is_placed, last_of, count_faults, is_element_form, is_composite_form, part_in, composite_status, element_fault, composite_fault, fault_list}
 
 -- an item: its line, and the detail lines behind it, up to the next item line
 pub record Item : Type 0 where
@@ -69,11 +70,11 @@ is_same_part p q =
     bytes_eq p.code.octets q.code.octets && is_same_bool p.must q.must && is_same_repr p.repr q.repr
 
 -- the first known composite of that code, if there is one
-abbrev pub known_composite : List CompositeDef → List ℕ → Option CompositeDef
+abbrev pub known_composite : List CompositeDef → Octets → Option CompositeDef
 known_composite known code = find (λ c. bytes_eq c.code.octets code) known
 
 -- where it stands
-abbrev pub known_place : List CompositeDef → List ℕ → Option ℕ
+abbrev pub known_place : List CompositeDef → Octets → Option ℕ
 known_place known code = position (λ c. bytes_eq c.code.octets code) known
 
 -- part lines below a known composite are exactly its parts, in order; where there are none, nothing differs
@@ -96,13 +97,13 @@ item_faults known before item =
     ++ item_end_faults known item.line (repeated_parts item.details))
 
 -- the position of an item
-abbrev pub place_of : Item → ℕ
-place_of item = position_of item.line
+abbrev pub item_position : Item → ℕ
+item_position item = position_of item.line
 
 -- what the items of an entry break, in order
 abbrev pub items_faults : List CompositeDef → List Line → List DirFault
 items_faults known body =
-    flat_map (λ p. item_faults known (last_of (map place_of p.0)) p.1) (with_earlier (items_of body))
+    flat_map (λ p. item_faults known (last_of (map item_position p.0)) p.1) (with_earlier (items_of body))
 
 -- an entry after these: its head, its items in order, its end, where it has 1 to 99 items
 abbrev pub segment_faults : List CompositeDef → List (List Line) → List Line → List DirFault
@@ -111,7 +112,7 @@ segment_faults known earlier (head ∷ body) =
     head_faults is_tag_of earlier head ++ (items_faults known body ++ count_faults head (length (items_of body)))
 
 -- the item that a composite's fields define, if its status is good
-abbrev pub composite_item : List (List ℕ) → Option Bool → Option ItemDef
+abbrev pub composite_item : List Octets → Option Bool → Option ItemDef
 composite_item fields None = None
 composite_item fields (Some must) = Some (Composite (record { octets = first_field fields }) must)
 
@@ -121,7 +122,7 @@ alone_item None = None
 alone_item (Some part) = Some (Alone part)
 
 -- the item that the fields behind a position define
-abbrev pub item_in : List (List ℕ) → Option ItemDef
+abbrev pub item_in : List Octets → Option ItemDef
 item_in fields =
     if is_composite_form fields then composite_item fields (composite_status fields) else alone_item (part_in fields)
 
@@ -138,7 +139,7 @@ segment_of [] = record { tag = record { octets = [] }; items = [] }
 segment_of (head ∷ body) = record { tag = record { octets = head_field (head ∷ body) }; items = items_in body }
 
 -- a segment file stands for one segment an entry, or for its first fault
-unfoldable pub segments_in : List CompositeDef → List ℕ → Result (List SegmentDef) DirFault
-segments_in known file =
+unfoldable pub segments_in_file : List CompositeDef → Octets → Result (List SegmentDef) DirFault
+segments_in_file known file =
     let entries = entries_of (lines_of file) in
     unless_faulty (flat_map (λ p. segment_faults known p.0 p.1) (with_earlier entries)) (map segment_of entries)

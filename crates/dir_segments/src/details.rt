@@ -2,15 +2,15 @@
 ghost use Rattle.std.specs.Prelude.{◌≡◌, ℕ, List, Some, IsTrue};
 ghost use Rattle.std.specs.List.{flat_map};
 ghost use Rattle.std.specs.Cmp.Lexicographic.{pointwise};
-ghost use Rattle.edi_tables.specs.First.{Answers, unless_faulty};
+ghost use Rattle.edi_tables.specs.First.{IsVerdict, unless_faulty};
 ghost use Rattle.edi_octets.specs.DirStop.{fault_in};
 ghost use Rattle.edi_octets.specs.Left.{line_shown, body_left};
 ghost use Rattle.edi_octets.specs.Profile.{fields_of};
-ghost use Rattle.dir_composites.specs.Parts.{Passes, fields_behind, is_composite_form, part_in};
+ghost use Rattle.dir_segments.specs.Parts.{Passes, fields_behind, is_composite_form, part_in};
 ghost use Rattle.dir_segments.specs.Segments as segments;
 
+use crate::fields::{is_item_line, read_element};
 use crate::known::KnownComposites;
-use dir_composites::{is_item_line, read_element};
 use edi_octets::{Body, DirKind, DirStop, LineText, is_element_code};
 use edi_tables::{ItemDef, PartDef};
 use std::alloc::Global;
@@ -22,7 +22,7 @@ pub(crate) fn read_details(
     behind: Body<'_>,
 ) -> Result<Vec<PartDef>, DirStop>
     ensures { let details = segments.details_of (body_left behind.entry) in
-        Answers (λ parts. parts.items) fault_in result
+        IsVerdict (λ parts. parts.items) fault_in result
         (unless_faulty (flat_map (segments.detail_faults below_composite) details)
         (segments.repeated_parts details)) }
 {
@@ -90,7 +90,7 @@ fn is_part_line(line: &LineText<'_>) -> bool
 /// Reads a part line below an item: the part that it repeats.
 fn read_repeated(below_composite: bool, line: &LineText<'_>) -> Result<PartDef, DirStop>
     requires { IsTrue (segments.is_part_line (line_shown line.now)) }
-    ensures { Answers (λ part. Some part) fault_in result
+    ensures { IsVerdict (λ part. Some part) fault_in result
         (unless_faulty (segments.detail_faults below_composite (line_shown line.now))
         (part_in (fields_of line.now.octets.now))) }
 {

@@ -1,16 +1,14 @@
 //! Item lines, judged after the position before them.
 ghost use Rattle.std.specs.Prelude.{◌≡◌, Some, IsTrue};
-ghost use Rattle.edi_tables.specs.First.{Answers, unless_faulty};
+ghost use Rattle.edi_tables.specs.First.{IsVerdict, unless_faulty};
 ghost use Rattle.edi_octets.specs.DirStop.{fault_in};
 ghost use Rattle.edi_octets.specs.Left.{line_shown};
 ghost use Rattle.edi_octets.specs.Profile as profile;
-ghost use Rattle.dir_composites.specs.Parts as parts;
+ghost use Rattle.dir_segments.specs.Parts as parts;
 ghost use Rattle.dir_segments.specs.Segments as segments;
 
-use dir_composites::{
-    CompositeFields, POSITION_DIGITS, fields_behind, judge_element, judge_status, read_composite,
-    read_element,
-};
+use crate::fields::{CompositeFields, fields_behind, read_composite, read_element};
+use crate::part_line::{POSITION_DIGITS, judge_element, judge_status};
 use edi_octets::{DirKind, DirStop, LineText, read_position};
 use edi_tables::ItemDef;
 
@@ -47,7 +45,7 @@ fn judge_composite(
     requires composite { parts.IsComposite composite.now
         (parts.fields_behind (line_shown line.now)) }
     ensures { let shown = line_shown line.now in
-        Answers (λ item. Some item) fault_in result
+        IsVerdict (λ item. Some item) fault_in result
         (unless_faulty (parts.fault_list shown (parts.composite_fault before shown))
         (segments.item_in (parts.fields_behind shown))) }
 {

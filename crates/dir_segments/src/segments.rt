@@ -2,20 +2,22 @@
 ghost use Rattle.std.specs.Prelude.{◌≡◌, ◌≤◌, List, [], ◌∷◌, ◌++◌, length, map, true, IfOk, OnOk};
 ghost use Rattle.std.specs.List.{list_all};
 ghost use Rattle.edi_tables.specs.Forms.{is_segment_formed};
-ghost use Rattle.edi_tables.specs.First.{Answers, unless_faulty};
+ghost use Rattle.edi_tables.specs.First.{IsVerdict, unless_faulty};
 ghost use Rattle.edi_octets.specs.DirStop.{fault_in};
 ghost use Rattle.edi_octets.specs.Left.{line_shown, body_left, entry_shown};
 ghost use Rattle.edi_octets.specs.Lines.{Line};
 ghost use Rattle.edi_octets.specs.Head.{head_field};
-ghost use Rattle.dir_composites.specs.Parts as parts;
+ghost use Rattle.dir_segments.specs.Parts as parts;
 ghost use Rattle.dir_segments.specs.Segments as segments;
+ghost use Rattle.edi_octets.specs.declared.octets.TheConstants.{LONGEST_TEXT};
 
 use crate::details::{is_composite_item, judge_end, read_details};
+use crate::fields::is_item_line;
 use crate::head::read_tag_head;
 use crate::item_line::read_item;
 use crate::known::KnownComposites;
-use dir_composites::{is_item_line, judge_count};
-use edi_octets::{Body, DirStop, Entries, Entry, LineText, Seen};
+use crate::part_line::judge_count;
+use edi_octets::{Body, DirStop, EarlierNames, Entries, Entry, LineText};
 use edi_tables::{CompositeDef, ItemDef, List, SegmentDef};
 use std::alloc::Global;
 
@@ -29,14 +31,14 @@ pub fn read_segments(
     file: &[u8],
     known: &[CompositeDef],
 ) -> Result<Vec<SegmentDef>, DirStop>
-    requires { length file.now ≤ 4194304 }
-    ensures answers { Answers (λ found. found.items) fault_in result
-        (segments.segments_in known.now file.now) }
+    requires { length file.now ≤ LONGEST_TEXT }
+    ensures answers { IsVerdict (λ found. found.items) fault_in result
+        (segments.segments_in_file known.now file.now) }
     ensures forms { IfOk result (λ found. list_all is_segment_formed found.items ≡ true) }
 {
     let composites = KnownComposites::new(alloc, known)?;
     let mut found = Vec::new(alloc);
-    let mut seen = Seen::new(alloc);
+    let mut seen = EarlierNames::new(alloc);
     for entry in Entries::of(file) {
         let segment = read_entry(alloc, &composites, &mut seen, &entry)?;
         found.push(segment)?;
@@ -48,11 +50,11 @@ pub fn read_segments(
 fn read_entry<'a>(
     alloc: Global,
     known: &KnownComposites<'_>,
-    seen: &mut Seen<'a>,
+    seen: &mut EarlierNames<'a>,
     entry: &Entry<'a>,
 ) -> Result<SegmentDef, DirStop>
     ensures judged { (earlier : List (List Line)) → seen.old ≡ map head_field earlier
-        → Answers (λ segment. segment) fault_in result
+        → IsVerdict (λ segment. segment) fault_in result
         (unless_faulty
         (segments.segment_faults known.now.composites.now earlier (entry_shown entry.now))
         (segments.segment_of (entry_shown entry.now))) }
@@ -73,7 +75,7 @@ fn read_items(
     entry: &Entry<'_>,
 ) -> Result<Vec<ItemDef>, DirStop>
     ensures { let body = body_left entry.now.body in
-        Answers (λ items. items.items) fault_in result
+        IsVerdict (λ items. items.items) fault_in result
         (unless_faulty (segments.items_faults known.now.composites.now body
         ++ parts.count_faults (line_shown entry.now.head) (length (segments.items_of body)))
         (segments.items_in body)) }
@@ -103,7 +105,7 @@ fn read_whole_item(
 ) -> Result<(u64, ItemDef), DirStop>
     ensures { let item = segments.item_at (line_shown line.now) (body_left behind.entry) in
         parts.GivesPlaced result (segments.item_faults known.now.composites.now before item)
-        (segments.place_of item) (segments.item_of item) }
+        (segments.item_position item) (segments.item_of item) }
 {
     let (position, item) = read_item(before, line)?;
     let repeated = read_details(alloc, is_composite_item(&item), behind)?;

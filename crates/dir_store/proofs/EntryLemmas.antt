@@ -17,17 +17,17 @@ use Rattle.edi_tables.specs.declared.segment.TableRow.{TableRow}
 use Rattle.edi_tables.specs.Forms.{is_repr_formed, is_element_code, is_composite_code, is_element_formed, is_item_formed, is_row_formed}
 use Rattle.edi_tables.specs.Tag.{is_tag_of, is_tag_octet_of, is_capital}
 use Rattle.edi_octets.specs.Profile.{status_in, status_text}
-use Rattle.dir_parts.specs.declared.parts.Parts.{Parts}
-use Rattle.dir_parts.specs.Compile.{composite_name, segment_name, named_in, is_service_tag, item_faults, tag_faults, row_faults}
+use Rattle.dir_compile.specs.declared.parts.Parts.{Parts}
+use Rattle.dir_compile.specs.Compile.{composite_name, segment_name, named_in, is_service_tag, item_faults, tag_faults, row_faults}
 use Rattle.edi_tables.proofs.AscendingLemmas.{before-trans, ascending-tail}
-use Rattle.dir_parts.proofs.AscendingLemmas.{Has, IsAscending}
-use Rattle.store_lines.specs.Lines.{Reading, lined}
-use Rattle.store_lines.specs.Rules.{is_between, kept, number_in, comes_after, part_of, composite_of, item_of, item_with, item_in, tag_of, called, row_of, row_with, row_in}
+use Rattle.dir_compile.proofs.AscendingLemmas.{Has, IsAscending}
+use Rattle.dir_store.specs.Lines.{LineRead, lined}
+use Rattle.dir_store.specs.Rules.{is_between, kept, number_in, comes_after, part_of, composite_of, item_of, item_with, item_in, tag_of, called, row_of, row_with, row_in}
 use Rattle.dir_store.specs.Spelling.{item_text, row_name, row_text}
 use Rattle.dir_store.specs.Store.{item_at, row_at}
-use Rattle.line_words.specs.Words.{two_in, four_in}
-use Rattle.store_lines.proofs.LineLemmas.{some-is, and-both, IsPlain, IsLine, joined-line, two-takes, two-again, four-takes, four-again}
-use Rattle.store_lines.proofs.NumberLemmas.{digits-plain, tag-octets-plain, decimal-plain, number-takes, number-again}
+use Rattle.edi_octets.specs.Words.{two_in, four_in}
+use Rattle.dir_store.proofs.LineLemmas.{some-is, and-both, IsPlain, IsLine, joined-line, two-takes, two-again, four-takes, four-again}
+use Rattle.dir_store.proofs.NumberLemmas.{digits-plain, tag-octets-plain, decimal-plain, number-takes, number-again}
 use Rattle.dir_store.proofs.ReprLemmas.{status-takes, status-again, status-plain}
 use Rattle.dir_store.proofs.SeveralLemmas.{Each, IsSpelled, kept-takes, kept-again, line-spelled}
 use Rattle.dir_store.proofs.KindLemmas.{passed-takes, mapped-takes, element-plain, unbroken, unbroken-again, unbroken-not, not-broken, part_of-takes, part_of-again, used_words, used-line}
@@ -74,7 +74,7 @@ each-faultless faults before (x ∷ xs) none =
     (nil-left (faults x) (flat_map faults xs) none, each-faultless faults (Some x) xs (nil-right (faults x) (flat_map faults xs) none))
 
 -- the same members by another text
-pub spelled-as : {A : Type 0} (member : Option A → List ℕ → Reading A) (text other : A → List ℕ) (Good : Option A → A → Type 0) → ((x : A) → text x ≡ other x) → IsSpelled member text Good → IsSpelled member other Good
+pub spelled-as : {A : Type 0} (member : Option A → List ℕ → LineRead A) (text other : A → List ℕ) (Good : Option A → A → Type 0) → ((x : A) → text x ≡ other x) → IsSpelled member text Good → IsSpelled member other Good
 spelled-as member text other Good same spelled = record {
   takes = λ before octets x rest is.
       let one = spelled.takes before octets x rest is in

@@ -19,16 +19,16 @@ use Rattle.edi_tables.specs.Rows.{when, table_faults}
 use Rattle.edi_tables.specs.Tag.{is_tag_of, is_tag_octet_of, is_capital}
 use Rattle.edi_tables.proofs.Faults.{few_rows}
 use Rattle.edi_tables.proofs.Lawful.{row_at, keeps, max_row, two_rows}
-use Rattle.dir_parts.specs.declared.parts.Parts.{Parts}
-use Rattle.dir_parts.specs.Stop.{fault_with}
-use Rattle.dir_parts.specs.declared.stop.CompileKind.TheVariants.{UnknownElement, Reserved, BadTable}
-use Rattle.dir_parts.specs.Compile.{element_name, list_name, composite_name, segment_name, message_name, value_name, named_in, is_service_tag, part_faults, list_fault, composite_fault, item_faults, segment_fault, row_faults, message_fault}
+use Rattle.dir_compile.specs.declared.parts.Parts.{Parts}
+use Rattle.dir_compile.specs.Stop.{fault_with}
+use Rattle.dir_compile.specs.declared.stop.CompileKind.TheVariants.{UnknownElement, Reserved, BadTable}
+use Rattle.dir_compile.specs.Compile.{element_name, list_name, composite_name, segment_name, message_name, value_name, named_in, is_service_tag, part_faults, list_fault, composite_fault, item_faults, segment_fault, row_faults, message_fault}
 use Rattle.edi_tables.specs.Filled.{is_filled}
-use Rattle.store_lines.specs.Rules.{is_between, comes_after}
+use Rattle.dir_store.specs.Rules.{is_between, comes_after}
 use Rattle.dir_store.specs.Spelling.{value_text, part_text, item_text, row_text, list_text, composite_text, segment_text, message_text}
 use Rattle.dir_store.specs.Store.{value_at, list_of, list_at, part_at, composite_of, composite_at, item_at, segment_of, segment_at, row_at as row_read, message_of, message_at}
-use Rattle.store_lines.proofs.LineLemmas.{some-is, and-both, and-three, and-four, IsPlain}
-use Rattle.store_lines.proofs.NumberLemmas.{tag-octets-plain}
+use Rattle.dir_store.proofs.LineLemmas.{some-is, and-both, and-three, and-four, IsPlain}
+use Rattle.dir_store.proofs.NumberLemmas.{tag-octets-plain}
 use Rattle.dir_store.proofs.SeveralLemmas.{Each, IsSpelled, IsListed, headed-spelled}
 use Rattle.dir_store.proofs.KindLemmas.{element-plain, unbroken, unbroken-again, unbroken-not, not-broken, IsValue, value-spelled, IsPart, part-spelled}
 use Rattle.dir_store.proofs.EntryLemmas.{all-good, none-good, each-both, each-passes, each-faultless, each-weaker, nil-left, nil-right, nil-both, Rises, tag-plain, composite-code, IsItem, item-spelled, IsRow, row-spelled}

@@ -13,15 +13,15 @@ use Rattle.edi_tables.specs.declared.element.PartDef.{PartDef}
 use Rattle.edi_tables.specs.Forms.{is_repr_formed, is_element_code, is_code_value, is_element_formed, is_part_formed}
 use Rattle.edi_tables.specs.Rows.{when}
 use Rattle.edi_octets.specs.Profile.{repr_in, status_in, status_text}
-use Rattle.dir_parts.specs.declared.parts.Parts.{Parts}
-use Rattle.dir_parts.specs.Compile.{element_name, value_name, named_in, part_against, part_faults}
+use Rattle.dir_compile.specs.declared.parts.Parts.{Parts}
+use Rattle.dir_compile.specs.Compile.{element_name, value_name, named_in, part_against, part_faults}
 use Rattle.edi_tables.specs.Same.{is_same_repr, is_same_bool, is_same_class}
-use Rattle.store_lines.specs.Rules.{comes_after, element_with, element_in, value_in, part_of, part_with, part_in}
+use Rattle.dir_store.specs.Rules.{comes_after, element_with, element_in, value_in, part_of, part_with, part_in}
 use Rattle.dir_store.specs.Spelling.{repr_text, element_text, value_text, part_text}
 use Rattle.dir_store.specs.Store.{element_at, value_at, part_at}
-use Rattle.line_words.specs.Words.{two_in}
-use Rattle.store_lines.proofs.LineLemmas.{some-is, and-both, and-three, is_plain, IsPlain, IsLine, line-plain, joined-line, two-takes, two-again}
-use Rattle.store_lines.proofs.NumberLemmas.{digits-plain}
+use Rattle.edi_octets.specs.Words.{two_in}
+use Rattle.dir_store.proofs.LineLemmas.{some-is, and-both, and-three, is_plain, IsPlain, IsLine, line-plain, joined-line, two-takes, two-again}
+use Rattle.dir_store.proofs.NumberLemmas.{digits-plain}
 use Rattle.dir_store.proofs.ReprLemmas.{repr-takes, repr-again, repr-plain, status-takes, status-again, status-plain}
 use Rattle.dir_store.proofs.SeveralLemmas.{IsSpelled, line-spelled}
 

@@ -7,9 +7,9 @@ use Rattle.edi_tables.specs.declared.element.ElementDef.{ElementDef}
 use Rattle.edi_tables.specs.declared.element.CompositeDef.{CompositeDef}
 use Rattle.edi_tables.specs.declared.segment.SegmentDef.{SegmentDef}
 use Rattle.edi_tables.specs.Forms.{is_element_formed}
-use Rattle.dir_parts.specs.declared.parts.Parts.{Parts}
-use Rattle.dir_parts.specs.Compile.{element_name, composite_name, segment_name}
-use Rattle.dir_parts.proofs.AscendingLemmas.{pairs-from-ascending}
+use Rattle.dir_compile.specs.declared.parts.Parts.{Parts}
+use Rattle.dir_compile.specs.Compile.{element_name, composite_name, segment_name}
+use Rattle.dir_compile.proofs.AscendingLemmas.{pairs-from-ascending}
 use Rattle.dir_store.specs.Spelling.{element_text, composite_text, segment_text}
 use Rattle.dir_store.specs.Store.{section_at, element_at, composite_at, segment_at}
 use Rattle.dir_store.proofs.SeveralLemmas.{Each}

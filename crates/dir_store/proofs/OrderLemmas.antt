@@ -6,10 +6,10 @@ use Rattle.edi_tables.specs.Ascending.{is_before, IsAscendingBy}
 use Rattle.edi_tables.specs.First.{unless_faulty}
 use Rattle.edi_tables.proofs.AscendingLemmas.{ascending-tail, before-not-back}
 use Rattle.edi_tables.specs.declared.element.CodeList.{CodeList}
-use Rattle.dir_parts.specs.declared.parts.Parts.{Parts}
-use Rattle.dir_parts.specs.Compile.{value_name, element_name, list_name, composite_name, segment_name, message_name}
+use Rattle.dir_compile.specs.declared.parts.Parts.{Parts}
+use Rattle.dir_compile.specs.Compile.{value_name, element_name, list_name, composite_name, segment_name, message_name}
 use Rattle.dir_compile.specs.Directory.{IsDirectory, directory_of}
-use Rattle.dir_parts.specs.InOrder.{put_in_order, ascending_by, ordered_list, ordered_parts}
+use Rattle.dir_compile.specs.InOrder.{put_in_order, ascending_by, ordered_list, ordered_parts}
 
 put-first : {A : Type 0} (name : A → List ℕ) (x : A) (xs : List A) → IsAscendingBy name (x ∷ xs) → put_in_order name x xs ≡ x ∷ xs
 put-first name x [] order = refl

@@ -17,8 +17,8 @@ use Rattle.edi_octets.proofs.DecimalLemmas.{digit_between, digits_value-room}
 use Rattle.edi_octets.proofs.EachLemmas.{passes_if_made}
 use Rattle.edi_octets.proofs.ProfileLemmas.{repr_in-formed}
 use Rattle.dir_store.specs.Spelling.{class_text, dots_text, repr_text}
-use Rattle.store_lines.proofs.LineLemmas.{some-is, IsPlain}
-use Rattle.store_lines.proofs.NumberLemmas.{own, decimal-plain}
+use Rattle.dir_store.proofs.LineLemmas.{some-is, IsPlain}
+use Rattle.dir_store.proofs.NumberLemmas.{own, decimal-plain}
 
 -- ---- lengths
 

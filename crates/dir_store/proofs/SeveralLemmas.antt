@@ -6,13 +6,13 @@ use Rattle.std.specs.Option.{option_map}
 use Rattle.std.proofs.Math.Seq.{get_or-append_seam}
 use Rattle.std.proofs.lemmas.List.{append_assoc, append-nil, length-append}
 use Rattle.std.proofs.lemmas.Option.{slice_get-get_or, option_and_then_some}
-use Rattle.store_lines.specs.Lines.{◌>>=◌, Reading, last_of, several, found_at, lined}
-use Rattle.store_lines.specs.Rules.{kept, number_in, head_with, head_in}
-use Rattle.line_words.specs.Words.{two_in}
+use Rattle.dir_store.specs.Lines.{◌>>=◌, LineRead, last_of, several, found_at, lined}
+use Rattle.dir_store.specs.Rules.{kept, number_in, head_with, head_in}
+use Rattle.edi_octets.specs.Words.{two_in}
 use Rattle.dir_store.specs.Spelling.{listed}
 use Rattle.dir_store.specs.Store.{headed}
-use Rattle.store_lines.proofs.LineLemmas.{bind_ok, ok-is, some-is, IsPlain, IsLine, joined-line, found-takes, lined-takes, lined-again, two-takes, two-again}
-use Rattle.store_lines.proofs.NumberLemmas.{decimal-plain, number-takes, number-again}
+use Rattle.dir_store.proofs.LineLemmas.{bind_ok, ok-is, some-is, IsPlain, IsLine, joined-line, found-takes, lined-takes, lined-again, two-takes, two-again}
+use Rattle.dir_store.proofs.NumberLemmas.{decimal-plain, number-takes, number-again}
 
 -- the last member of a list that ends with it
 pub last-pushed : {A : Type 0} (xs : List A) (x : A) → last_of (xs ++ x ∷ []) ≡ Some x
@@ -27,11 +27,11 @@ Each Good before [] = Unit {0}
 Each Good before (x ∷ xs) = Good before x × Each Good (Some x) xs
 
 -- good members are read as they are spelled, and what is read is good
-pub record IsSpelled {A : Type 0} (member : Option A → List ℕ → Reading A) (text : A → List ℕ) (Good : Option A → A → Type 0) : Type 0 where
+pub record IsSpelled {A : Type 0} (member : Option A → List ℕ → LineRead A) (text : A → List ℕ) (Good : Option A → A → Type 0) : Type 0 where
   pub takes : (before : Option A) (octets : List ℕ) (x : A) (rest : List ℕ) → member before octets ≡ Ok (x, rest) → Good before x × (octets ≡ text x ++ rest)
   pub again : (before : Option A) (x : A) (rest : List ℕ) → Good before x → member before (text x ++ rest) ≡ Ok (x, rest)
 
-module _ {A : Type 0} (member : Option A → List ℕ → Reading A) (text : A → List ℕ) (Good : Option A → A → Type 0) (spelled : IsSpelled member text Good) where
+module _ {A : Type 0} (member : Option A → List ℕ → LineRead A) (text : A → List ℕ) (Good : Option A → A → Type 0) (spelled : IsSpelled member text Good) where
   -- so many members were taken from the front
   pub record Takes (n : ℕ) (before : List A) (octets : List ℕ) (all : List A) (rest : List ℕ) : Type 0 where
     pub more : List A
@@ -123,14 +123,14 @@ pub record IsMade {A B : Type 0} (test : List ℕ × ℕ → Bool) (text : A →
   pub made_so : made name members ≡ Some x
   pub parts : octets ≡ listed name text members ++ rest
 
-module _ {A B : Type 0} (test : List ℕ × ℕ → Bool) (member : Option A → List ℕ → Reading A) (text : A → List ℕ) (Good : Option A → A → Type 0) (spelled : IsSpelled member text Good) (made : List ℕ → List A → Option B) where
+module _ {A B : Type 0} (test : List ℕ × ℕ → Bool) (member : Option A → List ℕ → LineRead A) (text : A → List ℕ) (Good : Option A → A → Type 0) (spelled : IsSpelled member text Good) (made : List ℕ → List A → Option B) where
   abbrev rule : List ℕ → Option (List ℕ × ℕ)
   rule line = kept test (head_in line)
 
-  abbrev ends : List ℕ → List ℕ → List A × List ℕ → Reading B
+  abbrev ends : List ℕ → List ℕ → List A × List ℕ → LineRead B
   ends octets name read = found_at octets (made name read.0) read.1
 
-  abbrev after : List ℕ → (List ℕ × ℕ) × List ℕ → Reading B
+  abbrev after : List ℕ → (List ℕ × ℕ) × List ℕ → LineRead B
   after octets head = several head.0.1 member [] head.1 >>= ends octets head.0.0
 
   pub headed-takes : (octets : List ℕ) (x : B) (rest : List ℕ) → headed rule member made octets ≡ Ok (x, rest) → IsMade test text Good made octets x rest
@@ -192,7 +192,7 @@ line-spelled rule line Good takes again = record {
 }
 
 -- a kind of a head and members
-pub headed-spelled : {A B : Type 0} (test : Option B → List ℕ × ℕ → Bool) (member : Option A → List ℕ → Reading A) (text : A → List ℕ) (GoodMember : Option A → A → Type 0) → IsSpelled member text GoodMember
+pub headed-spelled : {A B : Type 0} (test : Option B → List ℕ × ℕ → Bool) (member : Option A → List ℕ → LineRead A) (text : A → List ℕ) (GoodMember : Option A → A → Type 0) → IsSpelled member text GoodMember
     → (made : List ℕ → List A → Option B) (name : B → List ℕ) (members : B → List A) (Good : Option B → B → Type 0)
     → ((before : Option B) (n : List ℕ) (xs : List A) (x : B) → IsListed (test before) GoodMember n xs → made n xs ≡ Some x → Good before x × (n ≡ name x) × (xs ≡ members x))
     → ((before : Option B) (x : B) → Good before x → IsListed (test before) GoodMember (name x) (members x) × IsPlain (name x) × (made (name x) (members x) ≡ Some x))

@@ -12,22 +12,22 @@ use Rattle.edi_tables.specs.Ascending.{IsAscendingBy}
 use Rattle.edi_tables.specs.declared.element.CodeList.{CodeList}
 use Rattle.edi_tables.specs.Forms.{is_label, is_element_formed, is_list_formed, is_composite_formed, is_segment_formed, is_message_formed}
 use Rattle.edi_tables.specs.Tag.{is_tag_octet_of}
-use Rattle.dir_parts.specs.declared.parts.Parts.{Parts}
-use Rattle.dir_parts.specs.Compile.{twice_in, twice_faults, list_fault, composite_fault, segment_fault, message_fault, compile_faults, value_name, element_name, list_name, composite_name, segment_name, message_name}
+use Rattle.dir_compile.specs.declared.parts.Parts.{Parts}
+use Rattle.dir_compile.specs.Compile.{twice_in, twice_faults, list_fault, composite_fault, segment_fault, message_fault, compile_faults, value_name, element_name, list_name, composite_name, segment_name, message_name}
 use Rattle.dir_compile.specs.Directory.{IsDirectory}
-use Rattle.dir_parts.specs.Forms.{HasForms}
-use Rattle.dir_parts.specs.Ordered.{IsInOrder}
-use Rattle.dir_parts.proofs.AscendingLemmas.{IsAscending, apart-from-ascending, pairs-from-ascending}
-use Rattle.dir_parts.proofs.Apart.{none-from-apart}
-use Rattle.line_words.specs.declared.labels.Labels.{Labels}
-use Rattle.store_lines.specs.Lines.{Reading, lined}
-use Rattle.store_lines.specs.Rules.{labels_in}
+use Rattle.dir_compile.specs.Forms.{HasForms}
+use Rattle.dir_compile.specs.Ordered.{IsInOrder}
+use Rattle.dir_compile.proofs.AscendingLemmas.{IsAscending, apart-from-ascending, pairs-from-ascending}
+use Rattle.dir_compile.proofs.Apart.{none-from-apart}
+use Rattle.edi_octets.specs.declared.labels.Labels.{Labels}
+use Rattle.dir_store.specs.Lines.{LineRead, lined}
+use Rattle.dir_store.specs.Rules.{labels_in}
 use Rattle.dir_store.specs.Spelling.{first_line, line_of, listed}
 use Rattle.dir_store.specs.Store.{first_in, section_of, section_at}
-use Rattle.line_words.specs.Labels.{HasLabelForms, labels_of}
-use Rattle.line_words.specs.Words.{three_in}
-use Rattle.store_lines.proofs.LineLemmas.{some-is, and-three, IsPlain, joined-line, lined-takes, lined-again, three-takes, three-again}
-use Rattle.store_lines.proofs.NumberLemmas.{tag-octets-plain}
+use Rattle.edi_octets.specs.Labels.{HasLabelForms, labels_of}
+use Rattle.edi_octets.specs.Words.{three_in}
+use Rattle.dir_store.proofs.LineLemmas.{some-is, and-three, IsPlain, joined-line, lined-takes, lined-again, three-takes, three-again}
+use Rattle.dir_store.proofs.NumberLemmas.{tag-octets-plain}
 use Rattle.dir_store.proofs.SeveralLemmas.{Each, IsSpelled, headed-takes, headed-again}
 use Rattle.dir_store.proofs.KindLemmas.{passed-takes, IsElement}
 use Rattle.dir_store.proofs.EntryLemmas.{all-good, none-good, each-weaker, nil-both, Rises, ascending-each}
@@ -40,7 +40,7 @@ pub record IsSection {A : Type 0} (Good : Option A → A → Type 0) (members : 
   pub few : length members < 10 ^ 19
   pub good : Each Good None members
 
-pub section-takes : {A : Type 0} (letter : List ℕ) (member : Option A → List ℕ → Reading A) (text : A → List ℕ) (Good : Option A → A → Type 0) → IsSpelled member text Good
+pub section-takes : {A : Type 0} (letter : List ℕ) (member : Option A → List ℕ → LineRead A) (text : A → List ℕ) (Good : Option A → A → Type 0) → IsSpelled member text Good
     → (octets : List ℕ) (members : List A) (rest : List ℕ) → section_at letter member octets ≡ Ok (members, rest) → IsSection Good members × (octets ≡ listed letter text members ++ rest)
 unfolding section_at
 section-takes letter member text Good spelled octets members rest is =
@@ -54,7 +54,7 @@ section-takes letter member text Good spelled octets members rest is =
       read.parts ∙ ap (λ (n : List ℕ). listed n text read.members ++ rest) named ∙ ap (λ xs. listed letter text xs ++ rest) same,
     )
 
-pub section-again : {A : Type 0} (letter : List ℕ) (member : Option A → List ℕ → Reading A) (text : A → List ℕ) (Good : Option A → A → Type 0) → IsSpelled member text Good
+pub section-again : {A : Type 0} (letter : List ℕ) (member : Option A → List ℕ → LineRead A) (text : A → List ℕ) (Good : Option A → A → Type 0) → IsSpelled member text Good
     → (members : List A) (rest : List ℕ) → IsPlain letter → IsSection Good members → section_at letter member (listed letter text members ++ rest) ≡ Ok (members, rest)
 unfolding section_at
 section-again letter member text Good spelled members rest plain good =

@@ -13,15 +13,15 @@ use Rattle.edi_tables.specs.declared.element.CompositeDef.{CompositeDef}
 use Rattle.edi_tables.specs.declared.segment.SegmentDef.{SegmentDef}
 use Rattle.edi_tables.specs.declared.segment.MessageDef.{MessageDef}
 use Rattle.edi_tables.specs.Forms.{is_element_formed, is_list_formed, is_composite_formed, is_segment_formed, is_message_formed}
-use Rattle.dir_parts.specs.declared.parts.Parts.{Parts}
-use Rattle.dir_parts.specs.Compile.{twice_faults, list_fault, list_faults, composite_fault, composite_faults, segment_fault, segment_faults, message_fault, message_faults, compile_faults, value_name, element_name, list_name, composite_name, segment_name, message_name}
+use Rattle.dir_compile.specs.declared.parts.Parts.{Parts}
+use Rattle.dir_compile.specs.Compile.{twice_faults, list_fault, list_faults, composite_fault, composite_faults, segment_fault, segment_faults, message_fault, message_faults, compile_faults, value_name, element_name, list_name, composite_name, segment_name, message_name}
 use Rattle.dir_compile.specs.Directory.{IsDirectory}
-use Rattle.line_words.specs.declared.labels.Labels.{Labels}
-use Rattle.store_lines.specs.Lines.{◌>>=◌, lined}
-use Rattle.store_lines.specs.Rules.{labels_in}
+use Rattle.edi_octets.specs.declared.labels.Labels.{Labels}
+use Rattle.dir_store.specs.Lines.{◌>>=◌, lined}
+use Rattle.dir_store.specs.Rules.{labels_in}
 use Rattle.dir_store.specs.Spelling.{first_line, line_of, listed, repr_text, part_text, item_text, row_text, element_text, value_text, list_text, composite_text, segment_text, message_text, labels_text, store_text}
 use Rattle.dir_store.specs.Store.{first_in, section_at, element_at, list_at, composite_at, segment_at, message_at, ended, definitions_at, parts_at, store_of}
-use Rattle.store_lines.proofs.LineLemmas.{ok-is, bind_ok}
+use Rattle.dir_store.proofs.LineLemmas.{ok-is, bind_ok}
 use Rattle.dir_store.proofs.SeveralLemmas.{Each}
 use Rattle.dir_store.proofs.KindLemmas.{IsElement, element-spelled}
 use Rattle.dir_store.proofs.EntryLemmas.{all-good, each-both, each-passes, each-faultless, each-weaker, nil-left, nil-right, Rises, rises-each}

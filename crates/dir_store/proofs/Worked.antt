@@ -7,7 +7,7 @@ use Rattle.edi_tables.specs.declared.element.ElementDef.{ElementDef}
 use Rattle.edi_tables.specs.Rows.{table_faults}
 use Rattle.edi_octets.specs.Profile.{repr_in}
 use Rattle.service_tables.specs.ServiceTables.{service_items_of}
-use Rattle.dir_parts.specs.declared.parts.Parts.{Parts}
+use Rattle.dir_compile.specs.declared.parts.Parts.{Parts}
 use Rattle.dir_store.specs.Spelling.{store_text}
 use Rattle.dir_store.specs.Store.{section_at, element_at, message_at, row_at, definitions_at, parts_at, store_of}
 

@@ -1,6 +1,7 @@
 -- The one spelling of a directory.
-use Rattle.std.specs.Prelude.{ℕ, ◌<◌, ◌^◌, Bool, true, false, List, [], ◌∷◌, ◌++◌, length, Option, Some, None, codes, decimal}
+use Rattle.std.specs.Prelude.{◌<◌, ◌^◌, Bool, true, false, List, [], ◌∷◌, ◌++◌, length, Option, Some, None, codes, decimal}
 use Rattle.std.specs.List.{flat_map, join_with_byte}
+use Rattle.edi_tables.specs.Octets.{Octets}
 use Rattle.edi_tables.specs.declared.tag.Tag.{Tag}
 use Rattle.edi_tables.specs.declared.element.Class.{Class}
 use Rattle.edi_tables.specs.declared.element.Class.TheVariants.{A, N, An}
@@ -15,84 +16,84 @@ use Rattle.edi_tables.specs.declared.segment.SegmentDef.{SegmentDef}
 use Rattle.edi_tables.specs.declared.segment.TableRow.{TableRow}
 use Rattle.edi_tables.specs.declared.segment.MessageDef.{MessageDef}
 use Rattle.edi_octets.specs.Profile.{status_text}
-use Rattle.dir_parts.specs.declared.parts.Parts.{Parts}
+use Rattle.dir_compile.specs.declared.parts.Parts.{Parts}
 
 -- a line: words separated by one space, and LF
-abbrev pub line_of : List (List ℕ) → List ℕ
+abbrev pub line_of : List Octets → Octets
 line_of words = join_with_byte 32 words ++ 10 ∷ []
 
 -- a list under a name: a line of the name and how many members there are, and then the members
-abbrev pub listed : {A : Type 0} → List ℕ → (A → List ℕ) → List A → List ℕ
+abbrev pub listed : {A : Type 0} → Octets → (A → Octets) → List A → Octets
 listed name text members = line_of (name ∷ decimal (length members) ∷ []) ++ flat_map text members
 
 -- a class: letters, digits, or both
-abbrev pub class_text : Class → List ℕ
+abbrev pub class_text : Class → Octets
 class_text A = codes "a"
 class_text N = codes "n"
 class_text An = codes "an"
 
 -- `..` before a length that is the greatest, and none before an exact one
-abbrev pub dots_text : Bool → List ℕ
+abbrev pub dots_text : Bool → Octets
 dots_text true = []
 dots_text false = codes ".."
 
 -- a representation, as `an..35`
-abbrev pub repr_text : Repr → List ℕ
+abbrev pub repr_text : Repr → Octets
 repr_text repr = class_text repr.class ++ dots_text repr.exact ++ decimal repr.max
 
 -- a data element: its code and its representation
-abbrev pub element_text : ElementDef → List ℕ
+abbrev pub element_text : ElementDef → Octets
 element_text element = line_of (element.code.octets ∷ repr_text element.repr ∷ [])
 
 -- a code of a list
-abbrev pub value_text : List ℕ → List ℕ
+abbrev pub value_text : Octets → Octets
 value_text value = line_of (value ∷ [])
 
 -- a code list: its element, and its codes
-abbrev pub list_text : CodeList → List ℕ
+abbrev pub list_text : CodeList → Octets
 list_text list = listed list.element.octets value_text list.values
 
 -- a data element or a composite where it is used: its code and its status
-abbrev pub used_text : List ℕ → Bool → List ℕ
+abbrev pub used_text : Octets → Bool → Octets
 used_text code must = line_of (code ∷ status_text must ∷ [])
 
 -- a component of a composite; its representation is that of its element
-abbrev pub part_text : PartDef → List ℕ
+abbrev pub part_text : PartDef → Octets
 part_text part = used_text part.code.octets part.must
 
-abbrev pub composite_text : CompositeDef → List ℕ
+abbrev pub composite_text : CompositeDef → Octets
 composite_text composite = listed composite.code.octets part_text composite.parts
 
 -- an item of a segment
-abbrev pub item_text : ItemDef → List ℕ
+abbrev pub item_text : ItemDef → Octets
 item_text (Alone part) = part_text part
 item_text (Composite code must) = used_text code.octets must
 
-abbrev pub segment_text : SegmentDef → List ℕ
+abbrev pub segment_text : SegmentDef → Octets
 segment_text segment = listed segment.tag.octets item_text segment.items
 
 -- what a row is called: its tag, or `-` for a group
-abbrev pub row_name : Option Tag → List ℕ
+abbrev pub row_name : Option Tag → Octets
 row_name None = codes "-"
 row_name (Some tag) = tag.octets
 
 -- a row of a segment table: its depth, what it is called, its status and its greatest count
-abbrev pub row_text : TableRow → List ℕ
+abbrev pub row_text : TableRow → Octets
 row_text row = line_of (decimal row.depth ∷ row_name row.tag ∷ status_text row.must ∷ decimal row.max ∷ [])
 
-abbrev pub message_text : MessageDef → List ℕ
+abbrev pub message_text : MessageDef → Octets
 message_text message = listed message.name row_text message.rows
 
 -- the first line, which says that these octets are a store, and of which version
-abbrev pub first_line : List ℕ
+abbrev pub first_line : Octets
 first_line = codes "EDIDIR1"
 
 -- the labels of a directory: version, release and agency
-abbrev pub labels_text : Parts → List ℕ
+abbrev pub labels_text : Parts → Octets
 labels_text parts = line_of (parts.version ∷ parts.release ∷ parts.agency ∷ [])
 
 -- the spelling of a directory: its first line, its labels, and its definitions, kind by kind, but no table of CONTRL
-unfoldable pub store_text : Parts → List ℕ
+unfoldable pub store_text : Parts → Octets
 store_text parts =
     line_of (first_line ∷ []) ++ labels_text parts
     ++ listed (codes "E") element_text parts.elements ++ listed (codes "L") list_text parts.lists
@@ -100,5 +101,5 @@ store_text parts =
     ++ listed (codes "T") message_text parts.messages
 
 -- a text each of whose counts has at most 19 digits: no text in memory is longer
-abbrev pub IsCountable : List ℕ → Type 0
+abbrev pub IsCountable : Octets → Type 0
 IsCountable text = length text < 10 ^ 19

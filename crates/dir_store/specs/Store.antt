@@ -2,6 +2,7 @@
 use Rattle.std.specs.Prelude.{◌-◌, ℕ, List, [], length, Option, Some, None, Result, Ok, Err, codes, if◌then◌else◌}
 use Rattle.std.specs.Result.{result_map_both}
 use Rattle.std.specs.Str.{bytes_eq}
+use Rattle.edi_tables.specs.Octets.{Octets}
 use Rattle.edi_tables.specs.declared.element.ElementDef.{ElementDef}
 use Rattle.edi_tables.specs.declared.element.CodeList.{CodeList}
 use Rattle.edi_tables.specs.declared.element.CompositeDef.{CompositeDef}
@@ -11,85 +12,85 @@ use Rattle.edi_tables.specs.declared.segment.SegmentDef.{SegmentDef}
 use Rattle.edi_tables.specs.declared.segment.TableRow.{TableRow}
 use Rattle.edi_tables.specs.declared.segment.MessageDef.{MessageDef}
 use Rattle.edi_tables.specs.Rows.{table_faults}
-use Rattle.dir_parts.specs.declared.parts.Parts.{Parts}
+use Rattle.dir_compile.specs.declared.parts.Parts.{Parts}
 use Rattle.edi_tables.specs.Filled.{is_filled}
 use Rattle.dir_store.specs.Spelling.{first_line}
-use Rattle.line_words.specs.declared.labels.Labels.{Labels}
-use Rattle.store_lines.specs.Lines.{◌>>=◌, Reading, found_at, lined, several}
-use Rattle.store_lines.specs.Rules.{labels_in, section_in, element_in, list_in, value_in, composite_in, part_in, segment_in, item_in, message_in, row_in}
+use Rattle.edi_octets.specs.declared.labels.Labels.{Labels}
+use Rattle.dir_store.specs.Lines.{◌>>=◌, LineRead, found_at, lined, several}
+use Rattle.dir_store.specs.Rules.{labels_in, section_in, element_in, list_in, value_in, composite_in, part_in, segment_in, item_in, message_in, row_in}
 
 -- the first line is `EDIDIR1`
-abbrev pub first_in : List ℕ → Option (Unit {0})
+abbrev pub first_in : Octets → Option (Unit {0})
 first_in line = if bytes_eq line first_line then Some tt else None
 
 -- what a head that keeps a rule and the members after it make; where they make nothing, the fault is at the head
 abbrev pub headed : {A B : Type 0}
-    → (List ℕ → Option (List ℕ × ℕ)) → (Option A → List ℕ → Reading A) → (List ℕ → List A → Option B)
-    → List ℕ → Reading B
+    → (Octets → Option (Octets × ℕ)) → (Option A → Octets → LineRead A) → (Octets → List A → Option B)
+    → Octets → LineRead B
 headed rule member made octets =
     lined rule octets >>= λ head. several head.0.1 member [] head.1
     >>= λ members. found_at octets (made head.0.0 members.0) members.1
 
 -- data elements
-unfoldable pub element_at : Option ElementDef → List ℕ → Reading ElementDef
+unfoldable pub element_at : Option ElementDef → Octets → LineRead ElementDef
 element_at before octets = lined (element_in before) octets
 
 -- code lists
-unfoldable pub value_at : Option (List ℕ) → List ℕ → Reading (List ℕ)
+unfoldable pub value_at : Option Octets → Octets → LineRead Octets
 value_at before octets = lined (value_in before) octets
 
-abbrev pub list_of : List ℕ → List (List ℕ) → Option CodeList
+abbrev pub list_of : Octets → List Octets → Option CodeList
 list_of name values = Some (record { element = record { octets = name }; values = values })
 
-unfoldable pub list_at : List ElementDef → Option CodeList → List ℕ → Reading CodeList
+unfoldable pub list_at : List ElementDef → Option CodeList → Octets → LineRead CodeList
 list_at elements before octets = headed (list_in elements before) value_at list_of octets
 
 -- composites
-unfoldable pub part_at : List ElementDef → Option PartDef → List ℕ → Reading PartDef
+unfoldable pub part_at : List ElementDef → Option PartDef → Octets → LineRead PartDef
 part_at elements before octets = lined (part_in elements) octets
 
-abbrev pub composite_of : List ℕ → List PartDef → Option CompositeDef
+abbrev pub composite_of : Octets → List PartDef → Option CompositeDef
 composite_of name parts = Some (record { code = record { octets = name }; parts = parts })
 
-unfoldable pub composite_at : List ElementDef → Option CompositeDef → List ℕ → Reading CompositeDef
+unfoldable pub composite_at : List ElementDef → Option CompositeDef → Octets → LineRead CompositeDef
 composite_at elements before octets = headed (composite_in before) (part_at elements) composite_of octets
 
 -- segments
-unfoldable pub item_at : List ElementDef → List CompositeDef → Option ItemDef → List ℕ → Reading ItemDef
+unfoldable pub item_at : List ElementDef → List CompositeDef → Option ItemDef → Octets → LineRead ItemDef
 item_at elements composites before octets = lined (item_in elements composites) octets
 
-abbrev pub segment_of : List ℕ → List ItemDef → Option SegmentDef
+abbrev pub segment_of : Octets → List ItemDef → Option SegmentDef
 segment_of name items = Some (record { tag = record { octets = name }; items = items })
 
-unfoldable pub segment_at : List ElementDef → List CompositeDef → Option SegmentDef → List ℕ → Reading SegmentDef
+unfoldable pub segment_at : List ElementDef → List CompositeDef → Option SegmentDef → Octets → LineRead SegmentDef
 segment_at elements composites before octets =
     headed (segment_in before) (item_at elements composites) segment_of octets
 
 -- messages
-unfoldable pub row_at : List SegmentDef → Option TableRow → List ℕ → Reading TableRow
+unfoldable pub row_at : List SegmentDef → Option TableRow → Octets → LineRead TableRow
 row_at segments before octets = lined (row_in segments) octets
 
 -- the rows of a message are a segment table: it is judged after its last row, and its fault is at the name's line
-abbrev pub message_of : List ℕ → List TableRow → Option MessageDef
+abbrev pub message_of : Octets → List TableRow → Option MessageDef
 message_of name rows = if is_filled (table_faults rows) then None else Some (record { name = name; rows = rows })
 
-unfoldable pub message_at : List SegmentDef → Option MessageDef → List ℕ → Reading MessageDef
+unfoldable pub message_at : List SegmentDef → Option MessageDef → Octets → LineRead MessageDef
 message_at segments before octets = headed (message_in before) (row_at segments) message_of octets
 
 -- the definitions of a kind, in a section of its letter
-abbrev pub section_of : {A : Type 0} → List ℕ → List A → Option (List A)
+abbrev pub section_of : {A : Type 0} → Octets → List A → Option (List A)
 section_of letter members = Some members
 
-unfoldable pub section_at : {A : Type 0} → List ℕ → (Option A → List ℕ → Reading A) → List ℕ → Reading (List A)
+unfoldable pub section_at : {A : Type 0} → Octets → (Option A → Octets → LineRead A) → Octets → LineRead (List A)
 section_at letter member octets = headed (section_in letter) member section_of octets
 
 -- nothing follows
-abbrev pub ended : List ℕ → Result (Unit {0}) ℕ
+abbrev pub ended : Octets → Result (Unit {0}) ℕ
 ended [] = Ok tt
 ended octets = Err (length octets)
 
 -- the sections of a store in order, after its labels
-unfoldable pub definitions_at : Labels → List ℕ → Result Parts ℕ
+unfoldable pub definitions_at : Labels → Octets → Result Parts ℕ
 definitions_at labels octets = do
   elements ← section_at (codes "E") element_at octets
   lists ← section_at (codes "L") (list_at elements.0) elements.1
@@ -109,7 +110,7 @@ definitions_at labels octets = do
   })
 
 -- the lines of a store in order
-unfoldable pub parts_at : List ℕ → Result Parts ℕ
+unfoldable pub parts_at : Octets → Result Parts ℕ
 parts_at octets = do
   first ← lined first_in octets
   labels ← lined labels_in first.1
@@ -117,5 +118,5 @@ parts_at octets = do
 
 -- octets give a directory, or the place of the first line that breaks a rule: of the first octet after the last line
 -- where some follow it, and of the octets' end where they end before LF ends the last line
-unfoldable pub store_of : List ℕ → Result Parts ℕ
+unfoldable pub store_of : Octets → Result Parts ℕ
 store_of octets = result_map_both (λ parts. parts) (λ left. length octets - left) (parts_at octets)

@@ -3,15 +3,16 @@ ghost use Rattle.std.specs.Prelude.{◌≡◌, ◌++◌, OnOk};
 ghost use Rattle.dir_store.specs.Spelling.{element_text, list_text, value_text, part_text, composite_text, used_text, repr_text, class_text};
 ghost use Rattle.dir_store.specs.Store.{element_at, list_at, value_at, part_at, composite_at};
 
+use crate::definition_line::{composite_on, element_on, is_code_value, list_on, part_on};
+use crate::earlier::EarlierDefinitions;
 use crate::entry::{Entry, put_listed, read_several};
+use crate::line::{comes_after, read_line};
+use crate::line_stop::Stop;
 use edi_octets::{put_decimal, put_status};
 use edi_tables::{
     Chunk, Class, Code, CodeList, CompositeDef, ElementDef, List as Members, PartDef, Repr,
 };
 use std::alloc::{AllocError, Global};
-use store_lines::{
-    Known, Stop, comes_after, composite_on, element_on, is_code_value, list_on, part_on, read_line,
-};
 
 impl Entry for ElementDef {
     ghost text = { element_text };
@@ -21,7 +22,7 @@ impl Entry for ElementDef {
     #[tactic(auto, unfolding(crate::specs::Store::element_at))]
     fn read<'o>(
         _: Global,
-        _: &Known<'_>,
+        _: &EarlierDefinitions<'_>,
         before: Option<&ElementDef>,
         octets: &'o [u8],
     ) -> Result<(ElementDef, &'o [u8]), Stop> {
@@ -66,7 +67,7 @@ impl Entry for CodeList {
     #[tactic(auto, unfolding(crate::specs::Store::list_at))]
     fn read<'o>(
         alloc: Global,
-        known: &Known<'_>,
+        known: &EarlierDefinitions<'_>,
         before: Option<&CodeList>,
         octets: &'o [u8],
     ) -> Result<(CodeList, &'o [u8]), Stop> {
@@ -90,7 +91,7 @@ impl Entry for Chunk {
     #[tactic(auto, unfolding(crate::specs::Store::value_at))]
     fn read<'o>(
         alloc: Global,
-        _: &Known<'_>,
+        _: &EarlierDefinitions<'_>,
         before: Option<&Chunk>,
         octets: &'o [u8],
     ) -> Result<(Chunk, &'o [u8]), Stop> {
@@ -115,7 +116,7 @@ impl Entry for CompositeDef {
     #[tactic(auto, unfolding(crate::specs::Store::composite_at))]
     fn read<'o>(
         alloc: Global,
-        known: &Known<'_>,
+        known: &EarlierDefinitions<'_>,
         before: Option<&CompositeDef>,
         octets: &'o [u8],
     ) -> Result<(CompositeDef, &'o [u8]), Stop> {
@@ -139,7 +140,7 @@ impl Entry for PartDef {
     #[tactic(auto, unfolding(crate::specs::Store::part_at))]
     fn read<'o>(
         _: Global,
-        known: &Known<'_>,
+        known: &EarlierDefinitions<'_>,
         _: Option<&PartDef>,
         octets: &'o [u8],
     ) -> Result<(PartDef, &'o [u8]), Stop> {

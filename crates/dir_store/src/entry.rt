@@ -2,33 +2,35 @@
 ghost use Rattle.std.specs.Prelude.{◌≡◌, ◌++◌, List, ℕ, Option, Result, [], OnOk};
 ghost use Rattle.std.specs.List.{flat_map};
 ghost use Rattle.std.specs.Option.{option_copied};
-ghost use Rattle.edi_tables.specs.First.{Answers};
+ghost use Rattle.edi_tables.specs.First.{IsVerdict};
 ghost use Rattle.dir_store.specs.Spelling.{listed};
 ghost use Rattle.dir_store.specs.Store.{section_at};
-ghost use Rattle.store_lines.specs.Lines.{several};
-ghost use Rattle.store_lines.specs.Stop.{left_in};
+ghost use Rattle.dir_store.specs.Lines.{several};
+ghost use Rattle.dir_store.specs.LineStop.{left_in};
 
+use crate::earlier::EarlierDefinitions;
+use crate::line::{read_line, section_on};
+use crate::line_stop::Stop;
 use edi_octets::put_decimal;
 use edi_tables::Chunk;
 use std::alloc::{AllocError, Global};
-use store_lines::{Known, Stop, read_line, section_on};
 
 /// A member of one of a store's lists: it has a line, or a line and a list of its own.
 pub trait Entry: Sized + Drop {
-    ghost use Rattle.store_lines.specs.declared.known.Known.{Known};
+    ghost use Rattle.dir_store.specs.declared.earlier.EarlierDefinitions.{EarlierDefinitions};
 
     ghost text: { Self → List ℕ };
 
-    ghost read_at: { Known → Option Self → List ℕ → Result (Self × List ℕ) ℕ };
+    ghost read_at: { EarlierDefinitions → Option Self → List ℕ → Result (Self × List ℕ) ℕ };
 
     /// Reads a member and gives the octets after it. It comes after the one before, if there is one.
     fn read<'o>(
         alloc: Global,
-        known: &Known<'_>,
+        known: &EarlierDefinitions<'_>,
         before: Option<&Self>,
         octets: &'o [u8],
     ) -> Result<(Self, &'o [u8]), Stop>
-        ensures { Answers (λ x. (x.0, x.1.now)) left_in result
+        ensures { IsVerdict (λ x. (x.0, x.1.now)) left_in result
             (read_at known.now (option_copied before.entry) octets.now) };
 
     /// Puts the lines of a member at the end.
@@ -39,11 +41,11 @@ pub trait Entry: Sized + Drop {
 /// Reads so many members, and gives the octets after them.
 pub fn read_several<'o, T: Entry>(
     alloc: Global,
-    known: &Known<'_>,
+    known: &EarlierDefinitions<'_>,
     count: u64,
     octets: &'o [u8],
 ) -> Result<(Vec<T>, &'o [u8]), Stop>
-    ensures { Answers (λ x. (x.0.items, x.1.now)) left_in result
+    ensures { IsVerdict (λ x. (x.0.items, x.1.now)) left_in result
         (several count (T.read_at known.now) [] octets.now) }
 {
     let mut members = Vec::new(alloc);
@@ -60,11 +62,11 @@ pub fn read_several<'o, T: Entry>(
 #[tactic(auto, unfolding(crate::specs::Store::section_at))]
 pub fn read_section<'o, T: Entry>(
     alloc: Global,
-    known: &Known<'_>,
+    known: &EarlierDefinitions<'_>,
     letter: &[u8],
     octets: &'o [u8],
 ) -> Result<(Vec<T>, &'o [u8]), Stop>
-    ensures { Answers (λ x. (x.0.items, x.1.now)) left_in result
+    ensures { IsVerdict (λ x. (x.0.items, x.1.now)) left_in result
         (section_at letter.now (T.read_at known.now) octets.now) }
 {
     let (line, rest) = read_line(octets)?;

@@ -1,9 +1,15 @@
 //! Directories in one file: a store, which spells a directory in one way.
 #![tactic(auto)]
 
+mod definition_line;
 mod definitions;
+mod earlier;
 mod entry;
+mod label_line;
+mod line;
+mod line_stop;
 mod reading;
+mod segment_line;
 mod segments;
 mod stop;
 mod writing;

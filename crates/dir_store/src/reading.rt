@@ -1,32 +1,37 @@
 //! A directory from its store.
 ghost use Rattle.std.specs.Prelude.{◌≡◌, ◌≤◌, IfOk, length};
-ghost use Rattle.edi_tables.specs.First.{Answers};
-ghost use Rattle.dir_parts.specs.declared.parts.Parts.{Parts};
+ghost use Rattle.edi_tables.specs.First.{IsVerdict};
+ghost use Rattle.dir_compile.specs.declared.parts.Parts.{Parts};
 ghost use Rattle.dir_compile.specs.Directory.{IsDirectory};
 ghost use Rattle.dir_store.specs.Spelling.{store_text};
 ghost use Rattle.dir_store.specs.Stop.{fault_in};
 ghost use Rattle.dir_store.specs.Store.{definitions_at, ended, first_in, parts_at, store_of};
-ghost use Rattle.store_lines.specs.Lines.{lined};
-ghost use Rattle.store_lines.specs.Rules.{labels_in};
-ghost use Rattle.store_lines.specs.Stop.{left_in};
+ghost use Rattle.dir_store.specs.Lines.{lined};
+ghost use Rattle.dir_store.specs.Rules.{labels_in};
+ghost use Rattle.dir_store.specs.LineStop.{left_in};
+ghost use Rattle.edi_octets.specs.declared.octets.TheConstants.{LONGEST_TEXT};
 
+use crate::earlier::EarlierDefinitions;
 use crate::entry::read_section;
+use crate::label_line::read_labels;
+use crate::line::read_line;
+use crate::line_stop::Stop;
 use crate::stop::StoreStop;
 use dir_compile::{Directory, Parts, compile};
+use edi_octets::Labels;
 use edi_tables::{CompositeDef, ElementDef, List, SegmentDef};
 use std::alloc::Global;
-use store_lines::{Known, Labels, Stop, read_labels, read_line};
 
 /// The directory that a store of at most 4,194,304 octets spells; else the place of its first fault.
 pub fn read_store(alloc: Global, file: &[u8]) -> Result<Directory, StoreStop>
-    requires { length file.now ≤ 4194304 }
+    requires { length file.now ≤ LONGEST_TEXT }
     // What is read is spelled so.
     ensures spelled { IfOk result (λ directory. file.now ≡ store_text directory) }
     // What is spelled so is read, unless memory runs out.
     ensures again { (parts : Parts) → IsDirectory parts → file.now ≡ store_text parts
-        → Answers (λ directory. directory) fault_in result (Ok parts) }
+        → IsVerdict (λ directory. directory) fault_in result (Ok parts) }
     // Which fault it is.
-    ensures answers { Answers (λ directory. directory) fault_in result (store_of file.now) }
+    ensures answers { IsVerdict (λ directory. directory) fault_in result (store_of file.now) }
 {
     let parts = match read_parts(alloc, file) {
         Ok(parts) => parts,
@@ -41,7 +46,7 @@ pub fn read_store(alloc: Global, file: &[u8]) -> Result<Directory, StoreStop>
 // The parts that a store spells.
 #[tactic(auto, unfolding(crate::specs::Store::parts_at))]
 fn read_parts(alloc: Global, octets: &[u8]) -> Result<Parts, Stop>
-    ensures { Answers (λ parts. parts) left_in result (parts_at octets.now) }
+    ensures { IsVerdict (λ parts. parts) left_in result (parts_at octets.now) }
 {
     let rest = read_first(octets)?;
     let (labels, rest) = read_second(alloc, rest)?;
@@ -51,9 +56,9 @@ fn read_parts(alloc: Global, octets: &[u8]) -> Result<Parts, Stop>
 // The definitions of the sections, with these labels.
 #[tactic(auto, unfolding(crate::specs::Store::definitions_at))]
 fn read_definitions(alloc: Global, labels: Labels, octets: &[u8]) -> Result<Parts, Stop>
-    ensures { Answers (λ parts. parts) left_in result (definitions_at labels octets.now) }
+    ensures { IsVerdict (λ parts. parts) left_in result (definitions_at labels octets.now) }
 {
-    let mut known = Known {
+    let mut known = EarlierDefinitions {
         elements: &[],
         composites: &[],
         segments: &[],
@@ -81,7 +86,7 @@ fn read_definitions(alloc: Global, labels: Labels, octets: &[u8]) -> Result<Part
 
 // The octets after the first line.
 fn read_first(octets: &[u8]) -> Result<&[u8], Stop>
-    ensures { Answers (λ rest. (tt, rest.now)) left_in result (lined first_in octets.now) }
+    ensures { IsVerdict (λ rest. (tt, rest.now)) left_in result (lined first_in octets.now) }
 {
     let (line, rest) = read_line(octets)?;
     if line == b"EDIDIR1".as_slice() {
@@ -93,7 +98,7 @@ fn read_first(octets: &[u8]) -> Result<&[u8], Stop>
 
 // The labels on the second line, and the octets after it.
 fn read_second(alloc: Global, octets: &[u8]) -> Result<(Labels, &[u8]), Stop>
-    ensures { Answers (λ x. (x.0, x.1.now)) left_in result (lined labels_in octets.now) }
+    ensures { IsVerdict (λ x. (x.0, x.1.now)) left_in result (lined labels_in octets.now) }
 {
     let (line, rest) = read_line(octets)?;
     match read_labels(alloc, line)? {
@@ -104,7 +109,7 @@ fn read_second(alloc: Global, octets: &[u8]) -> Result<(Labels, &[u8]), Stop>
 
 // Finds that nothing follows.
 fn read_end(octets: &[u8]) -> Result<(), Stop>
-    ensures { Answers (λ end. end) left_in result (ended octets.now) }
+    ensures { IsVerdict (λ end. end) left_in result (ended octets.now) }
 {
     if octets.is_empty() {
         Ok(())

@@ -4,11 +4,14 @@ ghost use Rattle.dir_store.specs.Spelling.{segment_text, item_text, row_text, ro
 ghost use Rattle.dir_store.specs.Store.{segment_at, item_at, row_at, message_at};
 
 use crate::definitions::put_used;
+use crate::earlier::EarlierDefinitions;
 use crate::entry::{Entry, put_listed, read_several};
+use crate::line::read_line;
+use crate::line_stop::Stop;
+use crate::segment_line::{item_on, message_on, row_on, segment_on};
 use edi_octets::{put_decimal, put_status};
 use edi_tables::{Chunk, ItemDef, List as Members, MessageDef, SegmentDef, Table, TableRow, Tag};
 use std::alloc::{AllocError, Global};
-use store_lines::{Known, Stop, item_on, message_on, read_line, row_on, segment_on};
 
 impl Entry for SegmentDef {
     ghost text = { segment_text };
@@ -18,7 +21,7 @@ impl Entry for SegmentDef {
     #[tactic(auto, unfolding(crate::specs::Store::segment_at))]
     fn read<'o>(
         alloc: Global,
-        known: &Known<'_>,
+        known: &EarlierDefinitions<'_>,
         before: Option<&SegmentDef>,
         octets: &'o [u8],
     ) -> Result<(SegmentDef, &'o [u8]), Stop> {
@@ -42,7 +45,7 @@ impl Entry for ItemDef {
     #[tactic(auto, unfolding(crate::specs::Store::item_at))]
     fn read<'o>(
         _: Global,
-        known: &Known<'_>,
+        known: &EarlierDefinitions<'_>,
         _: Option<&ItemDef>,
         octets: &'o [u8],
     ) -> Result<(ItemDef, &'o [u8]), Stop> {
@@ -67,7 +70,7 @@ impl Entry for MessageDef {
     #[tactic(auto, unfolding(crate::specs::Store::message_at))]
     fn read<'o>(
         alloc: Global,
-        known: &Known<'_>,
+        known: &EarlierDefinitions<'_>,
         before: Option<&MessageDef>,
         octets: &'o [u8],
     ) -> Result<(MessageDef, &'o [u8]), Stop> {
@@ -95,7 +98,7 @@ impl Entry for TableRow {
     #[tactic(auto, unfolding(crate::specs::Store::row_at))]
     fn read<'o>(
         _: Global,
-        known: &Known<'_>,
+        known: &EarlierDefinitions<'_>,
         _: Option<&TableRow>,
         octets: &'o [u8],
     ) -> Result<(TableRow, &'o [u8]), Stop> {

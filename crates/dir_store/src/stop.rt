@@ -1,7 +1,7 @@
 //! Why octets are no store.
 ghost use Rattle.std.specs.Prelude.{◌≡◌};
 
-use store_lines::Stop;
+use crate::line_stop::Stop;
 use thiserror::Error;
 
 /// Why octets give no directory: the place of the first fault, or no memory.
@@ -19,7 +19,7 @@ impl StoreStop {
     ghost use Rattle.std.specs.Prelude.{ℕ, ◌-◌};
     ghost use Rattle.std.specs.Option.{option_map};
     ghost use Rattle.dir_store.specs.Stop.{fault_in};
-    ghost use Rattle.store_lines.specs.Stop.{left_in};
+    ghost use Rattle.dir_store.specs.LineStop.{left_in};
 
     /// The stop of a store of so many octets, by one inside it.
     pub(crate) fn of(length: usize, stop: Stop) -> StoreStop

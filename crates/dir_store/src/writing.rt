@@ -1,6 +1,6 @@
 //! The store of a directory.
 ghost use Rattle.std.specs.Prelude.{◌≡◌, ◌++◌, IfOk, OnOk, Ok};
-ghost use Rattle.dir_parts.specs.declared.parts.Parts.{Parts};
+ghost use Rattle.dir_compile.specs.declared.parts.Parts.{Parts};
 ghost use Rattle.dir_compile.specs.Directory.{IsDirectory};
 ghost use Rattle.dir_store.specs.Spelling.{IsCountable, labels_text, store_text};
 ghost use Rattle.dir_store.specs.Store.{store_of};

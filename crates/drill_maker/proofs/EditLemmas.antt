@@ -1,6 +1,6 @@
 -- The numbers that the places of edits come from, and what a pair of edits puts and cuts.
 use Rattle.std.proofs.Common.{◌≡◌, ◌+◌, ◌-◌, ◌/◌, ◌%◌, ◌≤◌, ◌⊎◌, ◌==◌, ℕ, true, false, if◌then◌else◌, [], length, codes, refl, sym, ap, ◌∙◌, ⊎_elim, arith, add-one}
-use Rattle.drill_maker.specs.Edit.{cut_of, number_after, number_at, octets_of_pair, place_of, put_of}
+use Rattle.drill_maker.specs.Edit.{cut_of, number_after, number_at, octets_of_pair, edit_place_of, put_of}
 
 pub number_first : (x : ℕ) → x ≡ number_at x 0
 unfolding number_at
@@ -45,5 +45,5 @@ pub cut_few : (j : ℕ) → cut_of j ≤ 9
 cut_few j = elim (j % 2 == 0) as (λ b. (if b then 0 else length (octets_of_pair (j / 2))) ≤ 9) [ true ↦ omega arith | false ↦ pair_few (j / 2) ]
 
 -- it is inside a text that has what it cuts
-pub place_within : (j x long : ℕ) → cut_of j ≤ long → place_of j x long + cut_of j ≤ long
+pub place_within : (j x long : ℕ) → cut_of j ≤ long → edit_place_of j x long + cut_of j ≤ long
 place_within j x long room = inside (number_at x (j / 2 + 1)) long (cut_of j) room

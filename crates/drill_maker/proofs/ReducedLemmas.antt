@@ -1,9 +1,9 @@
 -- The reduced directory, judged.
 use Rattle.std.proofs.Common.{◌≡◌, [], Ok, refl, ap, ◌∙◌}
-use Rattle.dir_parts.specs.declared.parts.Parts.{Parts}
-use Rattle.dir_parts.specs.Compile.{compile_faults}
+use Rattle.dir_compile.specs.declared.parts.Parts.{Parts}
+use Rattle.dir_compile.specs.Compile.{compile_faults}
 use Rattle.dir_compile.specs.Directory.{directory_of}
-use Rattle.dir_parts.specs.InOrder.{ordered_parts}
+use Rattle.dir_compile.specs.InOrder.{ordered_parts}
 use Rattle.edi_tables.specs.Rows.{table_faults}
 use Rattle.service_tables.specs.ServiceTables.{service_items_of}
 use Rattle.drill_maker.specs.Reduced.{reduced}

@@ -1,5 +1,6 @@
 pub mod Edit
+pub mod EditView
 pub mod Interchange
+pub mod Numbers
 pub mod Reduced
 pub mod Rows
-pub mod Seen

@@ -1,5 +1,6 @@
 -- The reduced directory of a drill: that of the example, with the message TSTORD alone.
 use Rattle.std.specs.Prelude.{ℕ, List, [], ◌∷◌, codes}
+use Rattle.edi_tables.specs.Octets.{Octets}
 use Rattle.edi_tables.specs.declared.element.Class.{Class}
 use Rattle.edi_tables.specs.declared.element.Class.TheVariants.{N, An}
 use Rattle.edi_tables.specs.declared.element.ElementDef.{ElementDef}
@@ -8,15 +9,15 @@ use Rattle.edi_tables.specs.declared.element.CompositeDef.{CompositeDef}
 use Rattle.edi_tables.specs.declared.segment.SegmentDef.{SegmentDef}
 use Rattle.edi_tables.specs.declared.segment.TableRow.{TableRow}
 use Rattle.edi_tables.specs.declared.segment.MessageDef.{MessageDef}
-use Rattle.dir_parts.specs.declared.parts.Parts.{Parts}
+use Rattle.dir_compile.specs.declared.parts.Parts.{Parts}
 use Rattle.service_tables.specs.ServiceTables.{M, C, up_to, repr_of, part, alone, composite, composite_of, segment_of, segment_row, group_row}
 
 -- an element with values of up to so many octets
-abbrev pub element : List ℕ → Class → ℕ → ElementDef
+abbrev pub element : Octets → Class → ℕ → ElementDef
 element code class most = record { code = record { octets = code }; repr = repr_of class (up_to most) }
 
 -- the codes of an element
-abbrev pub list_of : List ℕ → List (List ℕ) → CodeList
+abbrev pub list_of : Octets → List Octets → CodeList
 list_of code values = record { element = record { octets = code }; values = values }
 
 abbrev pub elements : List ElementDef

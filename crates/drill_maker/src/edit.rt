@@ -1,7 +1,8 @@
 //! The edits of a drill.
 ghost use Rattle.std.specs.Prelude.{◌≡◌, ◌+◌, ◌<◌, ◌≤◌, length};
 ghost use Rattle.drill_maker.specs.Edit.{cut_of, edit_of, number_after, number_at, octets_of_pair};
-ghost use Rattle.drill_maker.specs.Seen.{edit_seen};
+ghost use Rattle.drill_maker.specs.EditView.{edit_seen};
+ghost use Rattle.edi_octets.specs.declared.octets.TheConstants.{LONGEST_TEXT};
 
 /// An edit: `put` comes in place of the `cut` octets at octet `at`, from 0.
 #[derive(Clone, Copy, Debug, PartialEq, Eq)]
@@ -17,7 +18,7 @@ pub struct DrillEdit {
 /// these. It takes no memory.
 pub fn make_edit(j: u32, x: u64, length: u64) -> DrillEdit
     requires small { x ≤ 999999999 }
-    requires short { length ≤ 4194304 }
+    requires short { length ≤ LONGEST_TEXT }
     requires room { cut_of j ≤ length }
     ensures edit { edit_seen result ≡ edit_of j x length }
     ensures within { result.at + result.cut ≤ length }

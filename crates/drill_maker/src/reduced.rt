@@ -1,7 +1,7 @@
 //! The reduced directory.
 ghost use Rattle.std.specs.Prelude.{[], ◌≡◌, ◌<◌, IfOk, length, map};
-ghost use Rattle.dir_parts.specs.Compile.{compile_faults};
-ghost use Rattle.dir_parts.specs.Forms.{HasForms};
+ghost use Rattle.dir_compile.specs.Compile.{compile_faults};
+ghost use Rattle.dir_compile.specs.Forms.{HasForms};
 ghost use Rattle.drill_maker.specs.Reduced.{order_messages, reduced};
 ghost use Rattle.drill_maker.specs.Rows.{composite_given, list_given, segment_given};
 

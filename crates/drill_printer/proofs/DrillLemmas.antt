@@ -1,10 +1,10 @@
 -- A text that is edited, and the directory that it is checked by.
 use Rattle.std.proofs.Common.{◌≡◌, ◌+◌, ◌-◌, ◌≤◌, ℕ, zero, suc, List, length, Result, Ok, refl, sym, ap, ◌∙◌, arith, add-one}
 use Rattle.std.proofs.lemmas.List.FromFn.{sum_by-map-range_with_len_more}
-use Rattle.dir_parts.specs.declared.parts.Parts.{Parts}
+use Rattle.dir_compile.specs.declared.parts.Parts.{Parts}
 use Rattle.dir_compile.specs.Directory.{directory_of}
-use Rattle.dir_parts.specs.Stop.{PartsFault}
-use Rattle.drill_maker.specs.Edit.{cut_of, place_of, put_of}
+use Rattle.dir_compile.specs.Stop.{PartsFault}
+use Rattle.drill_maker.specs.Edit.{cut_of, edit_place_of, put_of}
 use Rattle.drill_maker.specs.Reduced.{reduced}
 use Rattle.drill_maker.proofs.EditLemmas.{place_within, put_cut}
 use Rattle.drill_maker.proofs.ReducedLemmas.{directory_of-reduced}
@@ -22,7 +22,7 @@ compiled parts directory is given = ok_same directory drill_directory (sym given
 length_edited : (number j : ℕ) (text : List ℕ) → cut_of j ≤ length text → length (text_edited number j text) + cut_of j ≡ length text + length (put_of j)
 length_edited number j text room =
     let long : length (text_edited number j text) ≡ length text - cut_of j + length (put_of j) =
-    length_with text (place_of j number (length text)) (cut_of j) (put_of j) (place_within j number (length text) room) in
+    length_with text (edit_place_of j number (length text)) (cut_of j) (put_of j) (place_within j number (length text) room) in
     omega arith
 
 -- a text after so many edits has as many octets more as the next edit cuts

@@ -1,7 +1,8 @@
 //! The drill: an interchange that is made from numbers and edited, to measure with.
 ghost use Rattle.std.specs.Prelude.{◌≡◌, ◌++◌, ◌<◌, ◌≤◌, IfOk, OnOk, length};
 ghost use Rattle.drill_maker.specs.Edit.{cut_of};
-ghost use Rattle.drill_printer.specs.Drill.{counts_line, drill_directory, drill_text, edited_text, edits_line, error_count, error_sum, numbers_line, spaced, text_drilled, text_edited, IsDrill};
+ghost use Rattle.drill_printer.specs.Drill.{counts_line, drill_directory, drill_text, edited_text, edits_line, error_count, error_sum, numbers_line, spaced, text_drilled, text_edited};
+ghost use Rattle.drill_maker.specs.Numbers.{IsDrill};
 
 use dir_compile::{Directory, compile};
 use drill_maker::{make_edit, make_interchange, reduced_parts};
@@ -128,7 +129,7 @@ fn put_edited<L: Ledger, M: Ledger>(
 {
     let mut lexed = Steps::<L>::start(lexing);
     let mut placed = Steps::<M>::start(placing);
-    let mut engine = Engine::open(directory, alloc, octets, &mut lexed, &mut placed)?;
+    let mut engine = Engine::open(alloc, directory, octets, &mut lexed, &mut placed)?;
     put_counts(alloc, out, b"open", &engine)?;
     let total = apply_edits(alloc, &mut engine, &mut lexed, &mut placed, edits, number)?;
     put_total(out, edits, total)?;

@@ -1,23 +1,25 @@
 -- What an edit of a text comes to.
-use Rattle.std.specs.Prelude.{◌≡◌, ◌+◌, ◌-◌, ℕ, nat_lt, List, length, Option, Some, None, Result, Ok, Err, if◌then◌else◌}
+use Rattle.std.specs.Prelude.{◌≡◌, ◌+◌, ◌-◌, ℕ, nat_lt, length, Option, Some, None, Result, Ok, Err, if◌then◌else◌}
+use Rattle.edi_tables.specs.Octets.{Octets}
 use Rattle.text_reading.specs.Edit.{reading_with}
 use Rattle.text_reading.specs.Reading.{Reading}
 use Rattle.edi_engine.specs.declared.edit.EditStop.{EditStop}
 use Rattle.edi_engine.specs.declared.edit.EditStop.TheVariants.{Range, TooLong, Memory}
+use Rattle.edi_octets.specs.declared.octets.TheConstants.{LONGEST_TEXT}
 
 -- why an edit isn't made, by the lengths of the text and of the octets that are put: it reaches past the end of the
 -- text, or else the text would have over 4,194,304 octets
 abbrev pub stop_by : ℕ → ℕ → ℕ → ℕ → Option EditStop
 stop_by length at cut put =
     if nat_lt length (at + cut) then Some Range
-    else (if nat_lt 4194304 (length - cut + put) then Some TooLong else None)
+    else (if nat_lt LONGEST_TEXT (length - cut + put) then Some TooLong else None)
 
-abbrev pub stop_of : List ℕ → ℕ → ℕ → List ℕ → Option EditStop
+abbrev pub stop_of : Octets → ℕ → ℕ → Octets → Option EditStop
 stop_of text at cut put = stop_by (length text) at cut (length put)
 
 -- what an edit comes to: the text of the edit, with its length; or the reading as it was, where the edit isn't made, or
 -- memory was refused for one that may be made
-abbrev pub IsEdit : Reading → ℕ → ℕ → List ℕ → Reading → Result ℕ EditStop → Type 0
+abbrev pub IsEdit : Reading → ℕ → ℕ → Octets → Reading → Result ℕ EditStop → Type 0
 IsEdit before at cut put now (Ok n) =
     (stop_of before.text at cut put ≡ None)
     × (now ≡ reading_with before at cut put)

@@ -5,6 +5,7 @@ ghost use Rattle.edi_engine.specs.Edit.{IsEdit, stop_by, stop_of};
 ghost use Rattle.text_reading.specs.Edit.{text_with};
 
 use crate::Engine;
+use edi_octets::LONGEST_TEXT;
 use std::alloc::{AllocError, Global};
 use std::sync::ledger::Ledger;
 use step_counter::Steps;
@@ -63,12 +64,12 @@ impl<'d> Engine<'d> {
 
 // Why an edit isn't made, by the length of the text and the number of octets that are put.
 fn stop_by(length: u64, at: u64, cut: u64, put: u64) -> Option<EditStop>
-    requires { length ≤ 4194304 }
+    requires { length ≤ LONGEST_TEXT }
     ensures { result ≡ stop_by length at cut put }
 {
     if at > length || cut > length - at {
         Some(EditStop::Range)
-    } else if put > 4194304 || length - cut + put > 4194304 {
+    } else if put > LONGEST_TEXT as u64 || length - cut + put > LONGEST_TEXT as u64 {
         Some(EditStop::TooLong)
     } else {
         None

@@ -1,5 +1,5 @@
 //! The engine: a kept text, and what is told of it.
-ghost use Rattle.std.specs.Prelude.{◌≡◌, ◌+◌, ◌++◌, ◌≤◌, ℕ, List, All, codes, length, IfOk, IsTrue};
+ghost use Rattle.std.specs.Prelude.{◌≡◌, ◌+◌, ◌++◌, ◌<◌, ◌≤◌, ℕ, List, All, codes, length, IfOk, IsTrue};
 ghost use Rattle.std.specs.List.Sorted.{IsPermutation};
 ghost use Rattle.contrl_segments.specs.Stamp.{IsStamp, is_reference_of};
 ghost use Rattle.dir_compile.specs.Directory.{IsDirectory};
@@ -7,25 +7,28 @@ ghost use Rattle.error_ledger.specs.Order.{IsAscending};
 ghost use Rattle.error_ledger.specs.Printing.{IsWellPlaced, tree_text};
 ghost use Rattle.edi_octets.specs.Decimal.{count_line};
 ghost use Rattle.segment_records.specs.Messages.{mode_after};
-ghost use Rattle.segment_records.specs.Segments.{segments_in};
+ghost use Rattle.segment_records.specs.Segments.{segments_of_text};
 ghost use Rattle.segment_walk.specs.Count.{segment_count_of};
 ghost use Rattle.text_reading.specs.Clean.{IsCleanAnswer};
 ghost use Rattle.text_reading.specs.Errors.{errors_found, errors_of};
 ghost use Rattle.text_reading.specs.Placed.{AreMessagesPlaced};
 ghost use Rattle.text_reading.specs.Summary.{contrl_to, summary_of};
 ghost use Rattle.text_reading.specs.Tree.{tree_of};
+ghost use Rattle.edi_octets.specs.declared.octets.TheConstants.{LONGEST_TEXT};
 
+use crate::errors::list_errors;
+use crate::summary::{make_contrl, make_summary};
+use crate::tree::{PrintedTree, list_tree, print_tree};
 use contrl_writer::{Contrl, Stamp, Summary};
 use dir_compile::Directory;
 use edi_tables::Chunk;
 use error_ledger::{ErrorLine, TreeLine};
 use segment_records::Mode;
 use std::alloc::{AllocError, Global};
-use std::marker::Model;
-use std::sync::ledger::Ledger;
+use std::marker::{Brand, Model};
+use std::sync::ledger::{Blank, Ledger};
 use step_counter::Steps;
 use text_reading::KeptText;
-use text_report::{PrintedTree, list_errors, list_tree, make_contrl, make_summary, print_tree};
 
 /// The reading of a text by a directory, seen as these two.
 #[derive(Drop)]
@@ -44,37 +47,50 @@ impl<'d> Model for Engine<'d> {
 impl<'d> Engine<'d> {
     /// Reads a text. Each call of the lexer and of the walk is counted. Only want of memory is an error.
     pub fn open<L: Ledger, M: Ledger>(
-        directory: &'d Directory,
         alloc: Global,
+        directory: &'d Directory,
         octets: &[u8],
         lexed: &mut Steps<L>,
         placed: &mut Steps<M>,
     ) -> Result<Engine<'d>, AllocError>
-        requires { length octets.now ≤ 4194304 }
+        requires { length octets.now ≤ LONGEST_TEXT }
         ensures opened { IfOk result
             (λ e. e ≡ record { directory = directory.now; text = octets.now }) }
         ensures lexed { lexed.new ≤ lexed.old + (segment_count_of octets.now + 2) }
         ensures placed { placed.new ≤ placed.old + segment_count_of octets.now }
     {
-        Engine::open_vec(directory, alloc, octets.to_vec(alloc)?, lexed, placed)
+        Engine::open_vec(alloc, directory, octets.to_vec(alloc)?, lexed, placed)
     }
 
     /// Reads a text, which it keeps. Each call of the lexer and of the walk is counted. Only want of memory is an error.
     pub fn open_vec<L: Ledger, M: Ledger>(
-        directory: &'d Directory,
         alloc: Global,
+        directory: &'d Directory,
         octets: Vec<u8>,
         lexed: &mut Steps<L>,
         placed: &mut Steps<M>,
     ) -> Result<Engine<'d>, AllocError>
-        requires { length octets.items ≤ 4194304 }
+        requires { length octets.items ≤ LONGEST_TEXT }
         ensures opened { IfOk result
             (λ e. e ≡ record { directory = directory.now; text = octets.items }) }
         ensures lexed { lexed.new ≤ lexed.old + (segment_count_of octets.items + 2) }
         ensures placed { placed.new ≤ placed.old + segment_count_of octets.items }
     {
-        let kept = KeptText::read(directory, alloc, octets, lexed, placed)?;
+        let kept = KeptText::read(alloc, directory, octets, lexed, placed)?;
         Ok(Engine { kept })
+    }
+
+    /// Reads a text, which it keeps, to be asked and not edited: nothing is counted. Only want of memory is an error.
+    pub fn read(
+        alloc: Global,
+        directory: &'d Directory,
+        octets: Vec<u8>,
+    ) -> Result<Engine<'d>, AllocError>
+        requires { length octets.items ≤ LONGEST_TEXT }
+        ensures { IfOk result
+            (λ e. e ≡ record { directory = directory.now; text = octets.items }) }
+    {
+        read_counted::<Brand, Brand>(alloc, directory, octets, Blank::new(1), Blank::new(1))
     }
 
     /// The directory that it checks by.
@@ -89,7 +105,7 @@ impl<'d> Engine<'d> {
     /// How many octets the text has.
     pub fn text_len(&self) -> u64
         ensures length { result ≡ length self.now.text }
-        ensures short { result ≤ 4194304 }
+        ensures short { result ≤ LONGEST_TEXT }
     {
         self.kept.text_len()
     }
@@ -111,7 +127,7 @@ impl<'d> Engine<'d> {
     /// The mode after the first `k` segments.
     pub fn state_after(&self, k: u32) -> &Mode
         requires { k ≤ segment_count_of self.now.text }
-        ensures { result.now ≡ mode_after self.now.directory (segments_in self.now.text) k }
+        ensures { result.now ≡ mode_after self.now.directory (segments_of_text self.now.text) k }
     {
         self.kept.state_after(k)
     }
@@ -178,4 +194,26 @@ impl<'d> Engine<'d> {
     {
         make_contrl(&self.kept, alloc, stamp, reference)
     }
+}
+
+// Reads a text, with counters of its own.
+fn read_counted<'d, L: Ledger, M: Ledger>(
+    alloc: Global,
+    directory: &'d Directory,
+    octets: Vec<u8>,
+    lexing: Blank,
+    placing: Blank,
+) -> Result<Engine<'d>, AllocError>
+    requires short { length octets.items ≤ LONGEST_TEXT }
+    requires lexing_name { lexing.name ≡ L.name }
+    requires lexing_parts { lexing.parts ≡ L.parts }
+    requires lexing_some { 0 < lexing.parts }
+    requires placing_name { placing.name ≡ M.name }
+    requires placing_parts { placing.parts ≡ M.parts }
+    requires placing_some { 0 < placing.parts }
+    ensures { IfOk result (λ e. e ≡ record { directory = directory.now; text = octets.items }) }
+{
+    let mut lexed = Steps::<L>::start(lexing);
+    let mut placed = Steps::<M>::start(placing);
+    Engine::open_vec(alloc, directory, octets, &mut lexed, &mut placed)
 }

@@ -3,8 +3,19 @@
 
 mod edit;
 mod engine;
+mod errors;
+mod group_heads;
+mod heads;
+mod message_heads;
+mod opening;
+mod parties;
+mod places;
+mod structure;
+mod summary;
+mod tail;
+mod tree;
 
 pub use edit::EditStop;
 pub use engine::Engine;
 pub use segment_walk::read_records;
-pub use text_report::PrintedTree;
+pub use tree::PrintedTree;

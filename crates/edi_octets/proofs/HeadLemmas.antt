@@ -9,7 +9,7 @@ use Rattle.edi_octets.specs.DirStop.{at_line}
 use Rattle.edi_octets.specs.Head.{is_code_and_name, head_field, head_faults}
 use Rattle.edi_octets.specs.Lines.{Line}
 use Rattle.edi_octets.specs.Profile.{fields_of, first_field}
-use Rattle.edi_octets.proofs.SeenLemmas.{bytes_eq-flip}
+use Rattle.edi_octets.proofs.EarlierNameLemmas.{bytes_eq-flip}
 
 -- a code and a name: there is a name, and the first field is a code
 pub is_code_and_name-parts : (is_code : List ℕ → Bool) (fields : List (List ℕ)) → is_code_and_name is_code fields ≡ (is_code_and_name (λ _. true) fields && is_code (first_field fields))

@@ -3,6 +3,7 @@ pub mod CellLemmas
 pub mod DecimalLemmas
 pub mod EachLemmas
 pub mod EarlierLemmas
+pub mod EarlierNameLemmas
 pub mod EntryLemmas
 pub mod HeadLemmas
 pub mod LineLemmas
@@ -10,7 +11,7 @@ pub mod PartLemmas
 pub mod PlaceLemmas
 pub mod PlainLemmas
 pub mod ProfileLemmas
-pub mod SeenLemmas
 pub mod SplitLemmas
 pub mod TurnLemmas
+pub mod WordLemmas
 mod Worked

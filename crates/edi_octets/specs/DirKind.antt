@@ -1,10 +1,11 @@
 -- The printed words of the kinds of a directory file's faults.
-use Rattle.std.specs.Prelude.{ℕ, List, codes}
+use Rattle.std.specs.Prelude.{codes}
+use Rattle.edi_tables.specs.Octets.{Octets}
 use Rattle.edi_octets.specs.declared.fault.DirKind.{DirKind}
 use Rattle.edi_octets.specs.declared.fault.DirKind.TheVariants.{BadLine, BadCode, BadRepr, NoRepr, BadPosition, BadStatus, Twice, PartsDiffer, NoType, BadGroup, CloseWithoutOpen, NotClosed, TooMany, NoUnhUnt, EnvelopeTag, BadMax, TooDeep, NoTrigger}
 
 -- the word that is printed for a kind
-abbrev pub word_of : DirKind → List ℕ
+abbrev pub word_of : DirKind → Octets
 word_of BadLine = codes "bad-line"
 word_of BadCode = codes "bad-code"
 word_of BadRepr = codes "bad-repr"

@@ -1,5 +1,6 @@
 -- What the iterators over a directory file have left, and what their items stand for.
-use Rattle.std.specs.Prelude.{ℕ, List, ◌∷◌}
+use Rattle.std.specs.Prelude.{List, ◌∷◌}
+use Rattle.edi_tables.specs.Octets.{Octets}
 use Rattle.edi_octets.specs.declared.cells.Cells.{Cells}
 use Rattle.edi_octets.specs.declared.entries.Body.{Body}
 use Rattle.edi_octets.specs.declared.entries.Entries.{Entries}
@@ -18,7 +19,7 @@ abbrev pub lines_left : Lines → List Line
 lines_left lines = lines_from lines.number lines.rest.now
 
 -- the cells that are left
-abbrev pub cells_left : Cells → List (List ℕ)
+abbrev pub cells_left : Cells → List Octets
 cells_left cells = cells_of cells.rest.now
 
 -- the lines of an entry that are left

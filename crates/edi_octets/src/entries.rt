@@ -3,6 +3,7 @@ ghost use Rattle.std.specs.Prelude.{◌≡◌, ◌≤◌, length};
 ghost use Rattle.std.specs.List.{after_first};
 ghost use Rattle.edi_octets.specs.Profile.{is_separator};
 ghost use Rattle.edi_octets.specs.Left.{lines_left};
+ghost use Rattle.edi_octets.specs.declared.octets.TheConstants.{LONGEST_TEXT};
 
 use crate::lines::{LineText, Lines};
 
@@ -34,7 +35,7 @@ impl Entries<'_> {
 
     /// The entries of a file of at most 4,194,304 octets.
     pub fn of(file: &[u8]) -> Entries<'_>
-        requires { length file.now ≤ 4194304 }
+        requires { length file.now ≤ LONGEST_TEXT }
         ensures entries { entries_left result ≡ entries_of (lines_of file.now) }
         ensures few { length (entries_left result) ≤ length file.now }
     {

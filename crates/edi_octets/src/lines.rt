@@ -2,6 +2,7 @@
 ghost use Rattle.std.specs.Prelude.{◌≡◌, ℕ, ◌+◌, ◌<◌, ◌≤◌, ◌∷◌, length, drop, if◌then◌else◌};
 ghost use Rattle.edi_octets.specs.Lines.{lines_from, without_return};
 ghost use Rattle.edi_octets.specs.Profile.{is_marked, marks_of};
+ghost use Rattle.edi_octets.specs.declared.octets.TheConstants.{LONGEST_TEXT};
 
 use crate::cells::{Cells, spaces_in_front};
 use crate::fault::{DirFault, DirKind, DirStop};
@@ -33,7 +34,7 @@ impl Lines<'_> {
     /// The lines of a file of at most 4,194,304 octets, numbered from 1. LF ends a line, and one CR
     /// before it is dropped; a last line without LF is a line where it isn't empty.
     pub fn of(file: &[u8]) -> Lines<'_>
-        requires { length file.now ≤ 4194304 }
+        requires { length file.now ≤ LONGEST_TEXT }
         ensures lines { lines_left result ≡ lines_of file.now }
         ensures few { length (lines_left result) ≤ length file.now }
     {

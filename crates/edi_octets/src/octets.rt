@@ -1,6 +1,9 @@
 //! Texts that are read by place, however they are kept.
 ghost use Rattle.std.specs.Prelude.{List, ℕ, ◌≡◌, ◌+◌, ◌<◌, ◌≤◌, length, slice_index, slice_range};
 
+/// The most octets that a text or a file may have, by this project's own limit.
+pub const LONGEST_TEXT: usize = 4_194_304;
+
 /// A text that is read by place: it stands for the list of its octets, numbered from 0.
 pub trait Octets {
     /// The octets that it stands for.

@@ -1,6 +1,7 @@
 -- What a shelf in memory opens and gives.
 use Rattle.std.specs.Prelude.{◌≡◌, ◌==◌, ℕ, Bool, List, [], length, min, is_some, if◌then◌else◌, Vec}
 use Rattle.std.specs.declared.alloc.Global.{Global}
+use Rattle.edi_tables.specs.Octets.{Octets}
 use Rattle.edi_ports.specs.declared.source.Taken.{Taken}
 use Rattle.edi_ports.specs.declared.source.Taken.TheVariants as taken
 use Rattle.edi_ports.specs.declared.shelf.ShelfFile.{ShelfFile}
@@ -16,7 +17,7 @@ abbrev pub files_of : MemShelf → List ShelfFile
 files_of shelf = shelf.files.items
 
 -- the octets that are left of the open file; none where no file is open
-abbrev pub rest_of : MemShelf → List ℕ
+abbrev pub rest_of : MemShelf → Octets
 rest_of shelf = rest_from shelf.files.items shelf.place
 
 abbrev pub is_open_of : MemShelf → Bool
@@ -31,7 +32,7 @@ abbrev pub IsSteady : MemShelf → Type 0
 IsSteady shelf = shelf.calls.failing.items ≡ []
 
 -- the next opening: a fault where it is to fail, else whether there is a file of that name
-abbrev pub opened_next : MemShelf → List ℕ → Opened
+abbrev pub opened_next : MemShelf → Octets → Opened
 opened_next shelf name =
     if fails_next shelf.calls then Failed else (if is_some (file_named name (files_of shelf)) then Open else Absent)
 

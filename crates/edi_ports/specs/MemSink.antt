@@ -1,6 +1,7 @@
 -- What a sink in memory takes.
-use Rattle.std.specs.Prelude.{◌≡◌, ◌≤◌, ◌+◌, ◌-◌, ◌==◌, ℕ, List, [], length, min, if◌then◌else◌, Vec}
+use Rattle.std.specs.Prelude.{◌≡◌, ◌≤◌, ◌+◌, ◌-◌, ◌==◌, ℕ, [], length, min, if◌then◌else◌, Vec}
 use Rattle.std.specs.declared.alloc.Global.{Global}
+use Rattle.edi_tables.specs.Octets.{Octets}
 use Rattle.edi_ports.specs.declared.sink.Put.{Put}
 use Rattle.edi_ports.specs.declared.sink.Put.TheVariants.{Took, Failed}
 use Rattle.edi_ports.specs.declared.memory.sink.MemSink.{MemSink}
@@ -8,7 +9,7 @@ use Rattle.edi_ports.specs.declared.memory.calls.Calls.{Calls}
 use Rattle.edi_ports.specs.Memory.{first_calls, fails_next, after_call, after_fault}
 
 -- the octets that were put
-abbrev pub held_of : MemSink → List ℕ
+abbrev pub held_of : MemSink → Octets
 held_of sink = sink.octets.items
 
 -- how often it failed

@@ -1,13 +1,14 @@
 -- What a source in memory gives.
-use Rattle.std.specs.Prelude.{◌≡◌, ◌==◌, ℕ, List, [], length, min, drop, if◌then◌else◌, Vec}
+use Rattle.std.specs.Prelude.{◌≡◌, ◌==◌, ℕ, [], length, min, drop, if◌then◌else◌, Vec}
 use Rattle.std.specs.declared.alloc.Global.{Global}
+use Rattle.edi_tables.specs.Octets.{Octets}
 use Rattle.edi_ports.specs.declared.source.Taken.{Taken}
 use Rattle.edi_ports.specs.declared.source.Taken.TheVariants.{Got, End, Failed}
 use Rattle.edi_ports.specs.declared.memory.source.MemSource.{MemSource}
 use Rattle.edi_ports.specs.Memory.{first_calls, fails_next, after_call}
 
 -- the octets that are left
-abbrev pub rest_of : MemSource → List ℕ
+abbrev pub rest_of : MemSource → Octets
 rest_of source = drop source.from source.octets.items
 
 -- how often it failed

@@ -1,5 +1,6 @@
 -- What is read under a name.
 use Rattle.std.specs.Prelude.{ℕ, nat_lt, List, length, Option, Some, None, Result, Ok, Err, if◌then◌else◌}
+use Rattle.edi_tables.specs.Octets.{Octets}
 use Rattle.edi_ports.specs.declared.shelf.ShelfFile.{ShelfFile}
 use Rattle.edi_ports.specs.declared.named.Unread.{Unread}
 use Rattle.edi_ports.specs.declared.named.Unread.TheVariants.{Absent, TooLarge}
@@ -10,12 +11,12 @@ use Rattle.edi_ports.specs.declared.read.ReadStop.TheVariants as read
 use Rattle.edi_ports.specs.Shelf.{file_named}
 
 -- all octets of a file: absent where there is none, too large where it has more than the limit
-abbrev pub octets_within : ℕ → Option (List ℕ) → Result (List ℕ) Unread
+abbrev pub octets_within : ℕ → Option Octets → Result Octets Unread
 octets_within limit None = Err Absent
 octets_within limit (Some octets) = if nat_lt limit (length octets) then Err TooLarge else Ok octets
 
 -- all octets of the first file of that name
-abbrev pub octets_named : ℕ → List ShelfFile → List ℕ → Result (List ℕ) Unread
+abbrev pub octets_named : ℕ → List ShelfFile → Octets → Result Octets Unread
 octets_named limit files name = octets_within limit (file_named name files)
 
 -- why the files give no octets, where a stop tells that

@@ -1,20 +1,21 @@
 -- What an opening does.
 use Rattle.std.specs.Prelude.{◌≡◌, ℕ, Bool, true, false, List, [], ◌∷◌, Option, Some, None, IfSome, if◌then◌else◌}
 use Rattle.std.specs.Str.{bytes_eq}
+use Rattle.edi_tables.specs.Octets.{Octets}
 use Rattle.edi_ports.specs.declared.shelf.Opened.{Opened}
 use Rattle.edi_ports.specs.declared.shelf.Opened.TheVariants.{Open, Absent, Failed}
 use Rattle.edi_ports.specs.declared.shelf.ShelfFile.{ShelfFile}
 use Rattle.edi_ports.specs.Faults.{one_more}
 
 -- the octets of the first file of that name, if there is one
-abbrev pub file_named : List ℕ → List ShelfFile → Option (List ℕ)
+abbrev pub file_named : Octets → List ShelfFile → Option Octets
 file_named name [] = None
 file_named name (file ∷ files) = if bytes_eq file.name name then Some file.octets else file_named name files
 
 -- the whole of the named file is the rest; or there is no such file; a fault tells nothing of the files
-abbrev pub IsOpening : Option (List ShelfFile) → List ℕ → Option (List ℕ) → Opened → Type 0
+abbrev pub IsOpening : Option (List ShelfFile) → Octets → Option Octets → Opened → Type 0
 IsOpening files name rest Open =
-    IfSome files (λ files. (octets : List ℕ) × (file_named name files ≡ Some octets) × (rest ≡ Some octets))
+    IfSome files (λ files. (octets : Octets) × (file_named name files ≡ Some octets) × (rest ≡ Some octets))
 IsOpening files name rest Absent = IfSome files (λ files. file_named name files ≡ None)
 IsOpening files name rest Failed = Unit {0}
 

@@ -1,12 +1,13 @@
 -- What a take does to a told rest.
-use Rattle.std.specs.Prelude.{◌≡◌, ◌<◌, ◌≤◌, ℕ, List, [], length, take, drop, Option, Some, IfSome}
+use Rattle.std.specs.Prelude.{◌≡◌, ◌<◌, ◌≤◌, ℕ, [], length, take, drop, Option, Some, IfSome}
+use Rattle.edi_tables.specs.Octets.{Octets}
 use Rattle.edi_ports.specs.declared.source.Taken.{Taken}
 use Rattle.edi_ports.specs.declared.source.Taken.TheVariants.{Got, End, Failed}
 use Rattle.edi_ports.specs.Faults.{one_more}
 
 -- n octets moved from the front of the rest to the front of the buffer, one at least; at the end and at a fault the
 -- rest stays
-abbrev pub IsTake : Option (List ℕ) → Option (List ℕ) → List ℕ → Taken → Type 0
+abbrev pub IsTake : Option Octets → Option Octets → Octets → Taken → Type 0
 IsTake before now buffer (Got n) =
     (0 < n) × (n ≤ length buffer)
     × IfSome before (λ rest. (n ≤ length rest) × (take n buffer ≡ take n rest) × (now ≡ Some (drop n rest)))

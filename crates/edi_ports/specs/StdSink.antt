@@ -1,5 +1,6 @@
 -- What a sink over a writer counts and writes.
-use Rattle.std.specs.Prelude.{ℕ, List, Option}
+use Rattle.std.specs.Prelude.{ℕ, Option}
+use Rattle.edi_tables.specs.Octets.{Octets}
 use Rattle.edi_ports.specs.declared.adapters.sink.StdSink.{StdSink}
 
 -- how often it failed
@@ -7,5 +8,5 @@ abbrev pub faults_of : {W : Type 0} → StdSink W → ℕ
 faults_of sink = sink.faults
 
 -- what its writer was given, by what the writer tells
-abbrev pub written_by : {W : Type 0} → (W → Option (List ℕ)) → StdSink W → Option (List ℕ)
+abbrev pub written_by : {W : Type 0} → (W → Option Octets) → StdSink W → Option Octets
 written_by contents sink = contents sink.writer

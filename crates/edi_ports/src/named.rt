@@ -1,6 +1,6 @@
 //! Reading a file of a shelf by its name.
 ghost use Rattle.std.specs.Prelude.{◌≡◌, ◌≤◌, List, Some, length, IfOk, IsErrOf};
-ghost use Rattle.edi_tables.specs.First.{Answers};
+ghost use Rattle.edi_tables.specs.First.{IsVerdict};
 ghost use Rattle.edi_ports.specs.declared.shelf.ShelfFile.{ShelfFile};
 ghost use Rattle.edi_ports.specs.Faults.{HasRisen};
 ghost use Rattle.edi_ports.specs.Named.{octets_named, unread_in};
@@ -50,7 +50,7 @@ pub fn read_named<S: Shelf>(
     limit: usize,
 ) -> Result<Vec<u8>, NamedStop>
     ensures reads { (files : List ShelfFile) → S.files shelf.old ≡ Some files
-        → Answers (λ octets. octets.items) unread_in result (octets_named limit files name.now) }
+        → IsVerdict (λ octets. octets.items) unread_in result (octets_named limit files name.now) }
     ensures short { IfOk result (λ octets. length octets.items ≤ limit) }
     ensures files { S.files shelf.new ≡ S.files shelf.old }
     ensures counted { S.faults shelf.old ≤ S.faults shelf.new }

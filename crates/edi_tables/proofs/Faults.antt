@@ -9,7 +9,7 @@ use Rattle.edi_tables.specs.declared.segment.TableRow.{TableRow}
 use Rattle.edi_tables.specs.declared.table.RowFault.{RowFault}
 use Rattle.edi_tables.specs.declared.table.TableKind.{TableKind}
 use Rattle.edi_tables.specs.declared.table.TableKind.TheVariants.{TooMany, NoUnhUnt}
-use Rattle.edi_tables.specs.Rows.{when, breaks_frame, breaks_envelope, breaks_max, breaks_depth, breaks_trigger, row_faults, faults_at, table_faults}
+use Rattle.edi_tables.specs.Rows.{when, breaks_frame, breaks_envelope, breaks_max, breaks_depth, breaks_trigger, row_faults, row_faults_at, table_faults}
 
 pub first_of_nil : {A : Type 0} → (xs : List A) → slice_get xs 0 ≡ None → xs ≡ []
 first_of_nil [] none = refl
@@ -50,7 +50,7 @@ abbrev pub at_row : ℕ → TableKind → RowFault
 at_row i kind = record { at = i; kind = kind }
 
 abbrev pub faults_of_place : List TableRow → ℕ → List RowFault
-faults_of_place rows i = faults_at rows i (slice_get rows i)
+faults_of_place rows i = row_faults_at rows i (slice_get rows i)
 
 table_faults_by_place : (rows : List TableRow) → length rows ≤ 2000 → 0 < length rows → table_faults rows ≡ flat_map (faults_of_place rows) (range_with_len 0 (length rows))
 unfolding table_faults
@@ -128,7 +128,7 @@ pub keeps_rules : (rows : List TableRow) → table_faults rows ≡ [] → (i : �
 keeps_rules rows none i row at =
     let all = sym (table_faults_by_place rows (few_rows rows none) (some_rows rows none)) ∙ none in
     let here = nil-flat_map (faults_of_place rows) 0 (length rows) all i (omega arith) (omega (arith, slice_get_within rows i row at)) in
-    keeps_from_none rows i row (map-nil (at_row i) _ (subst (λ (found : Option TableRow). faults_at rows i found ≡ []) at here))
+    keeps_from_none rows i row (map-nil (at_row i) _ (subst (λ (found : Option TableRow). row_faults_at rows i found ≡ []) at here))
 
 -- no row of a segment table is deeper than 16
 pub small_depth : (rows : List TableRow) → table_faults rows ≡ [] → (i depth : ℕ) (d : TableRow) → i < length rows → depth ≡ (get_or rows i d).depth → depth ≤ 16

@@ -1,6 +1,7 @@
 -- From where to where messages and functional groups run in a list of tags.
 use Rattle.std.specs.Prelude.{◌-◌, ◌+◌, ℕ, Bool, true, false, ◌&&◌, ◌==◌, nat_le, List, [], ◌∷◌, length, find, slice_get, Option, Some, None, codes, if◌then◌else◌}
 use Rattle.std.specs.List.{range_with_len, filter_map, list_any}
+use Rattle.edi_tables.specs.Octets.{Octets}
 use Rattle.edi_tables.specs.declared.tag.Tag.{Tag}
 use Rattle.edi_tables.specs.Rows.{has_name}
 
@@ -15,20 +16,20 @@ abbrev pub tag_in : List (Option Tag) → ℕ → Option Tag
 tag_in tags i = elim (slice_get tags i) [ None ↦ None | Some tag ↦ tag ]
 
 -- the first place after i whose tag has one of these names
-abbrev pub next_of : List (List ℕ) → List (Option Tag) → ℕ → Option ℕ
+abbrev pub next_of : List Octets → List (Option Tag) → ℕ → Option ℕ
 next_of names tags i =
     find (λ j. list_any (λ name. has_name name (tag_in tags j)) names) (range_with_len (i + 1) (length tags - (i + 1)))
 
 -- the extent that opens at place i and stops at a place: a closing segment belongs to it, any other doesn't, and
 -- without one it runs to the last
-abbrev pub extent_to : List ℕ → List (Option Tag) → ℕ → Option ℕ → Extent
+abbrev pub extent_to : Octets → List (Option Tag) → ℕ → Option ℕ → Extent
 extent_to closing tags i None = record { first = i + 1; last = length tags; closed = false }
 extent_to closing tags i (Some j) =
     if has_name closing (tag_in tags j)
     then record { first = i + 1; last = j + 1; closed = true }
     else record { first = i + 1; last = j; closed = false }
 
-abbrev pub extent_at : List ℕ → List ℕ → List (List ℕ) → List (Option Tag) → ℕ → Option Extent
+abbrev pub extent_at : Octets → Octets → List Octets → List (Option Tag) → ℕ → Option Extent
 extent_at opening closing stops tags i =
     if has_name opening (tag_in tags i) then Some (extent_to closing tags i (next_of stops tags i)) else None
 

@@ -8,6 +8,6 @@ unless_faulty (fault ∷ faults) value = Err fault
 
 -- what was answered, seen by a view, is what was due; a stop that tells no fault, as want of memory, may come at any
 -- time
-abbrev pub Answers : {X Y E F : Type 0} → (X → Y) → (E → Option F) → Result X E → Result Y F → Type 0
-Answers view fault_in (Ok found) due = due ≡ Ok (view found)
-Answers view fault_in (Err stop) due = IfSome (fault_in stop) (λ fault. due ≡ Err fault)
+abbrev pub IsVerdict : {X Y E F : Type 0} → (X → Y) → (E → Option F) → Result X E → Result Y F → Type 0
+IsVerdict view fault_in (Ok found) due = due ≡ Ok (view found)
+IsVerdict view fault_in (Err stop) due = IfSome (fault_in stop) (λ fault. due ≡ Err fault)

@@ -1,7 +1,8 @@
 -- The forms of the names and values of a directory.
-use Rattle.std.specs.Prelude.{ℕ, Bool, true, not, ◌==◌, ◌&&◌, nat_le, List, length, drop, slice_index, Some, None}
+use Rattle.std.specs.Prelude.{ℕ, Bool, true, not, ◌==◌, ◌&&◌, nat_le, length, drop, slice_index, Some, None}
 use Rattle.std.specs.List.{list_all}
 use Rattle.std.specs.Str.{all_ascii_digits}
+use Rattle.edi_tables.specs.Octets.{Octets}
 use Rattle.edi_tables.specs.declared.element.Repr.{Repr}
 use Rattle.edi_tables.specs.declared.element.ElementDef.{ElementDef}
 use Rattle.edi_tables.specs.declared.element.CodeList.{CodeList}
@@ -15,23 +16,23 @@ use Rattle.edi_tables.specs.declared.segment.MessageDef.{MessageDef}
 use Rattle.edi_tables.specs.Tag.{is_capital, is_tag_octet_of, is_tag_of}
 
 -- a label (version, release, agency): 1 to so many octets of `A` to `Z` and `0` to `9`
-abbrev pub is_label : ℕ → List ℕ → Bool
+abbrev pub is_label : ℕ → Octets → Bool
 is_label most label = nat_le 1 (length label) && nat_le (length label) most && list_all is_tag_octet_of label
 
 -- the code of a data element: four digits
-abbrev pub is_element_code : List ℕ → Bool
+abbrev pub is_element_code : Octets → Bool
 is_element_code code = length code == 4 && all_ascii_digits code
 
 -- the code of a composite: `C` and three digits
-abbrev pub is_composite_code : List ℕ → Bool
+abbrev pub is_composite_code : Octets → Bool
 is_composite_code code = length code == 4 && slice_index code 0 == 67 && all_ascii_digits (drop 1 code)
 
 -- the name of a message: six octets of `A` to `Z` and `0` to `9`, the first a letter
-abbrev pub is_message_name : List ℕ → Bool
+abbrev pub is_message_name : Octets → Bool
 is_message_name name = length name == 6 && is_capital (slice_index name 0) && list_all is_tag_octet_of name
 
 -- a code value: 1 to 35 octets, none of them a space or LF
-abbrev pub is_code_value : List ℕ → Bool
+abbrev pub is_code_value : Octets → Bool
 is_code_value value =
     nat_le 1 (length value) && nat_le (length value) 35 && list_all (λ x. not (x == 32) && not (x == 10)) value
 

@@ -2,6 +2,7 @@
 use Rattle.std.specs.Prelude.{◌≡◌, ◌-◌, ◌+◌, ℕ, Bool, true, false, not, ◌==◌, ◌&&◌, ◌||◌, nat_le, nat_lt, List, [], ◌∷◌, ◌++◌, length, map, reverse, find, slice_get, Option, Some, None, unwrap_or, Result, codes, if◌then◌else◌}
 use Rattle.std.specs.List.{range_with_len, flat_map}
 use Rattle.std.specs.Str.{bytes_eq}
+use Rattle.edi_tables.specs.Octets.{Octets}
 use Rattle.edi_tables.specs.declared.tag.Tag.{Tag}
 use Rattle.edi_tables.specs.declared.segment.TableRow.{TableRow}
 use Rattle.edi_tables.specs.declared.table.Node.{Node}
@@ -14,7 +15,7 @@ use Rattle.edi_tables.specs.First.{unless_faulty}
 use Rattle.edi_tables.specs.Walk.{groups_round}
 
 -- a tag with this name
-abbrev pub has_name : List ℕ → Option Tag → Bool
+abbrev pub has_name : Octets → Option Tag → Bool
 has_name name None = false
 has_name name (Some tag) = bytes_eq tag.octets name
 
@@ -23,7 +24,7 @@ abbrev pub is_group_row : TableRow → Bool
 is_group_row row = elim row.tag [ None ↦ true | Some tag ↦ false ]
 
 -- the row of a segment that stands exactly once, outside all groups
-abbrev pub is_frame_row : List ℕ → TableRow → Bool
+abbrev pub is_frame_row : Octets → TableRow → Bool
 is_frame_row name row = has_name name row.tag && row.must && row.max == 1 && row.depth == 0
 
 -- the first row is UNH M 1, and the last is UNT M 1, each outside all groups
@@ -75,9 +76,9 @@ row_faults rows i row =
     ++ when (breaks_max row) BadMax ++ when (breaks_depth rows i row) BadDepth
     ++ when (nat_lt 16 row.depth) TooDeep ++ when (breaks_trigger rows i row) NoTrigger
 
-abbrev pub faults_at : List TableRow → ℕ → Option TableRow → List RowFault
-faults_at rows i None = []
-faults_at rows i (Some row) = map (λ kind. record { at = i; kind = kind }) (row_faults rows i row)
+abbrev pub row_faults_at : List TableRow → ℕ → Option TableRow → List RowFault
+row_faults_at rows i None = []
+row_faults_at rows i (Some row) = map (λ kind. record { at = i; kind = kind }) (row_faults rows i row)
 
 -- all faults of rows in judging order: more than 2,000 rows are judged before any row, and no rows have no first one
 unfoldable pub table_faults : List TableRow → List RowFault
@@ -85,7 +86,7 @@ table_faults rows =
     if nat_lt 2000 (length rows) then record { at = 2000; kind = TooMany } ∷ []
     else (if length rows == 0
     then record { at = 0; kind = NoUnhUnt } ∷ []
-    else flat_map (λ i. faults_at rows i (slice_get rows i)) (range_with_len 0 (length rows)))
+    else flat_map (λ i. row_faults_at rows i (slice_get rows i)) (range_with_len 0 (length rows)))
 
 -- the depth of the row at i: the number of groups round it
 abbrev pub depth_at : List TableRow → ℕ → ℕ

@@ -79,7 +79,7 @@ impl Model for Table {
 }
 
 impl Table {
-    ghost use Rattle.edi_tables.specs.First.{Answers};
+    ghost use Rattle.edi_tables.specs.First.{IsVerdict};
     ghost use Rattle.edi_tables.specs.Rows.{IsTable, fault_in, table_faults, table_of};
 
     /// The first fault of these rows, if they are no segment table. It takes no memory.
@@ -91,7 +91,7 @@ impl Table {
 
     /// The table of these rows where they break no rule, else their first fault.
     pub fn build(alloc: Global, rows: &[TableRow]) -> Result<Table, TableStop>
-        ensures { Answers (λ table. table) fault_in result (table_of rows.now) }
+        ensures { IsVerdict (λ table. table) fault_in result (table_of rows.now) }
     {
         if let Some(RowFault { at, kind }) = build::first_fault(rows) {
             return Err(TableStop::Fault { at, kind });

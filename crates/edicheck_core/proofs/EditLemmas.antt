@@ -1,14 +1,14 @@
 -- What an edit comes to.
 use Rattle.std.proofs.Common.{◌≡◌, ℕ, List, Option, Some, Ok, refl, ◌∙◌, subst, inl, inr}
-use Rattle.script_answers.specs.Held.{Held}
-use Rattle.script_answers.specs.Outcome.{memory_refused}
-use Rattle.script_answers.specs.declared.status.Status.{Status}
-use Rattle.run_opening.specs.Begun.{IsScriptBegun}
-use Rattle.run_opening.specs.Opening.{IsOpening, IsToldOpening, Opened}
+use Rattle.run_outcome.specs.Held.{Held}
+use Rattle.run_outcome.specs.Outcome.{memory_refused}
+use Rattle.run_outcome.specs.declared.status.Status.{Status}
+use Rattle.edicheck_core.specs.Begun.{IsScriptBegun}
+use Rattle.run_outcome.specs.Opening.{IsOpening, IsToldOpening, Opened}
 use Rattle.edicheck_core.specs.Answer.{IsEdited}
-use Rattle.form_outcomes.specs.Due.{HasFailed}
-use Rattle.word_forms.specs.Form.{Asked, Edit}
-use Rattle.form_outcomes.specs.Inputs.{Inputs}
+use Rattle.edicheck_core.specs.Due.{HasFailed}
+use Rattle.edicheck_core.specs.Form.{Asked, Edit}
+use Rattle.edicheck_core.specs.Inputs.{Inputs}
 
 -- a script was answered, or memory was refused before it
 pub edited_opened : (manifest name : List ℕ) (before now : Inputs) (held held' : Held) (status : Status) (begun : Opened)

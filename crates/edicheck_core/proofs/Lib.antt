@@ -1,1 +1,5 @@
+mod AnswerLemmas
 mod EditLemmas
+mod OpeningLemmas
+mod ScriptLemmas
+pub mod SteadyLemmas

@@ -1,1 +1,10 @@
+pub mod About
 pub mod Answer
+pub mod Begun
+pub mod Due
+pub mod Form
+pub mod Inputs
+pub mod Lawful
+pub mod Made
+pub mod OneOf
+pub mod Plain

@@ -1,24 +1,31 @@
-//! What an edit comes to.
-ghost use Rattle.std.specs.Prelude.{◌≡◌, ◌≢◌, ◌⊎◌, ◌≤◌, ℕ, Some, length};
+//! `edit`: the answers to a script on a text.
+ghost use Rattle.std.specs.Prelude.{◌≡◌, ◌≢◌, ◌⊎◌, ◌≤◌, ℕ, Some, length, ◌<◌};
 ghost use Rattle.edi_ports.specs.Faults.{HasRisen};
-ghost use Rattle.script_answers.specs.Held.{held_of};
-ghost use Rattle.script_answers.specs.Outcome.{Outcome};
+ghost use Rattle.run_outcome.specs.Held.{held_of};
+ghost use Rattle.run_outcome.specs.Outcome.{Outcome};
 ghost use Rattle.script_answers.specs.Script.{IsAnsweredWhole};
-ghost use Rattle.run_opening.specs.Opening.{IsToldOpening, Opened};
+ghost use Rattle.run_outcome.specs.Opening.{IsToldOpening, Opened};
 ghost use Rattle.edicheck_core.specs.Answer.{IsEdited};
-ghost use Rattle.form_outcomes.specs.Due.{HasFailed};
-ghost use Rattle.word_forms.specs.Form.{Edit};
-ghost use Rattle.form_outcomes.specs.Inputs.{inputs_of};
-ghost use Rattle.form_outcomes.specs.Made.{made_by};
+ghost use Rattle.edicheck_core.specs.Due.{HasFailed};
+ghost use Rattle.edicheck_core.specs.Form.{Edit};
+ghost use Rattle.edicheck_core.specs.Inputs.{inputs_of};
+ghost use Rattle.edicheck_core.specs.Made.{made_by};
+ghost use Rattle.edicheck_core.specs.Begun.{IsScriptBegun};
+ghost use Rattle.edi_octets.specs.declared.octets.TheConstants.{LONGEST_TEXT};
 
-use crate::Status;
+use dir_compile::Directory;
+use edi_engine::Engine;
 use edi_ports::{Shelf, Sink, Source};
-use run_opening::{edit_opened, finish, open_both};
+use run_outcome::{Made, Status, finish, open_both};
+use script_answers::answer_script;
 use std::alloc::Global;
+use std::marker::Brand;
+use std::sync::ledger::{Blank, Ledger};
+use step_counter::Steps;
 
 /// Answers the script on the input, on the text of that name, by the directory of that manifest; or puts the refusal of
 /// one of these, and takes nothing.
-pub fn edit_text<S: Shelf, I: Source, O: Sink>(
+pub(crate) fn edit_text<S: Shelf, I: Source, O: Sink>(
     alloc: Global,
     manifest: &[u8],
     text: &[u8],
@@ -52,5 +59,69 @@ pub fn edit_text<S: Shelf, I: Source, O: Sink>(
     match open_both(alloc, manifest, text, shelf) {
         Ok(opening) => edit_opened(alloc, &opening.directory, &opening.text, input, out),
         Err(made) => finish(out, &made),
+    }
+}
+
+// Answers the script on a text, by a directory; or tells want of memory, and takes nothing.
+fn edit_opened<I: Source, O: Sink>(
+    alloc: Global,
+    directory: &Directory,
+    octets: &[u8],
+    input: &mut I,
+    out: &mut O,
+) -> Status
+    requires { length octets.now ≤ LONGEST_TEXT }
+    ensures run { IsScriptBegun directory.now octets.now (I.rest input.old) (I.rest input.new)
+        (I.faults input.old) (I.faults input.new)
+        (held_of O.Sink out.old) (held_of O.Sink out.new) result }
+    ensures steady { I.is_steady input.old → result ≢ Status.ReadFault }
+    ensures complete { IsAnsweredWhole (I.rest input.old)
+        (HasRisen (I.faults input.old) (I.faults input.new))
+        (HasRisen (O.faults out.old) (O.faults out.new)) result }
+{
+    edit_counted::<Brand, Brand, I, O>(
+        alloc,
+        directory,
+        octets,
+        Blank::new(1),
+        Blank::new(1),
+        input,
+        out,
+    )
+}
+
+fn edit_counted<L: Ledger, M: Ledger, I: Source, O: Sink>(
+    alloc: Global,
+    directory: &Directory,
+    octets: &[u8],
+    lexing: Blank,
+    placing: Blank,
+    input: &mut I,
+    out: &mut O,
+) -> Status
+    requires short { length octets.now ≤ LONGEST_TEXT }
+    requires lexing_name { lexing.name ≡ L.name }
+    requires lexing_parts { lexing.parts ≡ L.parts }
+    requires lexing_some { 0 < lexing.parts }
+    requires placing_name { placing.name ≡ M.name }
+    requires placing_parts { placing.parts ≡ M.parts }
+    requires placing_some { 0 < placing.parts }
+    ensures run { IsScriptBegun directory.now octets.now (I.rest input.old) (I.rest input.new)
+        (I.faults input.old) (I.faults input.new)
+        (held_of O.Sink out.old) (held_of O.Sink out.new) result }
+    ensures steady { I.is_steady input.old → result ≢ Status.ReadFault }
+    ensures complete { IsAnsweredWhole (I.rest input.old)
+        (HasRisen (I.faults input.old) (I.faults input.new))
+        (HasRisen (O.faults out.old) (O.faults out.new)) result }
+{
+    let mut lexed = Steps::<L>::start(lexing);
+    let mut placed = Steps::<M>::start(placing);
+    match Engine::open(alloc, directory, octets, &mut lexed, &mut placed) {
+        Ok(mut engine) => {
+            // Its directory places the segments of messages in the trees of every text.
+            let _directory = engine.directory();
+            answer_script(alloc, &mut engine, &mut lexed, &mut placed, input, out)
+        }
+        Err(_) => finish(out, &Made::memory_refused()),
     }
 }

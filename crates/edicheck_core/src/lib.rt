@@ -1,8 +1,17 @@
 //! All that the program does, over any source, sink and shelf.
 #![tactic(auto)]
 
+mod about;
+mod check;
+mod contrl;
+mod decide;
+mod drill;
 mod edit;
+mod help;
+mod listing;
 mod program;
+mod tables;
+mod words;
 
 pub use program::{refuse_memory, run};
-pub use script_answers::Status;
+pub use run_outcome::Status;

@@ -2,27 +2,27 @@
 ghost use Rattle.std.specs.Prelude.{◌≡◌, ◌≢◌, ◌⊎◌, ◌≤◌, ℕ, List, Option, false, true, length, Some, IfSome};
 ghost use Rattle.std.specs.Option.{option_map};
 ghost use Rattle.edi_ports.specs.Faults.{HasRisen};
-ghost use Rattle.script_answers.specs.Finish.{IsFinish};
-ghost use Rattle.script_answers.specs.Held.{held_of};
-ghost use Rattle.script_answers.specs.Outcome.{Outcome, memory_refused};
+ghost use Rattle.run_outcome.specs.Finish.{IsFinish};
+ghost use Rattle.run_outcome.specs.Held.{held_of};
+ghost use Rattle.run_outcome.specs.Outcome.{Outcome, memory_refused};
 ghost use Rattle.script_answers.specs.Script.{IsAnsweredWhole};
-ghost use Rattle.run_opening.specs.Opening.{IsToldOpening, Opened};
-ghost use Rattle.word_forms.specs.Form.{Asked, Edit, form_of, form_shown, needs_of};
-ghost use Rattle.word_forms.specs.Lawful.{IsLawful};
-ghost use Rattle.form_outcomes.specs.Inputs.{inputs_of};
+ghost use Rattle.run_outcome.specs.Opening.{IsToldOpening, Opened};
+ghost use Rattle.edicheck_core.specs.Form.{Asked, Edit, form_of, form_shown, needs_of};
+ghost use Rattle.edicheck_core.specs.Lawful.{IsLawful};
+ghost use Rattle.edicheck_core.specs.Inputs.{inputs_of};
 ghost use Rattle.edicheck_core.specs.Answer.{IsAnswer, IsSettled};
-ghost use Rattle.form_outcomes.specs.Due.{HasFailed};
-ghost use Rattle.form_outcomes.specs.Made.{made_by};
-ghost use Rattle.form_outcomes.specs.Plain.{IsPlain};
+ghost use Rattle.edicheck_core.specs.Due.{HasFailed};
+ghost use Rattle.edicheck_core.specs.Made.{made_by};
+ghost use Rattle.edicheck_core.specs.Plain.{IsPlain};
 
 use crate::Status;
+use crate::decide::decide;
 use crate::edit::edit_text;
+use crate::words::{Form, read_form};
 use edi_ports::{Shelf, Sink, Source};
 use edi_tables::Chunk;
-use form_outcomes::decide;
-use run_opening::{Made, finish};
+use run_outcome::{Made, finish};
 use std::alloc::Global;
-use word_forms::{Form, read_form};
 
 /// Does what the words ask for, and tells how it ended.
 ///

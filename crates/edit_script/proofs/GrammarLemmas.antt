@@ -4,17 +4,17 @@ use Rattle.contrl_segments.specs.declared.stamp.Stamp.{Stamp}
 use Rattle.contrl_segments.specs.Stamp.{stamp_text}
 use Rattle.edit_script.specs.declared.command.Command.{Command}
 use Rattle.edit_script.specs.declared.command.Command.TheVariants as command
-use Rattle.script_words.specs.declared.name.Name.{Name}
-use Rattle.script_words.specs.declared.name.Name.TheVariants.{Replace, Errors, Tree, Contrl, Text, End}
+use Rattle.edit_script.specs.declared.name.Name.{Name}
+use Rattle.edit_script.specs.declared.name.Name.TheVariants.{Replace, Errors, Tree, Contrl, Text, End}
 use Rattle.edit_script.specs.Command.{command_text, IsTextOf}
 use Rattle.edit_script.specs.Rest.{name_of, rest_text, IsRestText}
-use Rattle.script_words.specs.Texts.{name_text, IsNameText, IsNumberText, IsStampText, IsReferenceText, IsPutText}
-use Rattle.script_words.proofs.ChainLemmas.{IsChain, chain_once}
-use Rattle.script_words.proofs.OnceLemmas.{IsOnce}
-use Rattle.script_words.proofs.NameLemmas.{name_once}
-use Rattle.script_words.proofs.NumberLemmas.{number_once}
-use Rattle.script_words.proofs.PartLemmas.{ended, put_once, stamp_once}
-use Rattle.script_words.proofs.ReferenceLemmas.{reference_once}
+use Rattle.edit_script.specs.Texts.{name_text, IsNameText, IsNumberText, IsStampText, IsReferenceText, IsPutText}
+use Rattle.edit_script.proofs.ChainLemmas.{IsChain, chain_once}
+use Rattle.edit_script.proofs.OnceLemmas.{IsOnce}
+use Rattle.edit_script.proofs.NameLemmas.{name_once}
+use Rattle.edit_script.proofs.NumberLemmas.{number_once}
+use Rattle.edit_script.proofs.PartLemmas.{ended, put_once, stamp_once}
+use Rattle.edit_script.proofs.ReferenceLemmas.{reference_once}
 
 -- ---- what follows `contrl`
 

@@ -1,2 +1,12 @@
+pub mod ChainLemmas
+pub mod DataLemmas
+pub mod DigitLemmas
+pub mod EndedLemmas
 pub mod GrammarLemmas
+pub mod NameLemmas
+pub mod NumberLemmas
+pub mod OnceLemmas
+pub mod PartLemmas
+pub mod ReadingLemmas
+pub mod ReferenceLemmas
 pub mod ScriptLemmas

@@ -7,9 +7,9 @@ use Rattle.edit_script.specs.declared.command.Command.TheVariants.{Replace, Erro
 use Rattle.edit_script.specs.Command.{command_text, IsCommand, IsTextOf, IsPart, BeginsNone, IsBadLine}
 use Rattle.edit_script.specs.Script.{script_text, AreCommands}
 use Rattle.edit_script.proofs.GrammarLemmas.{command_once}
-use Rattle.script_words.proofs.DigitLemmas.{has_all}
-use Rattle.script_words.proofs.OnceLemmas.{fronts, no_whole}
-use Rattle.script_words.proofs.ReferenceLemmas.{reference_has}
+use Rattle.edit_script.proofs.DigitLemmas.{has_all}
+use Rattle.edit_script.proofs.OnceLemmas.{fronts, no_whole}
+use Rattle.edit_script.proofs.ReferenceLemmas.{reference_has}
 
 -- ---- the length of a command
 

@@ -1,4 +1,8 @@
+pub mod Beginnings
 pub mod Command
 pub mod Next
+pub mod Reading
 pub mod Rest
 pub mod Script
+pub mod Stop
+pub mod Texts

@@ -1,10 +1,11 @@
 -- What a reader of a script answers.
-use Rattle.std.specs.Prelude.{◌≡◌, ◌<◌, ◌+◌, ℕ, List, length, Option, Result, Ok, Err}
+use Rattle.std.specs.Prelude.{◌≡◌, ◌<◌, ◌+◌, ℕ, length, Option, Result, Ok, Err}
+use Rattle.edi_tables.specs.Octets.{Octets}
 use Rattle.edi_ports.specs.Read.{HasTaken}
 use Rattle.edit_script.specs.declared.command.Command.{Command}
-use Rattle.script_words.specs.declared.stop.ScriptStop.{ScriptStop}
-use Rattle.script_words.specs.declared.stop.ScriptStop.TheVariants.{BadLine, CutShort, TooLong, Fault, Memory}
-use Rattle.script_words.specs.Reading.{IsAtEnd}
+use Rattle.edit_script.specs.declared.stop.ScriptStop.{ScriptStop}
+use Rattle.edit_script.specs.declared.stop.ScriptStop.TheVariants.{BadLine, CutShort, TooLong, Fault, Memory}
+use Rattle.edit_script.specs.Reading.{IsAtEnd}
 use Rattle.edit_script.specs.Command.{IsTextOf, IsPart, IsBadLine}
 
 -- a reader: how many octets it may still take, and the number of the next command, from 1
@@ -14,7 +15,7 @@ pub record Reader : Type 0 where
 
 -- what was taken: the command's text; a bad line, as far as it tells itself; a part of a command, at the source's end;
 -- one after which no octet may be taken; one at a fault, after which some may; one for which memory was refused
-abbrev pub IsAnswer : Reader → List ℕ → Type 0 → Result Command ScriptStop → Type 0
+abbrev pub IsAnswer : Reader → Octets → Type 0 → Result Command ScriptStop → Type 0
 IsAnswer reader taken at_end (Ok c) = IsTextOf c taken
 IsAnswer reader taken at_end (Err (BadLine number)) = (number ≡ reader.number) × IsBadLine taken
 IsAnswer reader taken at_end (Err (CutShort number)) =
@@ -29,9 +30,9 @@ number_after number (Ok c) = number + 1
 number_after number (Err stop) = number
 
 -- octets were taken from the front of the rest, no more than may be, and they tell the answer
-pub record IsNext (before now : Option (List ℕ)) (reader after : Reader)
+pub record IsNext (before now : Option Octets) (reader after : Reader)
     (result : Result Command ScriptStop) : Type 0 where
-  pub taken : List ℕ
+  pub taken : Octets
   pub from_front : HasTaken before taken now
   pub left : after.left + length taken ≡ reader.left
   pub number : after.number ≡ number_after reader.number result

@@ -1,10 +1,11 @@
 -- What follows the name of a command. Only bodies need these words.
-use Rattle.std.specs.Prelude.{◌≡◌, List, [], ◌∷◌, ◌++◌, ℕ, length, decimal}
+use Rattle.std.specs.Prelude.{◌≡◌, [], ◌∷◌, ◌++◌, length, decimal}
+use Rattle.edi_tables.specs.Octets.{Octets}
 use Rattle.contrl_segments.specs.Stamp.{stamp_text}
 use Rattle.edit_script.specs.declared.command.Command.{Command}
 use Rattle.edit_script.specs.declared.command.Command.TheVariants as command
-use Rattle.script_words.specs.declared.name.Name.{Name}
-use Rattle.script_words.specs.declared.name.Name.TheVariants.{Replace, Errors, Tree, Contrl, Text, End}
+use Rattle.edit_script.specs.declared.name.Name.{Name}
+use Rattle.edit_script.specs.declared.name.Name.TheVariants.{Replace, Errors, Tree, Contrl, Text, End}
 use Rattle.edit_script.specs.Command.{IsCommand}
 
 -- the name of a command
@@ -17,7 +18,7 @@ name_of command.Text = Text
 name_of command.End = End
 
 -- what follows a command's name
-abbrev pub rest_text : Command → List ℕ
+abbrev pub rest_text : Command → Octets
 rest_text (command.Replace at cut put) =
     decimal at ++ 32 ∷ (decimal cut ++ 32 ∷ (decimal (length put) ++ 10 ∷ (put ++ 10 ∷ [])))
 rest_text command.Errors = []
@@ -26,5 +27,5 @@ rest_text (command.Contrl stamp reference) = stamp_text stamp ++ 32 ∷ (referen
 rest_text command.Text = []
 rest_text command.End = []
 
-abbrev pub IsRestText : Name → Command → List ℕ → Type 0
+abbrev pub IsRestText : Name → Command → Octets → Type 0
 IsRestText name c text = (name_of c ≡ name) × IsCommand c × (text ≡ rest_text c)

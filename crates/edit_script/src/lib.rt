@@ -1,9 +1,14 @@
-//! The script of an edit: its commands, read from any source.
+//! The script of an edit: its commands, and their words, read from any source.
 #![tactic(auto)]
 
+mod allowance;
 mod command;
+mod data;
+mod name;
 mod reader;
+mod stop;
+mod words;
 
 pub use command::Command;
 pub use reader::ScriptReader;
-pub use script_words::ScriptStop;
+pub use stop::ScriptStop;

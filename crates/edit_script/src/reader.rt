@@ -3,15 +3,17 @@ ghost use Rattle.std.specs.Prelude.{◌≡◌, ◌≤◌, IsErrOf};
 ghost use Rattle.edi_ports.specs.Faults.{HasRisen};
 ghost use Rattle.edit_script.specs.Command.{IsTextOf};
 ghost use Rattle.edit_script.specs.Next.{IsNext};
-ghost use Rattle.script_words.specs.Reading.{Reads};
+ghost use Rattle.edit_script.specs.Reading.{Reads};
 ghost use Rattle.edit_script.specs.Rest.{IsRestText};
-ghost use Rattle.script_words.specs.declared.name.Name.TheVariants as name;
+ghost use Rattle.edit_script.specs.declared.name.Name.TheVariants as name;
 
+use crate::allowance::Allowance;
+use crate::data::take_put;
+use crate::name::{Name, take_name};
+use crate::stop::Halt;
+use crate::words::{take_number, take_reference, take_stamp};
 use crate::{Command, ScriptStop};
 use edi_ports::Source;
-use script_words::{
-    Allowance, Halt, Name, take_name, take_number, take_put, take_reference, take_stamp,
-};
 use std::alloc::Global;
 use std::marker::Model;
 

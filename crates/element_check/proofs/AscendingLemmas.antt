@@ -10,11 +10,11 @@ use Rattle.edi_tables.specs.declared.segment.ItemDef.{ItemDef}
 use Rattle.error_ledger.specs.declared.kind.Kind.{Kind}
 use Rattle.error_ledger.specs.Kinds.{number_of}
 use Rattle.error_ledger.specs.Order.{compare_keys}
-use Rattle.dir_parts.specs.declared.parts.Parts.{Parts}
+use Rattle.dir_compile.specs.declared.parts.Parts.{Parts}
 use Rattle.seg_lexer.specs.Fields.{Component}
 use Rattle.seg_lexer.specs.Tag.{tag_of}
 use Rattle.seg_lexer.specs.declared.context.Context.{Context}
-use Rattle.element_check.specs.Ascending.{AreAscending, place_of}
+use Rattle.element_check.specs.Ascending.{AreAscending, order_key_of}
 use Rattle.element_check.specs.Local.{element_errors, elements_errors, element_kinds, error_at, errors_by, errors_tagged, is_broken_at, is_broken_whole, last_component, local_errors_of, values_in}
 use Rattle.element_check.specs.Rules.{SegmentRules, rules_of}
 use Rattle.element_check.specs.declared.error.LocalError.{LocalError}
@@ -83,7 +83,7 @@ module _ {X : Type 0} (Before : X → X → Type 0) (P : X → Type 0) (place : 
 
 -- one error is before another: by its element, its component, or its kind
 abbrev IsBefore : LocalError → LocalError → Type 0
-IsBefore x y = compare_keys (place_of x) (place_of y) ≡ Less
+IsBefore x y = compare_keys (order_key_of x) (order_key_of y) ≡ Less
 
 less : (a b : ℕ) → a < b → nat_cmp a b ≡ Less
 less a b h = grind (arith, nat_tests)
@@ -183,7 +183,7 @@ sorted-rising : (xs : List LocalError) → Rises IsBefore xs → AreAscending xs
 unfolding IsStrictlySortedBy
 sorted-rising [] up = tt
 sorted-rising (x ∷ xs) up =
-    (each-map (IsBefore x) (λ y. compare_keys (place_of x) y ≡ Less) place_of (λ y h. h) xs up.0, sorted-rising xs up.1)
+    (each-map (IsBefore x) (λ y. compare_keys (order_key_of x) y ≡ Less) order_key_of (λ y h. h) xs up.0, sorted-rising xs up.1)
 
 -- the local errors of a segment ascend
 pub local_errors-ascending : (parts : Parts) (context : Context) (components : List Component) → AreAscending (local_errors_of parts context components)

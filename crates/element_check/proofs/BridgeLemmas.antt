@@ -12,10 +12,10 @@ use Rattle.edi_tables.specs.declared.segment.ItemDef.{ItemDef}
 use Rattle.error_ledger.specs.declared.kind.Kind.TheVariants.{BadTag, TooManyElements, UnknownSegment}
 use Rattle.seg_lexer.specs.Fields.{Component, IsInOrder, PlacedComponent, unplaced}
 use Rattle.seg_lexer.proofs.OrderLemmas.{IsInOrder-lower}
-use Rattle.element_check.specs.Local.{element_errors, elements_errors, error_at, errors_by, errors_tagged, is_filled, last_written, local_errors_of, values_in}
+use Rattle.element_check.specs.Local.{element_errors, elements_errors, error_at, errors_by, errors_tagged, has_octet, last_written, local_errors_of, values_in}
 use Rattle.seg_lexer.specs.Tag.{past_tag_field, tag_of}
 use Rattle.seg_lexer.specs.declared.context.Context.{Context}
-use Rattle.dir_parts.specs.declared.parts.Parts.{Parts}
+use Rattle.dir_compile.specs.declared.parts.Parts.{Parts}
 use Rattle.element_check.specs.Rules.{SegmentRules, rules_of}
 use Rattle.element_check.specs.Streams.{after_front, errors_past, errors_ruled, front_values, item_errors, items_errors, surplus_elements}
 use Rattle.element_check.specs.declared.error.LocalError.{LocalError}
@@ -110,7 +110,7 @@ after-last element (x ∷ xs) =
 surplus-none : (n : ℕ) (xs : List Component) → last_written xs ≤ n → surplus_elements n xs ≡ []
 surplus-none n [] le = refl
 surplus-none n (x ∷ xs) le =
-    ap (λ b. cond (b && is_filled x.octets) (error_at x.element 0 TooManyElements ∷ surplus_elements x.element xs) (surplus_elements n xs)) (is-false n x.element (omega arith))
+    ap (λ b. cond (b && has_octet x.octets) (error_at x.element 0 TooManyElements ∷ surplus_elements x.element xs) (surplus_elements n xs)) (is-false n x.element (omega arith))
     ∙ surplus-none n xs (omega arith)
 
 -- the first component that is left, by tests of its element
@@ -118,10 +118,10 @@ abbrev surplus_by : Bool → Bool → ℕ → Component → List Component → L
 surplus_by later filled n x xs = cond (later && filled) (error_at x.element 0 TooManyElements ∷ surplus_elements x.element xs) (surplus_elements n xs)
 
 abbrev told_by : ℕ → List (List ℕ) → List LocalError
-told_by n vs = when (list_any is_filled vs) (error_at n 0 TooManyElements)
+told_by n vs = when (list_any has_octet vs) (error_at n 0 TooManyElements)
 
-skip : (b : Bool) (n : ℕ) (x : Component) (xs : List Component) → is_filled x.octets ≡ false → told_by n (values_by b x xs n) ≡ told_by n (values_in xs n)
-skip true n x xs empty = ap (λ f. when (f || list_any is_filled (values_in xs n)) (error_at n 0 TooManyElements)) empty
+skip : (b : Bool) (n : ℕ) (x : Component) (xs : List Component) → has_octet x.octets ≡ false → told_by n (values_by b x xs n) ≡ told_by n (values_in xs n)
+skip true n x xs empty = ap (λ f. when (f || list_any has_octet (values_in xs n)) (error_at n 0 TooManyElements)) empty
 skip false n x xs empty = refl
 
 never : (later : Bool) (n : ℕ) (x : Component) (xs : List Component) → surplus_by later false n x xs ≡ surplus_elements n xs
@@ -131,29 +131,29 @@ never false n x xs = refl
 -- the next element is told, or it isn't
 surplus-step : (low n : ℕ) (xs : List Component) → IsInOrder low xs → told_by (n + 1) (values_in xs (n + 1)) ++ surplus_elements (n + 1) xs ≡ surplus_elements n xs
 surplus-step low n [] order = refl
-surplus-step low n (x ∷ xs) order = elim (cases_Bool (is_filled x.octets)) [
+surplus-step low n (x ∷ xs) order = elim (cases_Bool (has_octet x.octets)) [
   | inl filled ↦ elim (cases_Bool (eqb x.element (n + 1))) [
     | inl same ↦
         let is : x.element ≡ n + 1 = grind (arith, nat_tests) in
         ap (λ b. told_by (n + 1) (values_by b x xs (n + 1)) ++ surplus_elements (n + 1) (x ∷ xs)) same
-        ∙ ap (λ b. when (b || list_any is_filled (values_in xs (n + 1))) (error_at (n + 1) 0 TooManyElements) ++ surplus_elements (n + 1) (x ∷ xs)) filled
-        ∙ ap (λ b. error_at (n + 1) 0 TooManyElements ∷ surplus_by b (is_filled x.octets) (n + 1) x xs) (is-false (n + 1) x.element (omega arith))
+        ∙ ap (λ b. when (b || list_any has_octet (values_in xs (n + 1))) (error_at (n + 1) 0 TooManyElements) ++ surplus_elements (n + 1) (x ∷ xs)) filled
+        ∙ ap (λ b. error_at (n + 1) 0 TooManyElements ∷ surplus_by b (has_octet x.octets) (n + 1) x xs) (is-false (n + 1) x.element (omega arith))
         ∙ ap (λ (e : ℕ). error_at e 0 TooManyElements ∷ surplus_elements e xs) (sym is)
-        ∙ sym (ap (λ b. surplus_by b (is_filled x.octets) n x xs) (is-true n x.element (omega arith)) ∙ ap (λ b. surplus_by true b n x xs) filled)
+        ∙ sym (ap (λ b. surplus_by b (has_octet x.octets) n x xs) (is-true n x.element (omega arith)) ∙ ap (λ b. surplus_by true b n x xs) filled)
     | inr differs ↦ elim (cases_Bool (ltb n x.element)) [
       | inl later ↦
           let above : n + 1 < x.element = grind (arith, nat_tests) in
           ap (λ b. told_by (n + 1) (values_by b x xs (n + 1)) ++ surplus_elements (n + 1) (x ∷ xs)) differs
           ∙ ap (λ vs. told_by (n + 1) vs ++ surplus_elements (n + 1) (x ∷ xs)) (values-none x.element (n + 1) xs order.1 above)
-          ∙ ap (λ b. surplus_by b (is_filled x.octets) (n + 1) x xs) (is-true (n + 1) x.element above)
+          ∙ ap (λ b. surplus_by b (has_octet x.octets) (n + 1) x xs) (is-true (n + 1) x.element above)
           ∙ ap (λ b. surplus_by true b (n + 1) x xs) filled
-          ∙ sym (ap (λ b. surplus_by b (is_filled x.octets) n x xs) later ∙ ap (λ b. surplus_by true b n x xs) filled)
+          ∙ sym (ap (λ b. surplus_by b (has_octet x.octets) n x xs) later ∙ ap (λ b. surplus_by true b n x xs) filled)
       | inr before ↦
           let below : x.element < n + 1 = grind (arith, nat_tests) in
           ap (λ b. told_by (n + 1) (values_by b x xs (n + 1)) ++ surplus_elements (n + 1) (x ∷ xs)) differs
-          ∙ ap (λ b. told_by (n + 1) (values_in xs (n + 1)) ++ surplus_by b (is_filled x.octets) (n + 1) x xs) (is-false (n + 1) x.element (omega arith))
+          ∙ ap (λ b. told_by (n + 1) (values_in xs (n + 1)) ++ surplus_by b (has_octet x.octets) (n + 1) x xs) (is-false (n + 1) x.element (omega arith))
           ∙ surplus-step x.element n xs order.1
-          ∙ sym (ap (λ b. surplus_by b (is_filled x.octets) n x xs) before)
+          ∙ sym (ap (λ b. surplus_by b (has_octet x.octets) n x xs) before)
     ]
   ]
   | inr empty ↦

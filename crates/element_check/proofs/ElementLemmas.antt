@@ -10,10 +10,10 @@ use Rattle.edi_tables.specs.declared.segment.ItemDef.TheVariants.{Alone, Composi
 use Rattle.edi_tables.specs.declared.element.Code.{Code}
 use Rattle.error_ledger.specs.declared.kind.Kind.{Kind}
 use Rattle.error_ledger.specs.declared.kind.Kind.TheVariants.{TooManyElements, TooManyComponents, Missing}
-use Rattle.element_check.specs.Local.{element_errors, element_kinds, error_at, errors_at, errors_whole, is_broken_part, is_filled, is_list_named, list_in, parts_in, value_at}
+use Rattle.element_check.specs.Local.{element_errors, element_kinds, error_at, component_errors_at, errors_whole, is_broken_part, has_octet, is_list_named, list_in, parts_in, value_at}
 use Rattle.element_check.specs.Rules.{SegmentRules, list_of, parts_of}
 use Rattle.element_check.specs.Streams.{alone_errors, composite_errors, first_value, item_errors, later_values, part_errors, parts_errors, surplus_components, told_errors}
-use Rattle.value_check.specs.Value.{fails, value_kinds}
+use Rattle.element_check.specs.Value.{fails, value_kinds}
 use Rattle.element_check.specs.declared.error.LocalError.{LocalError}
 
 and_false : (b : Bool) → (b && false) ≡ false
@@ -107,13 +107,13 @@ module _ (rules : SegmentRules) (item : ItemDef) (values : List (List ℕ)) (ele
 
   -- the components past the last part
   surplus-walk : (i : ℕ) (ws : List (List ℕ)) → HoldsFrom (parts_in rules item) i [] → HoldsFrom values i ws
-      → flat_map (errors_at rules (Some item) values element) (range_with_len (i + 1) (length ws)) ≡ surplus_components element (i + 1) ws
+      → flat_map (component_errors_at rules (Some item) values element) (range_with_len (i + 1) (length ws)) ≡ surplus_components element (i + 1) ws
   surplus-walk i [] parts_none values_are = refl
   surplus-walk i (w ∷ ws) parts_none values_are =
-      ap (λ o. at_place (i + 1) o ++ flat_map (errors_at rules (Some item) values element) (range_with_len (i + 1 + 1) (length ws))) (holds-here (parts_in rules item) i [] parts_none)
-      ∙ ap (λ es. es ++ flat_map (errors_at rules (Some item) values element) (range_with_len (i + 1 + 1) (length ws))) (one-kind element (i + 1) TooManyComponents (is_filled (value_at values (i + 1))))
-      ∙ ap (λ (v : List ℕ). when (is_filled v) (error_at element (i + 1) TooManyComponents) ++ flat_map (errors_at rules (Some item) values element) (range_with_len (i + 1 + 1) (length ws))) (value-here values i (w ∷ ws) values_are)
-      ∙ ap (λ es. when (is_filled w) (error_at element (i + 1) TooManyComponents) ++ es) (surplus-walk (i + 1) ws (holds-none (parts_in rules item) i parts_none) (holds-later values i w ws values_are))
+      ap (λ o. at_place (i + 1) o ++ flat_map (component_errors_at rules (Some item) values element) (range_with_len (i + 1 + 1) (length ws))) (holds-here (parts_in rules item) i [] parts_none)
+      ∙ ap (λ es. es ++ flat_map (component_errors_at rules (Some item) values element) (range_with_len (i + 1 + 1) (length ws))) (one-kind element (i + 1) TooManyComponents (has_octet (value_at values (i + 1))))
+      ∙ ap (λ (v : List ℕ). when (has_octet v) (error_at element (i + 1) TooManyComponents) ++ flat_map (component_errors_at rules (Some item) values element) (range_with_len (i + 1 + 1) (length ws))) (value-here values i (w ∷ ws) values_are)
+      ∙ ap (λ es. when (has_octet w) (error_at element (i + 1) TooManyComponents) ++ es) (surplus-walk (i + 1) ws (holds-none (parts_in rules item) i parts_none) (holds-later values i w ws values_are))
 
 -- how many components parts and values make, whichever are more
 abbrev span : List PartDef → List (List ℕ) → ℕ
@@ -139,44 +139,44 @@ module _ (rules : SegmentRules) (code : Code) (must : Bool) (values : List (List
   results part value kind = fails rules.context part.repr (list_in rules parts values part) value kind
 
   -- the parts of a composite and what is past them
-  parts-walk : (i : ℕ) (ps : List PartDef) (ws : List (List ℕ)) → list_any is_filled values ≡ true → HoldsFrom parts i ps → HoldsFrom values i ws
-      → flat_map (errors_at rules (Some composite) values element) (range_with_len (i + 1) (span ps ws)) ≡ parts_errors rules element (i + 1) named ps ws
+  parts-walk : (i : ℕ) (ps : List PartDef) (ws : List (List ℕ)) → list_any has_octet values ≡ true → HoldsFrom parts i ps → HoldsFrom values i ws
+      → flat_map (component_errors_at rules (Some composite) values element) (range_with_len (i + 1) (span ps ws)) ≡ parts_errors rules element (i + 1) named ps ws
   parts-walk i [] ws any parts_are values_are = surplus-walk rules composite values element i ws parts_are values_are
   parts-walk i (p ∷ ps) ws any parts_are values_are =
-      ap (λ o. at_place rules composite values element (i + 1) o ++ flat_map (errors_at rules (Some composite) values element) (range_with_len (i + 1 + 1) (span ps (later_values ws)))) (holds-here parts i (p ∷ ps) parts_are)
-      ∙ ap (λ es. es ++ flat_map (errors_at rules (Some composite) values element) (range_with_len (i + 1 + 1) (span ps (later_values ws))))
-      (part-place element (i + 1) (list_any is_filled values) p.must (is_filled (value_at values (i + 1))) (results p (value_at values (i + 1))) any)
-      ∙ ap (λ (v : List ℕ). part_errors rules element (i + 1) p named v ++ flat_map (errors_at rules (Some composite) values element) (range_with_len (i + 1 + 1) (span ps (later_values ws)))) (value-here values i ws values_are)
+      ap (λ o. at_place rules composite values element (i + 1) o ++ flat_map (component_errors_at rules (Some composite) values element) (range_with_len (i + 1 + 1) (span ps (later_values ws)))) (holds-here parts i (p ∷ ps) parts_are)
+      ∙ ap (λ es. es ++ flat_map (component_errors_at rules (Some composite) values element) (range_with_len (i + 1 + 1) (span ps (later_values ws))))
+      (part-place element (i + 1) (list_any has_octet values) p.must (has_octet (value_at values (i + 1))) (results p (value_at values (i + 1))) any)
+      ∙ ap (λ (v : List ℕ). part_errors rules element (i + 1) p named v ++ flat_map (component_errors_at rules (Some composite) values element) (range_with_len (i + 1 + 1) (span ps (later_values ws)))) (value-here values i ws values_are)
       ∙ ap (λ es. part_errors rules element (i + 1) p named (first_value ws) ++ es) (parts-walk (i + 1) ps (later_values ws) any (holds-later parts i p ps parts_are) (holds-values values i ws values_are))
 
   -- a value of an element without a filled component is empty
-  none-filled : (vs : List (List ℕ)) (i : ℕ) → list_any is_filled vs ≡ false → is_filled (unwrap_or (slice_get vs i) []) ≡ false
+  none-filled : (vs : List (List ℕ)) (i : ℕ) → list_any has_octet vs ≡ false → has_octet (unwrap_or (slice_get vs i) []) ≡ false
   none-filled [] i h = refl
-  none-filled (v ∷ vs) zero h = none-head (is_filled v) (list_any is_filled vs) h
-  none-filled (v ∷ vs) (suc i) h = none-filled vs i (none-tail (is_filled v) (list_any is_filled vs) h)
+  none-filled (v ∷ vs) zero h = none-head (has_octet v) (list_any has_octet vs) h
+  none-filled (v ∷ vs) (suc i) h = none-filled vs i (none-tail (has_octet v) (list_any has_octet vs) h)
 
-  empty-place : (component : ℕ) (o : Option PartDef) → list_any is_filled values ≡ false → is_filled (value_at values component) ≡ false → at_place rules composite values element component o ≡ []
-  empty-place component None none empty = one-kind element component TooManyComponents (is_filled (value_at values component)) ∙ ap (λ b. when b (error_at element component TooManyComponents)) empty
+  empty-place : (component : ℕ) (o : Option PartDef) → list_any has_octet values ≡ false → has_octet (value_at values component) ≡ false → at_place rules composite values element component o ≡ []
+  empty-place component None none empty = one-kind element component TooManyComponents (has_octet (value_at values component)) ∙ ap (λ b. when b (error_at element component TooManyComponents)) empty
   empty-place component (Some part) none empty =
-      ap (λ (a : Bool). value_place element component ((a && part.must) && not (is_filled (value_at values component))) (is_filled (value_at values component)) (results part (value_at values component))) none
+      ap (λ (a : Bool). value_place element component ((a && part.must) && not (has_octet (value_at values component))) (has_octet (value_at values component)) (results part (value_at values component))) none
       ∙ ap (λ (b : Bool). value_place element component false b (results part (value_at values component))) empty
 
   pub element-composite : element_errors rules (Some composite) values element ≡ composite_errors rules element must parts values
   unfolding element_errors
-  element-composite = elim (cases_Bool (list_any is_filled values)) [
+  element-composite = elim (cases_Bool (list_any has_octet values)) [
     | inl any ↦
-        ap (λ es. es ++ flat_map (errors_at rules (Some composite) values element) (range_with_len 1 (max (length parts) (length values)))) (one-kind element 0 Missing (must && not (list_any is_filled values)))
-        ∙ ap (λ (a : Bool). when (must && not a) (error_at element 0 Missing) ++ flat_map (errors_at rules (Some composite) values element) (range_with_len 1 (max (length parts) (length values)))) any
-        ∙ ap (λ (b : Bool). when b (error_at element 0 Missing) ++ flat_map (errors_at rules (Some composite) values element) (range_with_len 1 (max (length parts) (length values)))) (and_false must)
-        ∙ ap (λ (n : ℕ). flat_map (errors_at rules (Some composite) values element) (range_with_len 1 n)) (max-span parts values)
+        ap (λ es. es ++ flat_map (component_errors_at rules (Some composite) values element) (range_with_len 1 (max (length parts) (length values)))) (one-kind element 0 Missing (must && not (list_any has_octet values)))
+        ∙ ap (λ (a : Bool). when (must && not a) (error_at element 0 Missing) ++ flat_map (component_errors_at rules (Some composite) values element) (range_with_len 1 (max (length parts) (length values)))) any
+        ∙ ap (λ (b : Bool). when b (error_at element 0 Missing) ++ flat_map (component_errors_at rules (Some composite) values element) (range_with_len 1 (max (length parts) (length values)))) (and_false must)
+        ∙ ap (λ (n : ℕ). flat_map (component_errors_at rules (Some composite) values element) (range_with_len 1 n)) (max-span parts values)
         ∙ parts-walk 0 parts values any (λ k. ap (slice_get parts) (zero-add k)) (λ k. ap (slice_get values) (zero-add k))
         ∙ sym (ap (λ (a : Bool). cond a (parts_errors rules element 1 named parts values) (when must (error_at element 0 Missing))) any)
     | inr none ↦
         ap (λ es. errors_whole rules (Some composite) values element ++ es)
-        (flat_map-empty (errors_at rules (Some composite) values element) (range_with_len 1 (max (length parts) (length values)))
+        (flat_map-empty (component_errors_at rules (Some composite) values element) (range_with_len 1 (max (length parts) (length values)))
         (λ c. empty-place c (slice_get parts (c - 1)) none (none-filled values (c - 1) none)))
         ∙ append-nil (errors_whole rules (Some composite) values element)
-        ∙ one-kind element 0 Missing (must && not (list_any is_filled values))
+        ∙ one-kind element 0 Missing (must && not (list_any has_octet values))
         ∙ ap (λ (a : Bool). when (must && not a) (error_at element 0 Missing)) none
         ∙ ap (λ (b : Bool). when b (error_at element 0 Missing)) (and_true must)
         ∙ sym (ap (λ (a : Bool). cond a (parts_errors rules element 1 named parts values) (when must (error_at element 0 Missing))) none)
@@ -190,17 +190,17 @@ module _ (rules : SegmentRules) (part : PartDef) (values : List (List ℕ)) (ele
   first-at = first-value values
 
   -- past the one part of a stand-alone data element
-  alone-walk : (n : ℕ) → n ≡ span (part ∷ []) values → flat_map (errors_at rules (Some alone) values element) (range_with_len 1 n) ≡ surplus_components element 2 (later_values values)
+  alone-walk : (n : ℕ) → n ≡ span (part ∷ []) values → flat_map (component_errors_at rules (Some alone) values element) (range_with_len 1 n) ≡ surplus_components element 2 (later_values values)
   alone-walk n is =
-      ap (λ (m : ℕ). flat_map (errors_at rules (Some alone) values element) (range_with_len 1 m)) is
+      ap (λ (m : ℕ). flat_map (component_errors_at rules (Some alone) values element) (range_with_len 1 m)) is
       ∙ surplus-walk rules alone values element 1 (later_values values) (holds-later (part ∷ []) 0 part [] (λ k. ap (slice_get (part ∷ [])) (zero-add k))) (holds-values values 0 values (λ k. ap (slice_get values) (zero-add k)))
 
   pub element-alone : element_errors rules (Some alone) values element ≡ alone_errors rules element part values
   unfolding element_errors
   element-alone =
-      ap (λ es. es ++ flat_map (errors_at rules (Some alone) values element) (range_with_len 1 (max 1 (length values))))
-      (value-place element 0 part.must (is_filled (value_at values 1)) (fails rules.context part.repr (list_of rules part.code.octets) (value_at values 1)))
-      ∙ ap (λ (v : List ℕ). part_errors rules element 0 part false v ++ flat_map (errors_at rules (Some alone) values element) (range_with_len 1 (max 1 (length values)))) first-at
+      ap (λ es. es ++ flat_map (component_errors_at rules (Some alone) values element) (range_with_len 1 (max 1 (length values))))
+      (value-place element 0 part.must (has_octet (value_at values 1)) (fails rules.context part.repr (list_of rules part.code.octets) (value_at values 1)))
+      ∙ ap (λ (v : List ℕ). part_errors rules element 0 part false v ++ flat_map (component_errors_at rules (Some alone) values element) (range_with_len 1 (max 1 (length values)))) first-at
       ∙ ap (λ es. part_errors rules element 0 part false (first_value values) ++ es) (alone-walk (max 1 (length values)) (max-span (part ∷ []) values))
 
 -- the errors of an element that has an item
@@ -209,9 +209,9 @@ element-item rules (Alone part) values element = element-alone rules part values
 element-item rules (Composite code must) values element = element-composite rules code must values element
 
 -- the errors of an element past the last item
-pub element-past : (rules : SegmentRules) (values : List (List ℕ)) (element : ℕ) → element_errors rules None values element ≡ when (list_any is_filled values) (error_at element 0 TooManyElements)
+pub element-past : (rules : SegmentRules) (values : List (List ℕ)) (element : ℕ) → element_errors rules None values element ≡ when (list_any has_octet values) (error_at element 0 TooManyElements)
 unfolding element_errors
 element-past rules values element =
-    ap (λ es. errors_whole rules None values element ++ es) (flat_map-empty (errors_at rules None values element) (range_with_len 1 (length values)) (λ c. refl))
+    ap (λ es. errors_whole rules None values element ++ es) (flat_map-empty (component_errors_at rules None values element) (range_with_len 1 (length values)) (λ c. refl))
     ∙ append-nil (errors_whole rules None values element)
-    ∙ one-kind element 0 TooManyElements (list_any is_filled values)
+    ∙ one-kind element 0 TooManyElements (list_any has_octet values)

@@ -15,11 +15,11 @@ use Rattle.edi_tables.specs.declared.segment.ItemDef.{ItemDef}
 use Rattle.edi_tables.specs.declared.segment.SegmentDef.{SegmentDef}
 use Rattle.edi_tables.specs.Forms.{is_composite_code, is_composite_formed, is_count_formed, is_item_formed, is_part_formed, is_segment_formed}
 use Rattle.edi_tables.specs.Tag.{is_tag_of}
-use Rattle.dir_parts.specs.Compile.{composite_name, list_name, named_in, segment_name, value_name}
+use Rattle.dir_compile.specs.Compile.{composite_name, list_name, named_in, segment_name, value_name}
 use Rattle.dir_compile.specs.Directory.{IsDirectory}
-use Rattle.dir_parts.specs.declared.parts.Parts.{Parts}
-use Rattle.dir_parts.proofs.Apart.{named-is}
-use Rattle.dir_parts.proofs.AscendingLemmas.{Contains-from-Has}
+use Rattle.dir_compile.specs.declared.parts.Parts.{Parts}
+use Rattle.dir_compile.proofs.Apart.{named-is}
+use Rattle.dir_compile.proofs.AscendingLemmas.{Contains-from-Has}
 use Rattle.service_tables.specs.ServiceTables.{held_by, service_composites, service_items_of, service_parts_of, service_segments}
 use Rattle.seg_lexer.specs.declared.context.Context.{Context}
 use Rattle.element_check.specs.Rules.{SegmentRules, defined_rules, parts_by, parts_of, rules_of, service_rules}

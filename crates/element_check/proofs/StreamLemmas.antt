@@ -16,10 +16,10 @@ use Rattle.error_ledger.specs.declared.kind.Kind.{Kind}
 use Rattle.error_ledger.specs.declared.kind.Kind.TheVariants.{TooManyElements, TooManyComponents, Missing}
 use Rattle.seg_lexer.specs.Fields.{Component}
 use Rattle.seg_lexer.specs.declared.context.Context.{Context}
-use Rattle.element_check.specs.Local.{error_at, is_filled, is_list_named, names_list}
+use Rattle.element_check.specs.Local.{error_at, has_octet, is_list_named, names_list}
 use Rattle.element_check.specs.Rules.{SegmentRules, list_of}
 use Rattle.element_check.specs.Streams.{after_front, alone_errors, first_value, front_values, item_errors, items_errors, later_values, part_errors, parts_errors, surplus_components, surplus_elements, told_errors}
-use Rattle.value_check.specs.Value.{test_results}
+use Rattle.element_check.specs.Value.{test_results}
 use Rattle.element_check.specs.declared.error.LocalError.{LocalError}
 use Rattle.element_check.proofs.ErrorsLemmas.{full_step}
 
@@ -135,7 +135,7 @@ unnamed_list [] values none = refl
 unnamed_list (part ∷ parts) [] none = refl
 unnamed_list (part ∷ parts) (value ∷ values) none =
     let here : names_list part ≡ false = head_names_none (names_list part) (list_any names_list parts) none in
-    ap (λ b. (b && is_filled value) || is_list_named parts values) here
+    ap (λ b. (b && has_octet value) || is_list_named parts values) here
     ∙ unnamed_list parts values (tail_names_none (names_list part) (list_any names_list parts) none)
 
 -- the items of the rules, from place i on

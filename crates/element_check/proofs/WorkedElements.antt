@@ -3,19 +3,19 @@ use Rattle.std.proofs.Common.{◌≡◌, ℕ, List, [], ◌∷◌, refl}
 use Rattle.std.specs.Prelude.{codes}
 use Rattle.edi_tables.specs.declared.element.Class.TheVariants.{N, An}
 use Rattle.error_ledger.specs.declared.kind.Kind.TheVariants.{BadTag, UnknownSegment, TooManyElements, TooManyComponents, Missing, Repertoire, WrongType, Decimal, TooLong, TooShort, Code}
-use Rattle.dir_parts.specs.declared.parts.Parts.{Parts}
+use Rattle.dir_compile.specs.declared.parts.Parts.{Parts}
 use Rattle.seg_lexer.specs.Fields.{components_of, fields_of, separators_of, stretches}
-use Rattle.value_lexer.specs.Stretch.{places_that}
-use Rattle.value_lexer.specs.Released.{is_released, run_before, value_of}
+use Rattle.seg_lexer.specs.Stretch.{places_that}
+use Rattle.seg_lexer.specs.Released.{is_released, run_before, value_of}
 use Rattle.seg_lexer.specs.Service.{default_service}
 use Rattle.seg_lexer.specs.Tag.{tag_of}
 use Rattle.seg_lexer.specs.declared.context.Level.{Level}
 use Rattle.seg_lexer.specs.declared.context.Level.TheVariants.{A, B}
 use Rattle.service_tables.specs.ServiceTables.{C, M, alone, composite, exactly, part, service_items_of, service_parts_of, up_to}
 use Rattle.element_check.specs.Local.{element_errors, elements_errors, error_at, local_errors_of}
-use Rattle.value_check.specs.Repertoire.{is_in_level_a}
+use Rattle.element_check.specs.Repertoire.{is_in_level_a}
 use Rattle.element_check.specs.Rules.{list_of, parts_of, rules_of}
-use Rattle.value_check.specs.Value.{is_decimal}
+use Rattle.element_check.specs.Value.{is_decimal}
 use Rattle.element_check.specs.declared.error.LocalError.{LocalError}
 
 -- a directory of three segments, two composites and one code list

@@ -6,9 +6,9 @@ use Rattle.error_ledger.specs.Order.{compare_keys}
 use Rattle.element_check.specs.declared.error.LocalError.{LocalError}
 
 -- the three numbers that local errors are ordered by: element, component, and number of the kind
-abbrev pub place_of : LocalError → List ℕ
-place_of e = e.element ∷ e.component ∷ number_of e.kind ∷ []
+abbrev pub order_key_of : LocalError → List ℕ
+order_key_of e = e.element ∷ e.component ∷ number_of e.kind ∷ []
 
 -- local errors ascend: each is strictly before all later ones, so no two are of one kind at one place
 abbrev pub AreAscending : List LocalError → Type 0
-AreAscending errors = IsStrictlySortedBy compare_keys (map place_of errors)
+AreAscending errors = IsStrictlySortedBy compare_keys (map order_key_of errors)

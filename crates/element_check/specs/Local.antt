@@ -2,18 +2,19 @@
 use Rattle.std.specs.Prelude.{ℕ, ◌-◌, max, Bool, false, not, ◌&&◌, ◌==◌, List, [], ◌∷◌, ◌++◌, length, map, filter, slice_get, Option, Some, None, unwrap_or, codes, if◌then◌else◌}
 use Rattle.std.specs.List.{flat_map, list_any, range_with_len, zip}
 use Rattle.std.specs.Str.{bytes_eq}
+use Rattle.dir_compile.specs.Directory.{Directory}
+use Rattle.edi_tables.specs.Octets.{Octets}
 use Rattle.edi_tables.specs.declared.element.CodeList.{CodeList}
 use Rattle.edi_tables.specs.declared.element.PartDef.{PartDef}
 use Rattle.edi_tables.specs.declared.segment.ItemDef.{ItemDef}
 use Rattle.edi_tables.specs.declared.segment.ItemDef.TheVariants.{Alone, Composite}
 use Rattle.error_ledger.specs.declared.kind.Kind.{Kind}
 use Rattle.error_ledger.specs.declared.kind.Kind.TheVariants.{BadTag, UnknownSegment, TooManyElements, TooManyComponents, Missing}
-use Rattle.dir_parts.specs.declared.parts.Parts.{Parts}
 use Rattle.seg_lexer.specs.Fields.{Component}
 use Rattle.seg_lexer.specs.Tag.{tag_of}
 use Rattle.seg_lexer.specs.declared.context.Context.{Context}
 use Rattle.element_check.specs.Rules.{SegmentRules, rules_of, parts_of, list_of}
-use Rattle.value_check.specs.Value.{fails, value_kinds}
+use Rattle.element_check.specs.Value.{fails, value_kinds}
 use Rattle.element_check.specs.declared.error.LocalError.{LocalError}
 
 -- an error of a kind at a component of an element; component 0 is the element as a whole
@@ -21,15 +22,15 @@ abbrev pub error_at : ℕ → ℕ → Kind → LocalError
 error_at element component kind = record { element = element; component = component; kind = kind }
 
 -- a value has an octet
-abbrev pub is_filled : List ℕ → Bool
-is_filled value = not (length value == 0)
+abbrev pub has_octet : Octets → Bool
+has_octet value = not (length value == 0)
 
 -- the values of the components of an element, in order: component 1 is the first
-abbrev pub values_in : List Component → ℕ → List (List ℕ)
+abbrev pub values_in : List Component → ℕ → List Octets
 values_in components element = map (λ x. x.octets) (filter (λ x. x.element == element) components)
 
 -- the value of a component of an element; one that isn't written is empty
-abbrev pub value_at : List (List ℕ) → ℕ → List ℕ
+abbrev pub value_at : List Octets → ℕ → Octets
 value_at values component = unwrap_or (slice_get values (component - 1)) []
 
 -- a part of a composite says which list the codes of the composite are from (data element 1131)
@@ -37,8 +38,8 @@ abbrev pub names_list : PartDef → Bool
 names_list part = bytes_eq part.code.octets (codes "1131")
 
 -- the composite itself says where its codes are from: a component 1131 of it is filled
-abbrev pub is_list_named : List PartDef → List (List ℕ) → Bool
-is_list_named parts values = list_any (λ p. names_list p.0 && is_filled p.1) (zip parts values)
+abbrev pub is_list_named : List PartDef → List Octets → Bool
+is_list_named parts values = list_any (λ p. names_list p.0 && has_octet p.1) (zip parts values)
 
 -- the data elements of an item, in order: the part of component 1 is the first
 abbrev pub parts_in : SegmentRules → ItemDef → List PartDef
@@ -46,18 +47,18 @@ parts_in rules (Alone part) = part ∷ []
 parts_in rules (Composite code must) = parts_of rules code.octets
 
 -- a value is filled, and fails the test of a kind
-abbrev pub is_failed : SegmentRules → PartDef → Option CodeList → List ℕ → Kind → Bool
-is_failed rules part list value kind = is_filled value && fails rules.context part.repr list value kind
+abbrev pub is_failed : SegmentRules → PartDef → Option CodeList → Octets → Kind → Bool
+is_failed rules part list value kind = has_octet value && fails rules.context part.repr list value kind
 
 -- an item needs a value: a stand-alone data element its first component, a composite any component
-abbrev pub is_missing : ItemDef → List (List ℕ) → Bool
-is_missing (Alone part) values = part.must && not (is_filled (value_at values 1))
-is_missing (Composite code must) values = must && not (list_any is_filled values)
+abbrev pub is_missing : ItemDef → List Octets → Bool
+is_missing (Alone part) values = part.must && not (has_octet (value_at values 1))
+is_missing (Composite code must) values = must && not (list_any has_octet values)
 
 -- the rule of a kind is broken at an element as a whole, which has this item or is past the last one
 -- (the value of a stand-alone data element is tested here)
-abbrev pub is_broken_whole : SegmentRules → Option ItemDef → List (List ℕ) → Kind → Bool
-is_broken_whole rules None values TooManyElements = list_any is_filled values
+abbrev pub is_broken_whole : SegmentRules → Option ItemDef → List Octets → Kind → Bool
+is_broken_whole rules None values TooManyElements = list_any has_octet values
 is_broken_whole rules None values kind = false
 is_broken_whole rules (Some item) values TooManyElements = false
 is_broken_whole rules (Some item) values TooManyComponents = false
@@ -67,23 +68,23 @@ is_broken_whole rules (Some (Alone part)) values kind =
 is_broken_whole rules (Some (Composite code must)) values kind = false
 
 -- the code list that the values of a part of a composite must be in: none where the composite itself names a list
-abbrev pub list_in : SegmentRules → List PartDef → List (List ℕ) → PartDef → Option CodeList
+abbrev pub list_in : SegmentRules → List PartDef → List Octets → PartDef → Option CodeList
 list_in rules parts values part = if is_list_named parts values then None else list_of rules part.code.octets
 
 -- the rule of a kind is broken at a component of an element that has this item:
 -- at one that is past the last part, or at a part of a composite
-abbrev pub is_broken_part : SegmentRules → ItemDef → List (List ℕ) → ℕ → Option PartDef → Kind → Bool
-is_broken_part rules item values component None TooManyComponents = is_filled (value_at values component)
+abbrev pub is_broken_part : SegmentRules → ItemDef → List Octets → ℕ → Option PartDef → Kind → Bool
+is_broken_part rules item values component None TooManyComponents = has_octet (value_at values component)
 is_broken_part rules item values component None kind = false
 is_broken_part rules (Alone alone) values component (Some part) kind = false
 is_broken_part rules (Composite code must) values component (Some part) TooManyElements = false
 is_broken_part rules (Composite code must) values component (Some part) TooManyComponents = false
 is_broken_part rules (Composite code must) values component (Some part) Missing =
-    list_any is_filled values && part.must && not (is_filled (value_at values component))
+    list_any has_octet values && part.must && not (has_octet (value_at values component))
 is_broken_part rules (Composite code must) values component (Some part) kind =
     is_failed rules part (list_in rules (parts_of rules code.octets) values part) (value_at values component) kind
 
-abbrev pub is_broken_at : SegmentRules → Option ItemDef → List (List ℕ) → ℕ → Kind → Bool
+abbrev pub is_broken_at : SegmentRules → Option ItemDef → List Octets → ℕ → Kind → Bool
 is_broken_at rules None values component kind = false
 is_broken_at rules (Some item) values component kind =
     is_broken_part rules item values component (slice_get (parts_in rules item) (component - 1)) kind
@@ -93,25 +94,25 @@ abbrev pub element_kinds : List Kind
 element_kinds = TooManyElements ∷ TooManyComponents ∷ Missing ∷ value_kinds
 
 -- the errors at an element as a whole
-abbrev pub errors_whole : SegmentRules → Option ItemDef → List (List ℕ) → ℕ → List LocalError
+abbrev pub errors_whole : SegmentRules → Option ItemDef → List Octets → ℕ → List LocalError
 errors_whole rules item values element =
     map (error_at element 0) (filter (is_broken_whole rules item values) element_kinds)
 
 -- the errors at a component of an element
-abbrev pub errors_at : SegmentRules → Option ItemDef → List (List ℕ) → ℕ → ℕ → List LocalError
-errors_at rules item values element component =
+abbrev pub component_errors_at : SegmentRules → Option ItemDef → List Octets → ℕ → ℕ → List LocalError
+component_errors_at rules item values element component =
     map (error_at element component) (filter (is_broken_at rules item values component) element_kinds)
 
 -- how many components an element has: those that its item has, or those that are written, whichever are more
-abbrev pub last_component : SegmentRules → Option ItemDef → List (List ℕ) → ℕ
+abbrev pub last_component : SegmentRules → Option ItemDef → List Octets → ℕ
 last_component rules None values = length values
 last_component rules (Some item) values = max (length (parts_in rules item)) (length values)
 
 -- the errors of an element: at the element as a whole, and then at each component
-unfoldable pub element_errors : SegmentRules → Option ItemDef → List (List ℕ) → ℕ → List LocalError
+unfoldable pub element_errors : SegmentRules → Option ItemDef → List Octets → ℕ → List LocalError
 element_errors rules item values element =
     errors_whole rules item values element
-    ++ flat_map (errors_at rules item values element) (range_with_len 1 (last_component rules item values))
+    ++ flat_map (component_errors_at rules item values element) (range_with_len 1 (last_component rules item values))
 
 -- the number of the last element that is written
 abbrev pub last_written : List Component → ℕ
@@ -131,12 +132,12 @@ errors_by components None = error_at 0 0 UnknownSegment ∷ []
 errors_by components (Some rules) = elements_errors rules components
 
 -- the errors of a segment that has a tag or none
-abbrev pub errors_tagged : Parts → Context → List Component → Option (List ℕ) → List LocalError
+abbrev pub errors_tagged : Directory → Context → List Component → Option Octets → List LocalError
 errors_tagged parts context components None = error_at 0 0 BadTag ∷ []
 errors_tagged parts context components (Some tag) = errors_by components (rules_of parts context tag)
 
 -- the local errors of a segment, in order of element, component and kind: `bad-tag` alone where it has no tag,
 -- `unknown-segment` alone where its tag is neither a service segment's nor in the directory,
 -- and else every kind whose rule is broken, at each place
-unfoldable pub local_errors_of : Parts → Context → List Component → List LocalError
+unfoldable pub local_errors_of : Directory → Context → List Component → List LocalError
 local_errors_of parts context components = errors_tagged parts context components (tag_of components)

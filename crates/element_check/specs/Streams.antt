@@ -1,26 +1,27 @@
 -- For bodies and their invariants: the errors of a segment as one way through its components finds them.
 use Rattle.std.specs.Prelude.{ℕ, ◌+◌, Bool, false, ◌&&◌, ◌==◌, nat_lt, List, [], ◌∷◌, ◌++◌, Option, Some, None, if◌then◌else◌}
 use Rattle.std.specs.List.{list_any}
+use Rattle.dir_compile.specs.Directory.{Directory}
+use Rattle.edi_tables.specs.Octets.{Octets}
 use Rattle.edi_octets.specs.declared.octets.Octets.{Ghosts}
 use Rattle.edi_tables.specs.Rows.{when}
 use Rattle.edi_tables.specs.declared.element.PartDef.{PartDef}
 use Rattle.edi_tables.specs.declared.segment.ItemDef.{ItemDef}
 use Rattle.edi_tables.specs.declared.segment.ItemDef.TheVariants.{Alone, Composite}
-use Rattle.dir_parts.specs.declared.parts.Parts.{Parts}
 use Rattle.error_ledger.specs.declared.kind.Kind.{Kind}
 use Rattle.error_ledger.specs.declared.kind.Kind.TheVariants.{BadTag, UnknownSegment, TooManyElements, TooManyComponents, Missing}
 use Rattle.seg_lexer.specs.Fields.{Component, unplaced}
 use Rattle.seg_lexer.specs.Left.{components_left, placed_in}
 use Rattle.seg_lexer.specs.declared.components.Component.{Component as ReadComponent}
 use Rattle.seg_lexer.specs.declared.context.Context.{Context}
-use Rattle.element_check.specs.Local.{error_at, is_filled, is_list_named}
+use Rattle.element_check.specs.Local.{error_at, has_octet, is_list_named}
 use Rattle.element_check.specs.Rules.{SegmentRules, list_of, parts_of, rules_of}
-use Rattle.value_check.specs.Value.{test_results}
+use Rattle.element_check.specs.Value.{test_results}
 use Rattle.element_check.specs.declared.error.LocalError.{LocalError}
 use Rattle.element_check.specs.declared.values.Ahead.{Ahead}
 
 -- the values of the components at the front that belong to an element
-abbrev pub front_values : ℕ → List Component → List (List ℕ)
+abbrev pub front_values : ℕ → List Component → List Octets
 front_values element [] = []
 front_values element (x ∷ xs) = if x.element == element then x.octets ∷ front_values element xs else []
 
@@ -43,19 +44,19 @@ unfoldable pub components_ahead : {O : Type 0} {o : Ghosts O} → Ahead O o → 
 components_ahead a = after_read a.read (components_left a.rest)
 
 -- the values of an element that are left
-unfoldable pub values_left : {O : Type 0} {o : Ghosts O} → ℕ → Ahead O o → List (List ℕ)
+unfoldable pub values_left : {O : Type 0} {o : Ghosts O} → ℕ → Ahead O o → List Octets
 values_left element a = front_values element (components_ahead a)
 
 -- the first value, or an empty one
-abbrev pub first_value : List (List ℕ) → List ℕ
+abbrev pub first_value : List Octets → Octets
 first_value [] = []
 first_value (v ∷ vs) = v
 
 -- the first of these values has an octet
-abbrev pub is_first_filled : List (List ℕ) → Bool
-is_first_filled values = is_filled (first_value values)
+abbrev pub is_first_filled : List Octets → Bool
+is_first_filled values = has_octet (first_value values)
 
-abbrev pub later_values : List (List ℕ) → List (List ℕ)
+abbrev pub later_values : List Octets → List Octets
 later_values [] = []
 later_values (v ∷ vs) = vs
 
@@ -65,37 +66,37 @@ told_errors element component [] = []
 told_errors element component (p ∷ ps) = when p.1 (error_at element component p.0) ++ told_errors element component ps
 
 -- the errors of a value that may be empty
-abbrev pub part_errors : SegmentRules → ℕ → ℕ → PartDef → Bool → List ℕ → List LocalError
+abbrev pub part_errors : SegmentRules → ℕ → ℕ → PartDef → Bool → Octets → List LocalError
 part_errors rules element component part named value =
-    if is_filled value
+    if has_octet value
     then told_errors element component
     (test_results rules.context part.repr (if named then None else list_of rules part.code.octets) value)
     else when part.must (error_at element component Missing)
 
 -- the errors of components past the last one that is defined, numbered from c
-abbrev pub surplus_components : ℕ → ℕ → List (List ℕ) → List LocalError
+abbrev pub surplus_components : ℕ → ℕ → List Octets → List LocalError
 surplus_components element c [] = []
 surplus_components element c (v ∷ vs) =
-    when (is_filled v) (error_at element c TooManyComponents) ++ surplus_components element (c + 1) vs
+    when (has_octet v) (error_at element c TooManyComponents) ++ surplus_components element (c + 1) vs
 
 -- the errors of these parts and of what is left after them, numbered from c
-abbrev pub parts_errors : SegmentRules → ℕ → ℕ → Bool → List PartDef → List (List ℕ) → List LocalError
+abbrev pub parts_errors : SegmentRules → ℕ → ℕ → Bool → List PartDef → List Octets → List LocalError
 parts_errors rules element c named [] values = surplus_components element c values
 parts_errors rules element c named (part ∷ parts) values =
     part_errors rules element c part named (first_value values)
     ++ parts_errors rules element (c + 1) named parts (later_values values)
 
-abbrev pub composite_errors : SegmentRules → ℕ → Bool → List PartDef → List (List ℕ) → List LocalError
+abbrev pub composite_errors : SegmentRules → ℕ → Bool → List PartDef → List Octets → List LocalError
 composite_errors rules element must parts values =
-    if list_any is_filled values then parts_errors rules element 1 (is_list_named parts values) parts values
+    if list_any has_octet values then parts_errors rules element 1 (is_list_named parts values) parts values
     else when must (error_at element 0 Missing)
 
-abbrev pub alone_errors : SegmentRules → ℕ → PartDef → List (List ℕ) → List LocalError
+abbrev pub alone_errors : SegmentRules → ℕ → PartDef → List Octets → List LocalError
 alone_errors rules element part values =
     part_errors rules element 0 part false (first_value values) ++ surplus_components element 2 (later_values values)
 
 -- the errors of an element that has an item
-abbrev pub item_errors : SegmentRules → ℕ → ItemDef → List (List ℕ) → List LocalError
+abbrev pub item_errors : SegmentRules → ℕ → ItemDef → List Octets → List LocalError
 item_errors rules element (Alone part) values = alone_errors rules element part values
 item_errors rules element (Composite code must) values =
     composite_errors rules element must (parts_of rules code.octets) values
@@ -104,7 +105,7 @@ item_errors rules element (Composite code must) values =
 abbrev pub surplus_elements : ℕ → List Component → List LocalError
 surplus_elements n [] = []
 surplus_elements n (x ∷ xs) =
-    if nat_lt n x.element && is_filled x.octets
+    if nat_lt n x.element && has_octet x.octets
     then error_at x.element 0 TooManyElements ∷ surplus_elements x.element xs
     else surplus_elements n xs
 
@@ -121,6 +122,6 @@ errors_ruled elements None = error_at 0 0 UnknownSegment ∷ []
 errors_ruled elements (Some rules) = items_errors rules 0 rules.items elements
 
 -- the errors of a segment that has a tag or none, by its components after the tag field
-abbrev pub errors_past : Parts → Context → List Component → Option (List ℕ) → List LocalError
+abbrev pub errors_past : Directory → Context → List Component → Option Octets → List LocalError
 errors_past parts context elements None = error_at 0 0 BadTag ∷ []
 errors_past parts context elements (Some tag) = errors_ruled elements (rules_of parts context tag)

@@ -5,14 +5,14 @@ ghost use Rattle.seg_lexer.specs.Fields.{IsInOrder, components_at};
 ghost use Rattle.seg_lexer.specs.Left.{components_left};
 ghost use Rattle.seg_lexer.specs.Service.{IsUsable};
 ghost use Rattle.seg_lexer.specs.Tag.{tag_of};
-ghost use Rattle.value_lexer.specs.declared.TheConstants.{LONGEST_TEXT};
 ghost use Rattle.element_check.specs.Ascending.{AreAscending};
 ghost use Rattle.element_check.specs.Local.{local_errors_of};
 ghost use Rattle.element_check.specs.Streams.{components_ahead, errors_past, items_errors, surplus_elements};
+ghost use Rattle.edi_octets.specs.declared.octets.TheConstants.{LONGEST_TEXT};
 
 use crate::LocalError;
 use crate::element::check_item;
-use crate::error::Errors;
+use crate::error::ErrorList;
 use crate::rules::Rules;
 use crate::values::Ahead;
 use dir_compile::Directory;
@@ -71,7 +71,7 @@ pub fn check_components<O: Octets>(
 {
     let mut elements = components;
     let tag = elements.take_tag();
-    let mut errors = Errors::new(alloc);
+    let mut errors = ErrorList::new(alloc);
     gather(directory, context, tag, elements, &mut errors)?;
     Ok((tag, errors.into_list()))
 }
@@ -82,7 +82,7 @@ fn gather<O: Octets>(
     context: &Context,
     tag: Option<Tag>,
     elements: Fields<'_, O>,
-    errors: &mut Errors,
+    errors: &mut ErrorList,
 ) -> Result<(), AllocError>
     requires few { length (components_left elements) < 2 ^ 31 }
     ensures ok { OnOk result (errors.new ≡ errors.old
@@ -105,7 +105,7 @@ fn gather<O: Octets>(
 fn check_elements<O: Octets>(
     rules: &Rules<'_>,
     elements: Fields<'_, O>,
-    errors: &mut Errors,
+    errors: &mut ErrorList,
 ) -> Result<(), AllocError>
     requires few { length (components_left elements) < 2 ^ 31 }
     requires short { length rules.now.items ≤ 99 }
@@ -129,7 +129,7 @@ fn check_elements<O: Octets>(
 fn check_surplus<O: Octets>(
     last: u32,
     elements: Ahead<'_, O>,
-    errors: &mut Errors,
+    errors: &mut ErrorList,
 ) -> Result<(), AllocError>
     ensures ok { OnOk result (errors.new
         ≡ errors.old ++ surplus_elements last (components_ahead elements.entry)) }

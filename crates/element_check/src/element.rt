@@ -2,19 +2,19 @@
 ghost use Rattle.std.specs.Prelude.{[], ◌≡◌, ◌+◌, ◌++◌, ◌<◌, ◌^◌, length, unwrap_or, OnOk, OnErr};
 ghost use Rattle.std.specs.List.{list_any};
 ghost use Rattle.std.specs.Option.{option_map};
-ghost use Rattle.value_lexer.specs.Value.{octets_of};
-ghost use Rattle.element_check.specs.Local.{is_filled as is_filled_of, is_list_named as is_list_named_of, names_list};
+ghost use Rattle.seg_lexer.specs.Value.{octets_of};
+ghost use Rattle.element_check.specs.Local.{has_octet as is_filled_of, is_list_named as is_list_named_of, names_list};
 ghost use Rattle.element_check.specs.Streams.{after_front, alone_errors, components_ahead, composite_errors, item_errors, part_errors, parts_errors, surplus_components, values_left};
 
-use crate::error::{Errors, put_failed};
+use crate::error::{ErrorList, put_failed};
 use crate::rules::Rules;
+use crate::value::test_value;
 use crate::values::Ahead;
 use edi_octets::Octets;
 use edi_tables::{ItemDef, PartDef};
 use error_ledger::Kind;
 use seg_lexer::Value;
 use std::alloc::AllocError;
-use value_check::test_value;
 
 /// Puts the errors of an element that has this item, of which these are all values.
 pub(crate) fn check_item<O: Octets>(
@@ -22,7 +22,7 @@ pub(crate) fn check_item<O: Octets>(
     item: &ItemDef,
     element: u32,
     values: &mut Ahead<'_, O>,
-    errors: &mut Errors,
+    errors: &mut ErrorList,
 ) -> Result<(), AllocError>
     requires few { length (values_left element values.old) < 2 ^ 31 }
     ensures ok { OnOk result (errors.new
@@ -47,7 +47,7 @@ fn check_alone<O: Octets>(
     part: &PartDef,
     element: u32,
     values: &mut Ahead<'_, O>,
-    errors: &mut Errors,
+    errors: &mut ErrorList,
 ) -> Result<(), AllocError>
     requires few { length (values_left element values.old) < 2 ^ 31 }
     ensures ok { OnOk result (errors.new
@@ -70,7 +70,7 @@ fn check_composite<O: Octets>(
     must: bool,
     element: u32,
     values: &mut Ahead<'_, O>,
-    errors: &mut Errors,
+    errors: &mut ErrorList,
 ) -> Result<(), AllocError>
     requires few { length (values_left element values.old) < 2 ^ 31 }
     requires short { length parts.now < 2 ^ 31 }
@@ -152,7 +152,7 @@ fn check_parts<O: Octets>(
     named: bool,
     element: u32,
     values: &mut Ahead<'_, O>,
-    errors: &mut Errors,
+    errors: &mut ErrorList,
 ) -> Result<(), AllocError>
     requires few { length (values_left element values.old) < 2 ^ 31 }
     requires short { length parts.now < 2 ^ 31 }
@@ -184,7 +184,7 @@ fn check_part<O: Octets>(
     value: Option<Value<'_, O>>,
     element: u32,
     component: u32,
-    errors: &mut Errors,
+    errors: &mut ErrorList,
 ) -> Result<(), AllocError>
     ensures ok { OnOk result (errors.new
         ≡ errors.old
@@ -209,7 +209,7 @@ fn check_value<O: Octets>(
     value: &Value<'_, O>,
     element: u32,
     component: u32,
-    errors: &mut Errors,
+    errors: &mut ErrorList,
 ) -> Result<(), AllocError>
     ensures ok { OnOk result (errors.new
         ≡ errors.old
@@ -231,7 +231,7 @@ fn check_surplus<O: Octets>(
     element: u32,
     values: &mut Ahead<'_, O>,
     first: u32,
-    errors: &mut Errors,
+    errors: &mut ErrorList,
 ) -> Result<(), AllocError>
     requires few { first + length (values_left element values.old) < 2 ^ 32 }
     ensures ok { OnOk result (errors.new

@@ -4,11 +4,11 @@ ghost use Rattle.edi_tables.specs.Rows.{when};
 ghost use Rattle.element_check.specs.Local.{error_at};
 ghost use Rattle.element_check.specs.Streams.{told_errors};
 
+use crate::value::is_any_failed;
 use error_ledger::Kind;
 use smallvec::SmallVec;
 use std::alloc::{AllocError, Global};
 use std::marker::Model;
-use value_check::is_any_failed;
 
 /// What is wrong at an element or a component of a segment: component 0 is the element as a whole, and element 0 the
 /// segment.
@@ -32,11 +32,11 @@ impl Default for LocalError {
 
 /// The errors that were found so far, seen as their list. The first four take no memory.
 #[derive(Drop)]
-pub(crate) struct Errors {
+pub(crate) struct ErrorList {
     list: SmallVec<LocalError, 4>,
 }
 
-impl Model for Errors {
+impl Model for ErrorList {
     ghost use Rattle.std.specs.Prelude.{List, ◌≤◌};
     ghost use Rattle.element_check.specs.declared.error.LocalError.{LocalError};
 
@@ -47,12 +47,12 @@ impl Model for Errors {
     ghost invariant = { λ e. 4 ≤ e.list.capacity };
 }
 
-impl Errors {
+impl ErrorList {
     /// No error.
-    pub(crate) fn new(alloc: Global) -> Errors
+    pub(crate) fn new(alloc: Global) -> ErrorList
         ensures { result ≡ [] }
     {
-        Errors {
+        ErrorList {
             list: SmallVec::new(alloc),
         }
     }
@@ -90,7 +90,7 @@ impl Errors {
 
 /// Puts the kinds of the tests that were failed. Most often none was.
 pub(crate) fn put_failed(
-    errors: &mut Errors,
+    errors: &mut ErrorList,
     element: u32,
     component: u32,
     results: &[(Kind, bool)],

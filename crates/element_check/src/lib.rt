@@ -4,10 +4,13 @@
 mod check;
 mod element;
 mod error;
+mod repertoire;
 mod rules;
+mod tally;
+mod value;
 mod values;
 
 pub use check::{check_components, check_segment};
 pub use error::LocalError;
 pub use rules::Rules;
-pub use value_check::passes;
+pub use value::passes;

@@ -2,7 +2,7 @@
 ghost use Rattle.std.specs.Prelude.{None, ◌≡◌, if◌then◌else◌, IfSome};
 ghost use Rattle.std.specs.Option.{ForSome, option_copied};
 ghost use Rattle.edi_tables.specs.Ascending.{IsAscendingBy};
-ghost use Rattle.dir_parts.specs.Compile.{value_name};
+ghost use Rattle.dir_compile.specs.Compile.{value_name};
 ghost use Rattle.dir_compile.specs.Directory.{IsDirectory};
 ghost use Rattle.element_check.specs.Rules.{list_of, parts_of, rules_of};
 

@@ -2,7 +2,7 @@
 ghost use Rattle.std.specs.Prelude.{◌≡◌, None};
 ghost use Rattle.std.specs.Iterator.{YieldsFirstBy};
 ghost use Rattle.seg_lexer.specs.Left.{components_left};
-ghost use Rattle.value_lexer.specs.Value.{octets_of};
+ghost use Rattle.seg_lexer.specs.Value.{octets_of};
 ghost use Rattle.element_check.specs.Streams.{after_front, components_ahead, is_first_filled, seen, values_left};
 
 use edi_octets::Octets;

@@ -8,7 +8,7 @@ use Rattle.edi_tables.specs.Extents.{tag_in}
 use Rattle.envelope_check.specs.declared.head.Head.{Head}
 use Rattle.envelope_check.specs.declared.head.HeadKind.{HeadKind}
 use Rattle.envelope_check.specs.declared.head.SegmentMark.{SegmentMark}
-use Rattle.envelope_check.specs.Heads.{kind_of, tags_of, start_in, HeadPlace, place_of, head_place, head_of, Fits}
+use Rattle.envelope_check.specs.Heads.{kind_of, tags_of, start_in, HeadPlace, head_place_of, head_place, head_of, Fits}
 use Rattle.envelope_check.specs.Known.{kind_in, head_here, heads_after, has_kind}
 
 pub length_tags : (marks : List SegmentMark) → length (tags_of marks) ≡ length marks
@@ -17,7 +17,7 @@ length_tags (mark ∷ marks) = ap (λ n. suc n) (length_tags marks)
 
 -- these are the heads of n segments from place a on
 pub record Heads (marks : List SegmentMark) (a n : ℕ) (rest : List Head) : Type 0 where
-  pub fits : map place_of rest ≡ filter_map (head_place marks) (range_with_len a n)
+  pub fits : map head_place_of rest ≡ filter_map (head_place marks) (range_with_len a n)
 
 abbrev pub kind_at : List SegmentMark → ℕ → Option HeadKind
 kind_at marks i = kind_of (tag_in (tags_of marks) i)
@@ -27,7 +27,7 @@ pub data Next (marks : List SegmentMark) (a n : ℕ) (rest : List Head) : Type 0
   absent : kind_at marks a ≡ None → Heads marks (a + 1) n rest → Next marks a n rest
   present : (head : Head) (after : List Head) → rest ≡ head ∷ after → head.segment ≡ a + 1 → kind_at marks a ≡ Some head.kind → Heads marks (a + 1) n after → Next marks a n rest
 
-absent_at : (marks : List SegmentMark) (a n : ℕ) (rest : List Head) → kind_at marks a ≡ None → map place_of rest ≡ filter_map (head_place marks) (a ∷ range_with_len (a + 1) n) → Next marks a n rest
+absent_at : (marks : List SegmentMark) (a n : ℕ) (rest : List Head) → kind_at marks a ≡ None → map head_place_of rest ≡ filter_map (head_place marks) (a ∷ range_with_len (a + 1) n) → Next marks a n rest
 absent_at marks a n rest none fits = absent none (record { fits = rw none at fits })
 
 empty_full : (y : HeadPlace) (ys : List HeadPlace) → [] ≡ y ∷ ys → ⊥
@@ -36,13 +36,13 @@ empty_full y ys same = cc
 same_first : (x y : HeadPlace) (xs ys : List HeadPlace) → x ∷ xs ≡ y ∷ ys → x ≡ y
 same_first x y xs ys same = cc
 
-present_at : (marks : List SegmentMark) (a n : ℕ) (kind : HeadKind) (rest : List Head) → kind_at marks a ≡ Some kind → map place_of rest ≡ (record { segment = a + 1; start = start_in marks a; kind = kind }) ∷ filter_map (head_place marks) (range_with_len (a + 1) n) → Next marks a n rest
+present_at : (marks : List SegmentMark) (a n : ℕ) (kind : HeadKind) (rest : List Head) → kind_at marks a ≡ Some kind → map head_place_of rest ≡ (record { segment = a + 1; start = start_in marks a; kind = kind }) ∷ filter_map (head_place marks) (range_with_len (a + 1) n) → Next marks a n rest
 present_at marks a n kind [] here fits = absurd (empty_full (record { segment = a + 1; start = start_in marks a; kind = kind }) _ fits)
 present_at marks a n kind (head ∷ after) here fits =
-    let place = same_first (place_of head) (record { segment = a + 1; start = start_in marks a; kind = kind }) (map place_of after) (filter_map (head_place marks) (range_with_len (a + 1) n)) fits in
+    let place = same_first (head_place_of head) (record { segment = a + 1; start = start_in marks a; kind = kind }) (map head_place_of after) (filter_map (head_place marks) (range_with_len (a + 1) n)) fits in
     let same : head.segment ≡ a + 1 = ap (λ (p : HeadPlace). p.segment) place in
     let kinds : head.kind ≡ kind = ap (λ (p : HeadPlace). p.kind) place in
-    let more : map place_of after ≡ filter_map (head_place marks) (range_with_len (a + 1) n) = cc in
+    let more : map head_place_of after ≡ filter_map (head_place marks) (range_with_len (a + 1) n) = cc in
     present head after refl same (here ∙ ap Some (sym kinds)) (record { fits = more })
 
 next_by : (marks : List SegmentMark) (a n : ℕ) (rest : List Head) (kind : Option HeadKind) → kind_at marks a ≡ kind → Heads marks a (suc n) rest → Next marks a n rest
@@ -90,7 +90,7 @@ pub record IsAhead (heads : List Head) (marks : List SegmentMark) (i : ℕ) (res
 
 pub ahead_first : (heads : List Head) (marks : List SegmentMark) → Fits heads marks → IsAhead heads marks 0 heads
 ahead_first heads marks fits =
-    record { fits = record { fits = subst (λ n. map place_of heads ≡ filter_map (head_place marks) (range_with_len 0 n)) (omega arith) fits }; same = λ k past. refl }
+    record { fits = record { fits = subst (λ n. map head_place_of heads ≡ filter_map (head_place marks) (range_with_len 0 n)) (omega arith) fits }; same = λ k past. refl }
 
 -- what a segment is, and what is ahead after it
 pub record Here (heads : List Head) (marks : List SegmentMark) (i : ℕ) (here : Option Head) (after : List Head) : Type 0 where

@@ -13,7 +13,7 @@ use Rattle.envelope_check.specs.declared.head.SegmentMark.{SegmentMark}
 use Rattle.envelope_check.specs.declared.known.Known.{Known}
 use Rattle.envelope_check.specs.Heads.{tags_of, head_of, reference_of, count_of}
 use Rattle.envelope_check.specs.Known.{kind_in, is_unh, is_unz, is_une, by_closing, counted_by, count_due_by, miscounts_by, opening_by, refers_elsewhere_by}
-use Rattle.envelope_check.specs.Envelope.{is_at, count_at, is_end, segments_in, messages_in, counted_at_end, count_due, opening_of, gives, miscounts, refers_elsewhere}
+use Rattle.envelope_check.specs.Envelope.{is_at, count_at, is_end, segment_count, messages_in, counted_at_end, count_due, opener_of, gives, miscounts, refers_elsewhere}
 use Rattle.envelope_check.proofs.Counting.{count_more}
 use Rattle.envelope_check.proofs.TagKinds.{is_unt, unt_by_kind, une_by_kind, unh_by_kind}
 use Rattle.edi_tables.proofs.Openings.{first_of, next_stop, stretch_closed}
@@ -83,12 +83,12 @@ option_same None f there x same each = rw same refl
 option_same (Some a) f there x same each = rw same (ap Some (each a refl))
 
 message_count : (heads : List Head) (marks : List SegmentMark) (i : ℕ) (known : Known) (here : Option Head) (after : List Head) → Site heads marks i known here after → kind_passes is_unt (kind_in here) ≡ true
-    → option_map (λ a. segments_in (message_from (tags_of marks) a)) (message_opened (tags_of marks) i) ≡ (if is_some known.message then Some (known.message_segments + 1) else None)
+    → option_map (λ a. segment_count (message_from (tags_of marks) a)) (message_opened (tags_of marks) i) ≡ (if is_some known.message then Some (known.message_segments + 1) else None)
 message_count heads marks i known here after site closing =
     let tags = tags_of marks in
     let unt : is_at (codes "UNT") tags i ≡ true = unt_by_kind (tag_in tags i) ∙ ap (kind_passes is_unt) (sym site.segment.kind) ∙ closing in
-    option_same (message_opened tags i) (λ a. segments_in (message_from tags a)) (is_some known.message) (known.message_segments + 1) site.so_far.in_message
-    (λ a is. ap segments_in (message_ends tags i a site.within unt is) ∙ omega (arith, site.so_far.message_segments a is))
+    option_same (message_opened tags i) (λ a. segment_count (message_from tags a)) (is_some known.message) (known.message_segments + 1) site.so_far.in_message
+    (λ a is. ap segment_count (message_ends tags i a site.within unt is) ∙ omega (arith, site.so_far.message_segments a is))
 
 unh_no_une : (kind : Option HeadKind) → kind_passes is_une kind ≡ true → kind_passes is_unh kind ≡ false
 unh_no_une (Some Unh) h = sym h
@@ -111,7 +111,7 @@ unfolding count_due
 count_due_is heads marks i known here after site =
     let tags = tags_of marks in
     let kind = kind_in here in
-    let message = message_part heads marks i known here after segments_in site
+    let message = message_part heads marks i known here after segment_count site
     ∙ cond_under (kind_passes is_unt kind) _ _ (message_count heads marks i known here after site) in
     let group = group_part heads marks i known here after (messages_in tags) site
     ∙ cond_under (kind_passes is_une kind) _ _ (group_count heads marks i known here after site) in
@@ -188,10 +188,10 @@ agrees_unless heads true k head agrees = agrees_none heads
 agrees_unless heads false k head agrees = agrees
 
 -- the segment that opened what a segment closes
-opening_part : (heads : List Head) (marks : List SegmentMark) (i : ℕ) (known : Known) (here : Option Head) (after : List Head) → Site heads marks i known here after → opening_of (tags_of marks) i
+opening_part : (heads : List Head) (marks : List SegmentMark) (i : ℕ) (known : Known) (here : Option Head) (after : List Head) → Site heads marks i known here after → opener_of (tags_of marks) i
     ≡ by_closing (kind_in here) (option_map (λ a. (message_from (tags_of marks) a).first) (message_opened (tags_of marks) i)) (option_map (λ a. (group_from (tags_of marks) a).first) (group_opened (tags_of marks) i))
     (if known.ended then None else cond (is_at (codes "UNB") (tags_of marks) 0) (Some 1) None)
-unfolding opening_of
+unfolding opener_of
 opening_part heads marks i known here after site =
     let tags = tags_of marks in
     let kind = kind_in here in

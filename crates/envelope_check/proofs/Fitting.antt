@@ -7,7 +7,7 @@ use Rattle.edi_tables.specs.Extents.{tag_in}
 use Rattle.envelope_check.specs.declared.head.Head.{Head}
 use Rattle.envelope_check.specs.declared.head.HeadKind.{HeadKind}
 use Rattle.envelope_check.specs.declared.head.SegmentMark.{SegmentMark}
-use Rattle.envelope_check.specs.Heads.{tags_of, kind_of, start_in, HeadPlace, place_of, place_by, head_place, Fits}
+use Rattle.envelope_check.specs.Heads.{tags_of, kind_of, start_in, HeadPlace, head_place_of, place_by, head_place, Fits}
 
 slice_get-front : (marks : List SegmentMark) (mark : SegmentMark) (i : ℕ) → i < length marks → slice_get (marks ++ mark ∷ []) i ≡ slice_get marks i
 slice_get-front [] mark i within = absurd (omega arith)
@@ -57,16 +57,16 @@ places_more : (marks : List SegmentMark) (mark : SegmentMark) (a n : ℕ) → a 
 places_more marks mark a zero sum = at_last (head_place (marks ++ mark ∷ []) a) _ (ap (head_place (marks ++ mark ∷ [])) (omega arith) ∙ place-last marks mark)
 places_more marks mark a (suc n) sum = at_front (head_place (marks ++ mark ∷ []) a) (head_place marks a) _ _ _ (place-front marks mark a (omega arith)) (places_more marks mark (a + 1) n (omega arith))
 
-pub map-append : (xs ys : List Head) → map place_of (xs ++ ys) ≡ map place_of xs ++ map place_of ys
+pub map-append : (xs ys : List Head) → map head_place_of (xs ++ ys) ≡ map head_place_of xs ++ map head_place_of ys
 map-append [] ys = refl
-map-append (x ∷ xs) ys = ap (λ zs. place_of x ∷ zs) (map-append xs ys)
+map-append (x ∷ xs) ys = ap (λ zs. head_place_of x ∷ zs) (map-append xs ys)
 
 -- no heads fit no segments
 pub fits_none : Fits [] []
 fits_none = refl
 
 -- one more segment, with its head if it is one
-pub fits_more : (heads more : List Head) (marks : List SegmentMark) (mark : SegmentMark) → Fits heads marks → map place_of more ≡ map place_of heads ++ option_to_list (place_by (length marks + 1) mark) → Fits more (marks ++ mark ∷ [])
+pub fits_more : (heads more : List Head) (marks : List SegmentMark) (mark : SegmentMark) → Fits heads marks → map head_place_of more ≡ map head_place_of heads ++ option_to_list (place_by (length marks + 1) mark) → Fits more (marks ++ mark ∷ [])
 fits_more heads more marks mark fits one =
     let longer : length (marks ++ mark ∷ []) ≡ suc (length marks) = omega (arith, length-append marks (mark ∷ [])) in
     one ∙ ap (λ ys. ys ++ option_to_list (place_by (length marks + 1) mark)) fits

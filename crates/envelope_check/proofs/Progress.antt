@@ -10,7 +10,7 @@ use Rattle.envelope_check.specs.declared.head.Head.{Head}
 use Rattle.envelope_check.specs.declared.head.SegmentMark.{SegmentMark}
 use Rattle.envelope_check.specs.declared.known.Known.{Known}
 use Rattle.envelope_check.specs.Heads.{tags_of, Fits}
-use Rattle.envelope_check.specs.Envelope.{errors_at, text_errors, error_of_text, envelope_errors_of}
+use Rattle.envelope_check.specs.Envelope.{envelope_errors_at, text_errors, error_of_text, envelope_errors_of}
 use Rattle.envelope_check.specs.Known.{IsKnownFirst, IsKnownAfter, first_unb, has_kind, is_unz, head_here, heads_after, rules_by, errors_by}
 use Rattle.envelope_check.proofs.Ahead.{length_tags, IsAhead, Here, here_at, ahead_first}
 use Rattle.envelope_check.proofs.IsKnown.{IsKnown, known_first, known_next, text_errors_by}
@@ -19,7 +19,7 @@ use Rattle.envelope_check.proofs.SegmentErrors.{errors_here}
 
 -- the errors of the text as a whole and of the segments before place i
 abbrev pub errors_before : List Head → List SegmentMark → ℕ → List ErrorLine
-errors_before heads marks i = text_errors (tags_of marks) ++ flat_map (errors_at heads marks) (range_with_len 0 i)
+errors_before heads marks i = text_errors (tags_of marks) ++ flat_map (envelope_errors_at heads marks) (range_with_len 0 i)
 
 -- the segments before place i are done
 pub record IsDone (heads : List Head) (marks : List SegmentMark) (i : ℕ) (known : Known) (rest : List Head) (left : List SegmentMark) (errors : List ErrorLine) : Type 0 where
@@ -63,13 +63,13 @@ range_more : (a n j : ℕ) → a + n ≡ j → range_with_len a (suc n) ≡ rang
 range_more a zero j sum = ap (λ k. k ∷ []) (omega arith)
 range_more a (suc n) j sum = ap (λ ks. a ∷ ks) (range_more (a + 1) n j (omega arith))
 
-errors_more : (heads : List Head) (marks : List SegmentMark) (i : ℕ) → errors_before heads marks i ++ errors_at heads marks i ≡ errors_before heads marks (i + 1)
+errors_more : (heads : List Head) (marks : List SegmentMark) (i : ℕ) → errors_before heads marks i ++ envelope_errors_at heads marks i ≡ errors_before heads marks (i + 1)
 errors_more heads marks i =
-    append_assoc (text_errors (tags_of marks)) (flat_map (errors_at heads marks) (range_with_len 0 i)) (errors_at heads marks i)
+    append_assoc (text_errors (tags_of marks)) (flat_map (envelope_errors_at heads marks) (range_with_len 0 i)) (envelope_errors_at heads marks i)
     ∙ ap (λ es. text_errors (tags_of marks) ++ es)
-    (ap (λ es. flat_map (errors_at heads marks) (range_with_len 0 i) ++ es) (sym (append-nil (errors_at heads marks i)))
-    ∙ sym (flat_map-append (errors_at heads marks) (range_with_len 0 i) (i ∷ []))
-    ∙ ap (flat_map (errors_at heads marks)) (sym (ap (range_with_len 0) (add-one i) ∙ range_more 0 i i (omega arith))))
+    (ap (λ es. flat_map (envelope_errors_at heads marks) (range_with_len 0 i) ++ es) (sym (append-nil (envelope_errors_at heads marks i)))
+    ∙ sym (flat_map-append (envelope_errors_at heads marks) (range_with_len 0 i) (i ∷ []))
+    ∙ ap (flat_map (envelope_errors_at heads marks)) (sym (ap (range_with_len 0) (add-one i) ∙ range_more 0 i i (omega arith))))
 
 pub done_next : (heads : List Head) (marks : List SegmentMark) (i : ℕ) (old new : Known) (rest after : List Head) (left more : List SegmentMark) (errors result : List ErrorLine) (mark : SegmentMark) (here : Option Head)
     → i < length marks → IsDone heads marks i old rest left errors → left ≡ mark ∷ more → here ≡ head_here rest (old.segments + 1) → after ≡ heads_after rest (old.segments + 1) → IsKnownAfter old here new
@@ -88,7 +88,7 @@ done_next heads marks i old new rest after left more errors result mark here wit
       left_is = upcoming.after ∙ ap (λ n. drop n marks) (sym (add-one i));
       told = told ∙ ap (λ n. errors ++ errors_by n mark (rules_by old here after)) number
           ∙ ap (λ es. errors ++ es) (sym (errors_here heads marks i old here after mark site upcoming.here))
-          ∙ ap (λ es. es ++ errors_at heads marks i) done.told ∙ errors_more heads marks i;
+          ∙ ap (λ es. es ++ envelope_errors_at heads marks i) done.told ∙ errors_more heads marks i;
     }
 
 pub done_all : (heads : List Head) (marks : List SegmentMark) (i : ℕ) (known : Known) (rest : List Head) (left : List SegmentMark) (errors : List ErrorLine) → IsDone heads marks i known rest left errors → i ≡ length marks → errors ≡ envelope_errors_of heads marks

@@ -12,7 +12,7 @@ use Rattle.envelope_check.specs.declared.head.Head.{Head}
 use Rattle.envelope_check.specs.declared.head.SegmentMark.{SegmentMark}
 use Rattle.envelope_check.specs.declared.known.Known.{Known}
 use Rattle.envelope_check.specs.Heads.{tags_of, start_in}
-use Rattle.envelope_check.specs.Envelope.{errors_at, error_with, is_second_unb, is_after_end, is_outside, is_empty_interchange, is_mixed, lacks_une, is_empty_group, is_of_other_type, miscounts, refers_elsewhere, lacks_table}
+use Rattle.envelope_check.specs.Envelope.{envelope_errors_at, error_with, is_second_unb, is_after_end, is_outside, is_empty_interchange, is_mixed, lacks_une, is_empty_group, is_of_other_type, miscounts, refers_elsewhere, lacks_table}
 use Rattle.envelope_check.specs.Known.{rules_by, errors_by, told}
 use Rattle.envelope_check.proofs.RuleLaws.{Site, second_unb_is, outside_is, empty_interchange_is, mixed_is, other_type_is, lacks_table_is}
 use Rattle.envelope_check.proofs.GroupAhead.{lacks_une_is, empty_group_is}
@@ -35,8 +35,8 @@ tag_of [] i mark here = cc
 tag_of (m ∷ marks) zero mark here = let same : m ≡ mark = cc in ap (λ (q : SegmentMark). q.tag) same
 tag_of (m ∷ marks) (suc i) mark here = tag_of marks i mark here
 
-pub errors_here : (heads : List Head) (marks : List SegmentMark) (i : ℕ) (known : Known) (here : Option Head) (after : List Head) (mark : SegmentMark) → Site heads marks i known here after → slice_get marks i ≡ Some mark → errors_at heads marks i ≡ errors_by (i + 1) mark (rules_by known here after)
-unfolding errors_at errors_by rules_by
+pub errors_here : (heads : List Head) (marks : List SegmentMark) (i : ℕ) (known : Known) (here : Option Head) (after : List Head) (mark : SegmentMark) → Site heads marks i known here after → slice_get marks i ≡ Some mark → envelope_errors_at heads marks i ≡ errors_by (i + 1) mark (rules_by known here after)
+unfolding envelope_errors_at errors_by rules_by
 errors_here heads marks i known here after mark site is =
     let start = start_of marks i mark is in
     let tag = tag_of marks i mark is in

@@ -11,7 +11,7 @@ use Rattle.envelope_check.specs.declared.head.HeadKind.{HeadKind}
 use Rattle.envelope_check.specs.declared.head.HeadKind.TheVariants.{Unb, Ung, Unh, Unt, Une, Unz}
 use Rattle.envelope_check.specs.declared.head.SegmentMark.{SegmentMark}
 use Rattle.envelope_check.specs.Heads.{name_of, Fits}
-use Rattle.envelope_check.specs.Envelope.{end_of_interchange, is_second_unb, is_outside, is_empty_interchange, is_mixed, lacks_une, is_empty_group, is_of_other_type, count_due, miscounts, opening_of, refers_elsewhere, lacks_table, error_with, errors_at, text_errors, envelope_errors_of}
+use Rattle.envelope_check.specs.Envelope.{end_of_interchange, is_second_unb, is_outside, is_empty_interchange, is_mixed, lacks_une, is_empty_group, is_of_other_type, count_due, miscounts, opener_of, refers_elsewhere, lacks_table, error_with, envelope_errors_at, text_errors, envelope_errors_of}
 
 abbrev tagged : HeadKind → Option Tag
 tagged kind = Some (record { octets = name_of kind })
@@ -38,7 +38,7 @@ miscounted_fits : Fits miscounted_heads miscounted_marks
 miscounted_fits = refl
 
 miscounted : envelope_errors_of miscounted_heads miscounted_marks ≡ fault 4 27 Unt 1 Count ∷ fault 5 36 Unz 2 Reference ∷ []
-unfolding end_of_interchange message_at message_closed_at group_at group_closed_at group_opened_at message_extents group_extents is_second_unb is_outside is_empty_interchange is_mixed lacks_une is_empty_group is_of_other_type count_due miscounts opening_of refers_elsewhere lacks_table errors_at text_errors envelope_errors_of
+unfolding end_of_interchange message_at message_closed_at group_at group_closed_at group_opened_at message_extents group_extents is_second_unb is_outside is_empty_interchange is_mixed lacks_une is_empty_group is_of_other_type count_due miscounts opener_of refers_elsewhere lacks_table envelope_errors_at text_errors envelope_errors_of
 miscounted = refl
 
 -- an empty group, and a message that is in no group
@@ -51,7 +51,7 @@ abbrev grouped_marks : List SegmentMark
 grouped_marks = mark 0 Unb ∷ mark 9 Ung ∷ mark 18 Une ∷ mark 27 Unh ∷ mark 36 Unt ∷ mark 45 Unz ∷ []
 
 grouped : envelope_errors_of grouped_heads grouped_marks ≡ fault 2 9 Ung 0 EmptyGroup ∷ fault 4 27 Unh 0 Mixed ∷ []
-unfolding end_of_interchange message_at message_closed_at group_at group_closed_at group_opened_at message_extents group_extents is_second_unb is_outside is_empty_interchange is_mixed lacks_une is_empty_group is_of_other_type count_due miscounts opening_of refers_elsewhere lacks_table errors_at text_errors envelope_errors_of
+unfolding end_of_interchange message_at message_closed_at group_at group_closed_at group_opened_at message_extents group_extents is_second_unb is_outside is_empty_interchange is_mixed lacks_une is_empty_group is_of_other_type count_due miscounts opener_of refers_elsewhere lacks_table envelope_errors_at text_errors envelope_errors_of
 grouped = refl
 
 -- UNB twice, a UNT that closes nothing, and a segment after the first UNZ
@@ -64,5 +64,5 @@ abbrev twice_marks : List SegmentMark
 twice_marks = mark 0 Unb ∷ mark 9 Unh ∷ mark 18 Unb ∷ mark 27 Unt ∷ mark 36 Unz ∷ mark 45 Unz ∷ []
 
 twice : envelope_errors_of twice_heads twice_marks ≡ fault 3 18 Unb 0 SecondUnb ∷ fault 4 27 Unt 0 Outside ∷ fault 6 45 Unz 0 AfterEnd ∷ []
-unfolding end_of_interchange message_at message_closed_at group_at group_closed_at group_opened_at message_extents group_extents is_second_unb is_outside is_empty_interchange is_mixed lacks_une is_empty_group is_of_other_type count_due miscounts opening_of refers_elsewhere lacks_table errors_at text_errors envelope_errors_of
+unfolding end_of_interchange message_at message_closed_at group_at group_closed_at group_opened_at message_extents group_extents is_second_unb is_outside is_empty_interchange is_mixed lacks_une is_empty_group is_of_other_type count_due miscounts opener_of refers_elsewhere lacks_table envelope_errors_at text_errors envelope_errors_of
 twice = refl

@@ -3,6 +3,7 @@ use Rattle.std.specs.Prelude.{◌+◌, ◌-◌, ℕ, Bool, false, not, ◌==◌,
 use Rattle.std.specs.Option.{option_map, option_map_or, option_or}
 use Rattle.std.specs.List.{range_with_len, flat_map}
 use Rattle.std.specs.Str.{bytes_eq}
+use Rattle.edi_tables.specs.Octets.{Octets}
 use Rattle.edi_tables.specs.declared.tag.Tag.{Tag}
 use Rattle.edi_tables.specs.Extents.{Extent, tag_in, message_at, message_closed_at, group_at, group_closed_at, group_opened_at}
 use Rattle.edi_tables.specs.Rows.{has_name, when}
@@ -15,15 +16,15 @@ use Rattle.envelope_check.specs.declared.head.SegmentMark.{SegmentMark}
 use Rattle.envelope_check.specs.Heads.{tags_of, start_in, reference_of, count_of, message_type_of, is_tabled}
 
 -- the segment at place i has this tag
-abbrev pub is_at : List ℕ → List (Option Tag) → ℕ → Bool
+abbrev pub is_at : Octets → List (Option Tag) → ℕ → Bool
 is_at name tags i = has_name name (tag_in tags i)
 
 -- the places from a up to b whose segments have this tag
-abbrev pub places_of : List ℕ → List (Option Tag) → ℕ → ℕ → List ℕ
+abbrev pub places_of : Octets → List (Option Tag) → ℕ → ℕ → List ℕ
 places_of name tags a b = filter (is_at name tags) (range_with_len a (b - a))
 
 -- how many segments from place a up to place b have this tag
-abbrev pub count_at : List ℕ → List (Option Tag) → ℕ → ℕ → ℕ
+abbrev pub count_at : Octets → List (Option Tag) → ℕ → ℕ → ℕ
 count_at name tags a b = length (places_of name tags a b)
 
 -- how many groups, and how many messages, open before place i
@@ -34,7 +35,7 @@ abbrev pub messages_before : List (Option Tag) → ℕ → ℕ
 messages_before tags i = count_at (codes "UNH") tags 0 i
 
 -- two values differ, as octets
-abbrev pub differ : List ℕ → List ℕ → Bool
+abbrev pub differ : Octets → Octets → Bool
 differ a b = not (bytes_eq a b)
 
 -- the interchange ends at the first UNZ
@@ -50,8 +51,8 @@ abbrev pub is_after_end : List (Option Tag) → ℕ → Bool
 is_after_end tags i = option_map_or (λ z. nat_lt z i) (end_of_interchange tags) false
 
 -- how many segments an extent has
-abbrev pub segments_in : Extent → ℕ
-segments_in e = e.last + 1 - e.first
+abbrev pub segment_count : Extent → ℕ
+segment_count e = e.last + 1 - e.first
 
 -- how many messages an extent has: its UNH
 abbrev pub messages_in : List (Option Tag) → Extent → ℕ
@@ -107,11 +108,11 @@ count_due_at_end tags i = if is_end tags i then Some (counted_at_end tags i) els
 -- the end
 unfoldable pub count_due : List (Option Tag) → ℕ → Option ℕ
 count_due tags i =
-    option_or (option_map segments_in (message_closed_at tags i))
+    option_or (option_map segment_count (message_closed_at tags i))
     (option_or (option_map (messages_in tags) (group_closed_at tags i)) (count_due_at_end tags i))
 
 -- 1 to 19 digits that give this number
-abbrev pub gives : List ℕ → ℕ → Bool
+abbrev pub gives : Octets → ℕ → Bool
 gives value n = option_map_or (λ m. m == n) (decimal_in value) false
 
 -- a closing segment whose count isn't the number that it has to give
@@ -123,15 +124,15 @@ abbrev pub opening_at_end : List (Option Tag) → ℕ → Option ℕ
 opening_at_end tags i = if is_end tags i && is_at (codes "UNB") tags 0 then Some 1 else None
 
 -- the segment that opened what the segment at place i closes: a message, a group or the interchange
-unfoldable pub opening_of : List (Option Tag) → ℕ → Option ℕ
-opening_of tags i =
+unfoldable pub opener_of : List (Option Tag) → ℕ → Option ℕ
+opener_of tags i =
     option_or (option_map (λ e. e.first) (message_closed_at tags i))
     (option_or (option_map (λ e. e.first) (group_closed_at tags i)) (opening_at_end tags i))
 
 -- a closing segment whose reference isn't that of the opening one
 unfoldable pub refers_elsewhere : List Head → List (Option Tag) → ℕ → Bool
 refers_elsewhere heads tags i =
-    option_map_or (λ k. differ (reference_of heads (i + 1)) (reference_of heads k)) (opening_of tags i) false
+    option_map_or (λ k. differ (reference_of heads (i + 1)) (reference_of heads k)) (opener_of tags i) false
 
 -- a UNH for whose message the directory has no table
 unfoldable pub lacks_table : List Head → List (Option Tag) → ℕ → Bool
@@ -155,8 +156,8 @@ abbrev pub error_at : List SegmentMark → ℕ → ℕ → Kind → ErrorLine
 error_at marks i element kind = error_with (i + 1) (start_in marks i) (tag_in (tags_of marks) i) element kind
 
 -- the errors of the segment at place i, in the order of elements and then of the numbers of the kinds
-unfoldable pub errors_at : List Head → List SegmentMark → ℕ → List ErrorLine
-errors_at heads marks i =
+unfoldable pub envelope_errors_at : List Head → List SegmentMark → ℕ → List ErrorLine
+envelope_errors_at heads marks i =
     let tags = tags_of marks in
     when (is_second_unb tags i) (error_at marks i 0 SecondUnb)
     ++ when (is_after_end tags i) (error_at marks i 0 AfterEnd)
@@ -183,4 +184,4 @@ text_errors tags =
 -- the errors of the envelopes of a text, in order
 unfoldable pub envelope_errors_of : List Head → List SegmentMark → List ErrorLine
 envelope_errors_of heads marks =
-    text_errors (tags_of marks) ++ flat_map (errors_at heads marks) (range_with_len 0 (length marks))
+    text_errors (tags_of marks) ++ flat_map (envelope_errors_at heads marks) (range_with_len 0 (length marks))

@@ -2,6 +2,7 @@
 use Rattle.std.specs.Prelude.{◌≡◌, ◌+◌, ℕ, Bool, false, ◌==◌, List, [], ◌∷◌, length, map, find, slice_get, Option, codes}
 use Rattle.std.specs.Option.{option_map, option_map_or}
 use Rattle.std.specs.List.{range_with_len, filter_map}
+use Rattle.edi_tables.specs.Octets.{Octets}
 use Rattle.edi_tables.specs.declared.tag.Tag.{Tag}
 use Rattle.edi_tables.specs.Rows.{has_name}
 use Rattle.edi_tables.specs.Extents.{tag_in}
@@ -11,7 +12,7 @@ use Rattle.envelope_check.specs.declared.head.HeadKind.TheVariants.{Unb, Ung, Un
 use Rattle.envelope_check.specs.declared.head.SegmentMark.{SegmentMark}
 
 -- the tag of each kind
-abbrev pub name_of : HeadKind → List ℕ
+abbrev pub name_of : HeadKind → Octets
 name_of Unb = codes "UNB"
 name_of Ung = codes "UNG"
 name_of Unh = codes "UNH"
@@ -37,8 +38,8 @@ pub record HeadPlace : Type 0 where
   pub start : ℕ
   pub kind : HeadKind
 
-abbrev pub place_of : Head → HeadPlace
-place_of head = record { segment = head.segment; start = head.start; kind = head.kind }
+abbrev pub head_place_of : Head → HeadPlace
+head_place_of head = record { segment = head.segment; start = head.start; kind = head.kind }
 
 -- where segment k with this mark is as a head, if its tag is one of the six
 abbrev pub place_by : ℕ → SegmentMark → Option HeadPlace
@@ -52,22 +53,22 @@ head_place marks i =
 
 -- the heads are all segments with the six tags, in order
 abbrev pub Fits : List Head → List SegmentMark → Type 0
-Fits heads marks = map place_of heads ≡ filter_map (head_place marks) (range_with_len 0 (length marks))
+Fits heads marks = map head_place_of heads ≡ filter_map (head_place marks) (range_with_len 0 (length marks))
 
 -- the head that segment k is
 abbrev pub head_of : List Head → ℕ → Option Head
 head_of heads k = find (λ head. head.segment == k) heads
 
 -- the reference that segment k gives
-abbrev pub reference_of : List Head → ℕ → List ℕ
+abbrev pub reference_of : List Head → ℕ → Octets
 reference_of heads k = option_map_or (λ head. head.reference) (head_of heads k) []
 
 -- the count that segment k gives
-abbrev pub count_of : List Head → ℕ → List ℕ
+abbrev pub count_of : List Head → ℕ → Octets
 count_of heads k = option_map_or (λ head. head.count) (head_of heads k) []
 
 -- the type of message that segment k gives: 0065 of UNH, 0038 of UNG
-abbrev pub message_type_of : List Head → ℕ → List ℕ
+abbrev pub message_type_of : List Head → ℕ → Octets
 message_type_of heads k = option_map_or (λ head. head.name) (head_of heads k) []
 
 -- the directory has a table for the message that segment k opens

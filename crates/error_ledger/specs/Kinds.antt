@@ -1,15 +1,16 @@
 -- The kinds of errors.
-use Rattle.std.specs.Prelude.{ℕ, Bool, ◌&&◌, nat_le, List, codes}
+use Rattle.std.specs.Prelude.{ℕ, Bool, ◌&&◌, nat_le, codes}
+use Rattle.edi_tables.specs.Octets.{Octets}
 use Rattle.error_ledger.specs.declared.kind.Kind.{Kind}
 use Rattle.error_ledger.specs.declared.kind.Kind.TheVariants.{BadUna, NoUnb, NoUnz, Syntax, SecondUnb, AfterEnd, Outside, EmptyInterchange, Tail, Mixed, Reference, Count, NoUne, EmptyGroup, GroupType, NoTable, MissingSegment, MissingGroup, TooManySegments, TooManyGroups, Unplaced, BadTag, UnknownSegment, TooManyElements, TooManyComponents, Missing, Repertoire, WrongType, Decimal, TooLong, TooShort, Code}
 
 -- a row of the table of kinds: the number of the kind, the word that is printed for it, and its code
 pub record KindRow : Type 0 where
   pub number : ℕ
-  pub word : List ℕ
+  pub word : Octets
   pub code : ℕ
 
-abbrev pub row : ℕ → List ℕ → ℕ → KindRow
+abbrev pub row : ℕ → Octets → ℕ → KindRow
 row number word code = record { number = number; word = word; code = code }
 
 -- the table of kinds
@@ -52,7 +53,7 @@ unfoldable pub number_of : Kind → ℕ
 number_of kind = (row_of kind).number
 
 -- the word that is printed for a kind
-unfoldable pub word_of : Kind → List ℕ
+unfoldable pub word_of : Kind → Octets
 word_of kind = (row_of kind).word
 
 -- the code of a kind: a value of data element 0085

@@ -3,6 +3,7 @@
 ghost use Rattle.std.specs.Prelude.{◌≡◌, ◌+◌, ◌<◌, ◌≤◌, [], ◌∷◌, ◌++◌, length, take, slice_get, Some, IfOk, OnOk};
 ghost use Rattle.std.specs.List.{concat};
 ghost use Rattle.piece_text.specs.Pieces.{AreFull, IsSplit};
+ghost use Rattle.edi_octets.specs.declared.octets.TheConstants.{LONGEST_TEXT};
 
 use crate::piece::Piece;
 use seq_tree::{Located, Seq};
@@ -49,7 +50,7 @@ fn locate_counted<L: Ledger>(pieces: &Seq<Piece>, at: usize, blank: Blank) -> Lo
 
 /// One piece of these octets; no piece where there are none.
 pub(crate) fn of_vec(alloc: Global, octets: Vec<u8>) -> Result<Seq<Piece>, AllocError>
-    requires short { length octets.items ≤ 4194304 }
+    requires short { length octets.items ≤ LONGEST_TEXT }
     ensures text { IfOk result (λ pieces. concat pieces ≡ octets.items) }
     ensures full { IfOk result AreFull }
 {
@@ -86,7 +87,7 @@ pub(crate) fn split(
     at: usize,
 ) -> Result<(Seq<Piece>, Seq<Piece>), AllocError>
     requires within { at ≤ length (concat pieces.now) }
-    requires short { length (concat pieces.now) ≤ 4194304 }
+    requires short { length (concat pieces.now) ≤ LONGEST_TEXT }
     requires full { AreFull pieces.now }
     ensures { IfOk result (λ parts. IsSplit pieces.now at parts.0 parts.1) }
 {
@@ -133,7 +134,7 @@ fn split_within(
     requires is { slice_get pieces.now place ≡ Some piece.now }
     requires within { offset < length piece.now }
     requires some { 0 < offset }
-    requires short { length (concat pieces.now) ≤ 4194304 }
+    requires short { length (concat pieces.now) ≤ LONGEST_TEXT }
     requires full { AreFull pieces.now }
     ensures { let at = length (concat (take place pieces.now)) + offset in
         IfOk result (λ parts. IsSplit pieces.now at parts.0 parts.1) }
@@ -158,7 +159,7 @@ pub(crate) fn weld(
     requires full_front { AreFull front.now }
     requires full_back { AreFull back.now }
     requires short { length (concat front.now) + length put.now + length (concat back.now)
-        ≤ 4194304 }
+        ≤ LONGEST_TEXT }
     ensures text { IfOk result (λ pieces. concat pieces
         ≡ concat front.now ++ put.now ++ concat back.now) }
     ensures full { IfOk result AreFull }
@@ -205,7 +206,7 @@ fn run_of(
     first: &Seq<Piece>,
 ) -> Result<Seq<Piece>, AllocError>
     requires short { length (concat last.now) + length put.now + length (concat first.now)
-        ≤ 4194304 }
+        ≤ LONGEST_TEXT }
     ensures text { IfOk result (λ pieces. concat pieces
         ≡ concat last.now ++ put.now ++ concat first.now) }
     ensures full { IfOk result AreFull }
@@ -230,7 +231,7 @@ fn join_three(
     requires full_middle { AreFull middle.now }
     requires full_back { AreFull back.now }
     requires short { length (concat front.now) + length (concat middle.now)
-        + length (concat back.now) ≤ 4194304 }
+        + length (concat back.now) ≤ LONGEST_TEXT }
     ensures text { IfOk result (λ pieces. concat pieces
         ≡ concat front.now ++ concat middle.now ++ concat back.now) }
     ensures full { IfOk result AreFull }

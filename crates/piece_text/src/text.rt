@@ -2,6 +2,7 @@
 
 ghost use Rattle.std.specs.Prelude.{◌≡◌, ◌+◌, ◌-◌, ◌<◌, ◌≤◌, ◌++◌, length, take, drop, slice_range, IfOk, OnOk};
 ghost use Rattle.std.specs.List.{concat};
+ghost use Rattle.edi_octets.specs.declared.octets.TheConstants.{LONGEST_TEXT};
 
 use crate::piece::Piece;
 use crate::pieces::{locate, octet_count, of_vec, split, weld};
@@ -23,13 +24,14 @@ pub struct Text {
 impl Model for Text {
     ghost use Rattle.std.specs.Prelude.{List, ℕ, ◌≤◌, length};
     ghost use Rattle.std.specs.List.{concat};
+    ghost use Rattle.edi_octets.specs.declared.octets.TheConstants.{LONGEST_TEXT};
     ghost use Rattle.piece_text.specs.Pieces.{AreFull};
 
     ghost Value = { List ℕ };
 
     ghost view = { λ text. concat text.pieces };
 
-    ghost invariant = { λ text. (length (concat text.pieces) ≤ 4194304) × AreFull text.pieces };
+    ghost invariant = { λ text. (length (concat text.pieces) ≤ LONGEST_TEXT) × AreFull text.pieces };
 }
 
 // Written by hand so that a drop is one call to its caller's proof.
@@ -43,7 +45,7 @@ impl Drop for Text {
 impl Text {
     /// A text of these octets, which are copied.
     pub fn of_bytes(alloc: Global, octets: &[u8]) -> Result<Text, AllocError>
-        requires { length octets.now ≤ 4194304 }
+        requires { length octets.now ≤ LONGEST_TEXT }
         ensures { IfOk result (λ text. text ≡ octets.now) }
     {
         Text::of_vec(alloc, octets.to_vec(alloc)?)
@@ -51,7 +53,7 @@ impl Text {
 
     /// A text of these octets, which it keeps. After an error they are dropped.
     pub fn of_vec(alloc: Global, octets: Vec<u8>) -> Result<Text, AllocError>
-        requires { length octets.items ≤ 4194304 }
+        requires { length octets.items ≤ LONGEST_TEXT }
         ensures { IfOk result (λ text. text ≡ octets.items) }
     {
         let pieces = of_vec(alloc, octets)?;
@@ -74,7 +76,7 @@ impl Text {
         put: &[u8],
     ) -> Result<Text, AllocError>
         requires inside { at + cut ≤ length self.now }
-        requires short { length self.now - cut + length put.now ≤ 4194304 }
+        requires short { length self.now - cut + length put.now ≤ LONGEST_TEXT }
         ensures { IfOk result (λ text. text
             ≡ take at self.now ++ put.now ++ drop (at + cut) self.now) }
     {

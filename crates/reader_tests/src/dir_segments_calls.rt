@@ -1,6 +1,5 @@
 //! Small composite and segment files, worked out by hand: what each gives, or its first fault.
-use dir_composites::read_composites;
-use dir_segments::read_segments;
+use dir_segments::{read_composites, read_segments};
 use edi_octets::{DirKind, DirStop};
 use edi_tables::{Class, Code, ItemDef, PartDef, Repr};
 use std::test::Fail;

@@ -5,19 +5,19 @@ use Rattle.edi_ports.specs.Faults.{HasRisen}
 use Rattle.edi_ports.specs.Sink.{IsCut}
 use Rattle.edit_script.specs.Command.{command_text, IsCommand}
 use Rattle.edit_script.specs.Next.{IsAnswer, IsNext, Reader}
-use Rattle.script_words.specs.Reading.{IsAtEnd}
+use Rattle.edit_script.specs.Reading.{IsAtEnd}
 use Rattle.edit_script.specs.Script.{AreCommands, script_text}
 use Rattle.edit_script.specs.declared.command.Command.{Command}
 use Rattle.edit_script.specs.declared.command.Command.TheVariants.{End}
-use Rattle.script_words.specs.declared.stop.ScriptStop.{ScriptStop}
-use Rattle.script_words.specs.declared.stop.ScriptStop.TheVariants as stop
-use Rattle.script_words.proofs.OnceLemmas.{fronts}
+use Rattle.edit_script.specs.declared.stop.ScriptStop.{ScriptStop}
+use Rattle.edit_script.specs.declared.stop.ScriptStop.TheVariants as stop
+use Rattle.edit_script.proofs.OnceLemmas.{fronts}
 use Rattle.edit_script.proofs.ScriptLemmas.{bad_no_command, part_no_command, same_command}
-use Rattle.script_answers.specs.declared.status.Status.{Status}
-use Rattle.script_answers.specs.declared.status.Status.TheVariants.{WriteFault}
-use Rattle.script_answers.specs.Finish.{Grew, IsFinish}
+use Rattle.run_outcome.specs.declared.status.Status.{Status}
+use Rattle.run_outcome.specs.declared.status.Status.TheVariants.{WriteFault}
+use Rattle.run_outcome.specs.Finish.{Grew, IsFinish}
 use Rattle.script_answers.specs.Script.{IsAnsweredWhole, IsCaused, IsEnded, longest_script, stopped_by}
-use Rattle.script_answers.specs.Held.{Held}
+use Rattle.run_outcome.specs.Held.{Held}
 use Rattle.script_answers.proofs.AnsweredLemmas.{ended_next, ended_some}
 use Rattle.script_answers.proofs.RunLemmas.{took_of}
 

@@ -1,4 +1,3 @@
 mod AnsweredLemmas
 mod EndedLemmas
-pub mod PutLemmas
 mod RunLemmas

@@ -5,23 +5,23 @@ use Rattle.std.specs.Prelude.{codes}
 use Rattle.edi_ports.specs.Faults.{HasRisen}
 use Rattle.edi_ports.specs.Read.{HasTaken}
 use Rattle.edi_ports.specs.Sink.{IsCut}
-use Rattle.dir_parts.specs.declared.parts.Parts.{Parts}
+use Rattle.dir_compile.specs.declared.parts.Parts.{Parts}
 use Rattle.edit_script.specs.Command.{command_text}
 use Rattle.edit_script.specs.Next.{IsAnswer, IsNext, Reader}
-use Rattle.script_words.specs.Reading.{IsAtEnd}
+use Rattle.edit_script.specs.Reading.{IsAtEnd}
 use Rattle.edit_script.specs.Script.{AreCommands, script_text}
 use Rattle.edit_script.specs.declared.command.Command.{Command}
 use Rattle.edit_script.specs.declared.command.Command.TheVariants.{End}
-use Rattle.script_words.specs.declared.stop.ScriptStop.{ScriptStop}
-use Rattle.script_words.specs.declared.stop.ScriptStop.TheVariants as stop
-use Rattle.script_words.proofs.ReadingLemmas.{taken_left}
+use Rattle.edit_script.specs.declared.stop.ScriptStop.{ScriptStop}
+use Rattle.edit_script.specs.declared.stop.ScriptStop.TheVariants as stop
+use Rattle.edit_script.proofs.ReadingLemmas.{taken_left}
 use Rattle.edit_script.proofs.ScriptLemmas.{are_more, script_more}
-use Rattle.script_answers.specs.declared.status.Status.{Status}
-use Rattle.script_answers.specs.declared.status.Status.TheVariants.{Done, WriteFault}
-use Rattle.script_answers.specs.Finish.{Grew, IsFinish}
+use Rattle.run_outcome.specs.declared.status.Status.{Status}
+use Rattle.run_outcome.specs.declared.status.Status.TheVariants.{Done, WriteFault}
+use Rattle.run_outcome.specs.Finish.{Grew, IsFinish}
 use Rattle.script_answers.specs.Script.{IsOpen, IsRest, IsRow, IsStopped, longest_script, stopped_by}
-use Rattle.script_answers.specs.Held.{Held}
-use Rattle.script_answers.specs.Put.{IsPutOut}
+use Rattle.run_outcome.specs.Held.{Held}
+use Rattle.run_outcome.specs.Put.{IsPutOut}
 use Rattle.script_answers.specs.Replied.{IsAnswered}
 use Rattle.script_answers.proofs.AnsweredLemmas.{AnswersTo, answers_cut, answers_forget, answers_more, ended_more, open_more, open_or_ended}
 

@@ -1,8 +1,3 @@
-pub mod Finish
-pub mod Held
-pub mod Outcome
-pub mod Put
 pub mod Replied
 pub mod Reply
 pub mod Script
-pub mod Status

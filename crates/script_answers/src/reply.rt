@@ -9,17 +9,17 @@ ghost use Rattle.edit_script.specs.declared.command.Command.TheVariants.{Replace
 ghost use Rattle.text_reading.specs.Errors.{errors_of};
 ghost use Rattle.text_reading.specs.Summary.{contrl_to};
 ghost use Rattle.text_reading.specs.Tree.{tree_of};
-ghost use Rattle.script_answers.specs.Put.{IsPutOut};
+ghost use Rattle.run_outcome.specs.Put.{IsPutOut};
 ghost use Rattle.script_answers.specs.Replied.{IsAnswered, octets_of};
 ghost use Rattle.script_answers.specs.Reply.{IsStep, contrl_reply, counted, no_memory, reply_to};
 
-use crate::put::{put_numbered, put_pair};
 use contrl_writer::{Contrl, Stamp};
 use edi_engine::{EditStop, Engine};
 use edi_ports::Sink;
 use edi_tables::Chunk;
 use edit_script::Command;
 use error_ledger::{print_errors, print_tree};
+use run_outcome::{put_numbered, put_pair};
 use std::alloc::{AllocError, Global};
 use std::sync::ledger::Ledger;
 use step_counter::Steps;

@@ -2,17 +2,16 @@
 ghost use Rattle.std.specs.Prelude.{◌≡◌, ◌≢◌, ◌↔◌, ◌≤◌, ◌-◌, ℕ, IsTrue, length};
 ghost use Rattle.std.specs.Bool.{OnFalse};
 ghost use Rattle.edi_ports.specs.Faults.{HasRisen};
-ghost use Rattle.script_answers.specs.Finish.{IsFinish};
+ghost use Rattle.run_outcome.specs.Finish.{IsFinish};
 ghost use Rattle.script_answers.specs.Script.{IsAnsweredWhole, IsScriptAnswered, stopped_by};
-ghost use Rattle.script_answers.specs.Held.{held_of};
-ghost use Rattle.script_answers.specs.Put.{IsPutOut};
+ghost use Rattle.run_outcome.specs.Held.{held_of};
+ghost use Rattle.run_outcome.specs.Put.{IsPutOut};
 
-use crate::Status;
-use crate::put::{put_numbered, put_pair};
 use crate::reply::answer_command;
 use edi_engine::Engine;
 use edi_ports::{Sink, Source};
 use edit_script::{Command, ScriptReader, ScriptStop};
+use run_outcome::{Status, put_numbered, put_pair};
 use std::alloc::Global;
 use std::sync::ledger::Ledger;
 use step_counter::Steps;

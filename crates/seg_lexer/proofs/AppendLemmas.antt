@@ -6,10 +6,10 @@ use Rattle.std.specs.Option.{option_map}
 use Rattle.std.proofs.lemmas.Bool.{cases_lt, lt-ltb, le-ltb}
 use Rattle.std.proofs.lemmas.List.{drop-append-le, drop-drop, drop_at, map-append, take-append-le}
 use Rattle.seg_lexer.specs.Fields.{PlacedComponent, components_at, components_of, fields_at, fields_of, placed, separators_of}
-use Rattle.value_lexer.specs.Released.{is_release, is_released, run_before}
+use Rattle.seg_lexer.specs.Released.{is_release, is_released, run_before}
 use Rattle.seg_lexer.specs.Segments.{boundaries_of, ends_of, segment_in, segments_of, tail_of}
-use Rattle.value_lexer.specs.Breaks.{is_break, lead}
-use Rattle.value_lexer.specs.Stretch.{Stretch, moved, octets_in}
+use Rattle.seg_lexer.specs.Breaks.{is_break, lead}
+use Rattle.seg_lexer.specs.Stretch.{Stretch, moved, octets_in}
 use Rattle.seg_lexer.specs.Whole.{IsWhole, after_last, at_start, contents_of}
 use Rattle.seg_lexer.specs.declared.service.Service.{Service}
 use Rattle.seg_lexer.proofs.EndsLemmas.{AllBelow, IsAscending, ends-append, ends-ascending, ends-below}

@@ -6,9 +6,9 @@ use Rattle.std.proofs.lemmas.Bool.{cond_both}
 use Rattle.std.proofs.lemmas.List.{length-map}
 use Rattle.std.proofs.lemmas.List.FromFn.{length-enumerate_from, length-range_with_len}
 use Rattle.seg_lexer.specs.Fields.{Component, PlacedComponent, component_in, components_in, element_in, fields_of, is_cut, placed, stretches, unplaced}
-use Rattle.value_lexer.specs.Stretch.{Stretch, places_that}
+use Rattle.seg_lexer.specs.Stretch.{Stretch, places_that}
 use Rattle.seg_lexer.specs.declared.service.Separators.{Separators}
-use Rattle.value_lexer.proofs.PlacesLemmas.{length-filter-le}
+use Rattle.seg_lexer.proofs.PlacesLemmas.{length-filter-le}
 
 length-stretches : (a : ℕ) (cuts : List ℕ) (b : ℕ) → length (stretches a cuts b) ≡ length cuts + 1
 unfolding stretches

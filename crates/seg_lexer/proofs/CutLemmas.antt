@@ -6,14 +6,14 @@ use Rattle.std.proofs.lemmas.List.Edits.{length-between, get_or-between}
 use Rattle.memchr.specs.Find.{NoneBefore, Nowhere}
 use Rattle.seg_lexer.specs.Fields.{component_in, is_cut}
 use Rattle.seg_lexer.specs.Place.{AreApart, IsPlace, fields_from, rest_of}
-use Rattle.value_lexer.specs.Released.{is_release, is_released}
-use Rattle.value_lexer.specs.Scan.{IsFree}
-use Rattle.seg_lexer.specs.declared.components.Place.{Place}
-use Rattle.value_lexer.specs.declared.scan.Sought.TheVariants.{Two}
+use Rattle.seg_lexer.specs.Released.{is_release, is_released}
+use Rattle.seg_lexer.specs.Scan.{IsFree}
+use Rattle.seg_lexer.specs.declared.components.ComponentPlace.{ComponentPlace}
+use Rattle.seg_lexer.specs.declared.scan.Sought.TheVariants.{Two}
 use Rattle.seg_lexer.specs.declared.service.Separators.{Separators}
 use Rattle.seg_lexer.proofs.FieldsLemmas.{fields_from-component, fields_from-element, fields_from-last}
 use Rattle.memchr.proofs.lemmas.FindLemmas.{Nowhere-more}
-use Rattle.value_lexer.proofs.ReleasedLemmas.{is_released-between, is_released-from, is_released-more}
+use Rattle.seg_lexer.proofs.ReleasedLemmas.{is_released-between, is_released-from, is_released-more}
 
 -- start..end of the text is a segment, in which a component may begin at place a
 pub record Stands (release : Option ℕ) (text : List ℕ) (start end a : ℕ) : Type 0 where
@@ -86,7 +86,7 @@ module _ (sp : Separators) (text : List ℕ) (start end a : ℕ) (s : Stands sp.
         ] in
         is_released-more sp.release (between start end text) 0 j (omega arith) (omega arith) ∙ and_left _ _ (plain sp.release refl)
 
-abbrev place : ℕ → ℕ → ℕ → Place
+abbrev place : ℕ → ℕ → ℕ → ComponentPlace
 place at element component = record { at = at; element = element; component = component }
 
 -- what a search shows, in the words of the segment
@@ -113,7 +113,7 @@ module _ (sp : Separators) (text : List ℕ) (start end a : ℕ) (s : Stands sp.
     here : IsFree sp.release (Two sp.element sp.component) text (start + a) (start + (found - start))
     here = subst (IsFree sp.release (Two sp.element sp.component) text (start + a)) (sym stop-at.2) free
 
-    pub rest-element : (p : Place) → p ≡ place (found - start + 1) (element + 1) 1 → get_or text found 0 ≡ sp.element
+    pub rest-element : (p : ComponentPlace) → p ≡ place (found - start + 1) (element + 1) 1 → get_or text found 0 ≡ sp.element
         → fields_from sp (between start end text) element c a
         ≡ component_in sp.release (between start end text) element (c, record { from = a; to = found - start }) ∷ rest_of sp (between start end text) (Some p)
     rest-element p is same =
@@ -123,9 +123,9 @@ module _ (sp : Separators) (text : List ℕ) (start end a : ℕ) (s : Stands sp.
         (no-element sp text start end a s (found - start) stop-at.0 (omega arith) before)
         (no-component sp text start end a s (found - start) stop-at.0 (omega arith) before)
         (at_element sp text start end a s (found - start) stop-at.0 below here (ap (λ (k : ℕ). get_or text k 0) stop-at.2 ∙ same))
-        ∙ ap (λ (q : Place). component_in sp.release (between start end text) element (c, record { from = a; to = found - start }) ∷ rest_of sp (between start end text) (Some q)) (sym is)
+        ∙ ap (λ (q : ComponentPlace). component_in sp.release (between start end text) element (c, record { from = a; to = found - start }) ∷ rest_of sp (between start end text) (Some q)) (sym is)
 
-    pub rest-component : (p : Place) → p ≡ place (found - start + 1) element (c + 1) → get_or text found 0 ≢ sp.element
+    pub rest-component : (p : ComponentPlace) → p ≡ place (found - start + 1) element (c + 1) → get_or text found 0 ≢ sp.element
         → fields_from sp (between start end text) element c a
         ≡ component_in sp.release (between start end text) element (c, record { from = a; to = found - start }) ∷ rest_of sp (between start end text) (Some p)
     rest-component p is other =
@@ -137,11 +137,11 @@ module _ (sp : Separators) (text : List ℕ) (start end a : ℕ) (s : Stands sp.
         (no-separator sp text start end a s (found - start) stop-at.0 below here other_here))
         (no-component sp text start end a s (found - start) stop-at.0 (omega arith) before)
         (at_component sp text start end a s (found - start) stop-at.0 below here other_here)
-        ∙ ap (λ (q : Place). component_in sp.release (between start end text) element (c, record { from = a; to = found - start }) ∷ rest_of sp (between start end text) (Some q)) (sym is)
+        ∙ ap (λ (q : ComponentPlace). component_in sp.release (between start end text) element (c, record { from = a; to = found - start }) ∷ rest_of sp (between start end text) (Some q)) (sym is)
 
     -- where the next component begins
-    pub place-after : AreApart sp → (e n : ℕ) (p : Place) → p ≡ place (found - start + 1) e n → e ≤ found - start + 1 → n ≤ found - start + 1 + 1
-        → (next : Place) → Some p ≡ Some next → IsPlace sp.release (between start end text) next
+    pub place-after : AreApart sp → (e n : ℕ) (p : ComponentPlace) → p ≡ place (found - start + 1) e n → e ≤ found - start + 1 → n ≤ found - start + 1 + 1
+        → (next : ComponentPlace) → Some p ≡ Some next → IsPlace sp.release (between start end text) next
     place-after apart e n p is_place few_elements few_components next is =
         let len : length (between start end text) ≡ end - start = length-between text start end s.within in
         let below = stop-at.1 in

@@ -5,7 +5,7 @@ use Rattle.std.specs.Option.{option_map}
 use Rattle.std.proofs.lemmas.List.{append_assoc, drop-drop, drop_at, length-take-le, take-append-drop}
 use Rattle.seg_lexer.specs.Segments.{IsBoundary, segments_of, tail_of}
 use Rattle.seg_lexer.specs.Service.{IsUsable}
-use Rattle.value_lexer.specs.Stretch.{moved}
+use Rattle.seg_lexer.specs.Stretch.{moved}
 use Rattle.seg_lexer.specs.Whole.{at_start, spliced}
 use Rattle.seg_lexer.specs.declared.service.Service.{Service}
 use Rattle.seg_lexer.proofs.SegmentsLemmas.{boundary-at}

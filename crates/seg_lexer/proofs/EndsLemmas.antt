@@ -5,14 +5,14 @@ use Rattle.std.specs.List.{filter, range_with_len}
 use Rattle.std.proofs.lemmas.Bool.{cond_both, lt-ltb, le-ltb}
 use Rattle.std.proofs.lemmas.List.{append-nil, drop-append-le, drop_more, take_all}
 use Rattle.std.proofs.lemmas.List.Elements.{filter-append}
-use Rattle.value_lexer.specs.Released.{is_released}
-use Rattle.value_lexer.specs.Scan.{released_after, releases}
+use Rattle.seg_lexer.specs.Released.{is_released}
+use Rattle.seg_lexer.specs.Scan.{released_after, releases}
 use Rattle.seg_lexer.specs.Segments.{ends_of}
 use Rattle.seg_lexer.specs.Whole.{at_start}
 use Rattle.seg_lexer.specs.declared.service.Service.{Service}
-use Rattle.value_lexer.proofs.ForwardLemmas.{after-is}
-use Rattle.value_lexer.proofs.PlacesLemmas.{map-cond}
-use Rattle.value_lexer.proofs.ReleasedLemmas.{is_released-more, is_released-start}
+use Rattle.seg_lexer.proofs.ForwardLemmas.{after-is}
+use Rattle.seg_lexer.proofs.PlacesLemmas.{map-cond}
+use Rattle.seg_lexer.proofs.ReleasedLemmas.{is_released-more, is_released-start}
 
 -- the places of the unreleased octets t of a list that begins at place a, where its first octet is released (b) or isn't
 abbrev pub found : Option ℕ → ℕ → Bool → ℕ → List ℕ → List ℕ

@@ -4,10 +4,10 @@ use Rattle.std.specs.Prelude.{map}
 use Rattle.std.specs.List.{enumerate_from, flat_map, slice_get}
 use Rattle.memchr.specs.Find.{Nowhere}
 use Rattle.seg_lexer.specs.Fields.{component_in, components_in, cut, element_in, fields_of, is_cut, stretches}
-use Rattle.value_lexer.specs.Stretch.{Stretch, places_that}
+use Rattle.seg_lexer.specs.Stretch.{Stretch, places_that}
 use Rattle.seg_lexer.specs.Place.{fields_after, fields_from}
 use Rattle.seg_lexer.specs.declared.service.Separators.{Separators}
-use Rattle.value_lexer.proofs.PlacesLemmas.{places_that-first, places_that-later, places_that-none, places_that-within}
+use Rattle.seg_lexer.proofs.PlacesLemmas.{places_that-first, places_that-later, places_that-none, places_that-within}
 
 module _ (release : Option ℕ) (xs : List ℕ) (separator : ℕ) where
   cut-none : (a b : ℕ) → Nowhere (λ i. is_cut release xs separator i ≡ true) a b → cut release xs separator a b ≡ record { from = a; to = b } ∷ []

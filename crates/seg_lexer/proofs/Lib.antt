@@ -5,12 +5,18 @@ mod CutLemmas
 pub mod EditLemmas
 pub mod EndsLemmas
 pub mod FieldsLemmas
+pub mod ForwardLemmas
 pub mod OrderLemmas
 mod PartsLemmas
+pub mod PlacesLemmas
+pub mod ReleasedLemmas
+mod ScanLemmas
 pub mod SegmentsLemmas
 pub mod ServiceLemmas
+mod StretchLemmas
 mod TagLemmas
+pub mod WholeLemmas
 mod WorkedContext
 mod WorkedFields
 mod WorkedSegments
-pub mod WholeLemmas
+mod WorkedValues

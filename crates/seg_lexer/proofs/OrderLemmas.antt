@@ -8,9 +8,9 @@ use Rattle.edi_octets.specs.declared.octets.Octets.{Ghosts}
 use Rattle.seg_lexer.specs.Fields.{Component, IsInOrder, PlacedComponent, component_in, components_of, cut, element_in, fields_of, octets_at, placed, unplaced}
 use Rattle.seg_lexer.specs.Left.{components_left, fields_left}
 use Rattle.seg_lexer.specs.Place.{fields_after, fields_from, rest_of}
-use Rattle.value_lexer.specs.Stretch.{Stretch}
+use Rattle.seg_lexer.specs.Stretch.{Stretch}
 use Rattle.seg_lexer.specs.declared.components.Fields.{Fields}
-use Rattle.seg_lexer.specs.declared.components.Place.{Place}
+use Rattle.seg_lexer.specs.declared.components.ComponentPlace.{ComponentPlace}
 use Rattle.seg_lexer.specs.declared.service.Separators.{Separators}
 use Rattle.seg_lexer.proofs.CountLemmas.{map-unplaced-placed}
 
@@ -39,7 +39,7 @@ module _ (sp : Separators) (xs : List ℕ) where
   IsInOrder-from element c a = IsInOrder-after element c (cut sp.release xs sp.element a (length xs))
 
 -- what is left of a segment comes in order, from the element of the next component on
-pub components_left-from : {O : Type 0} {o : Ghosts O} (f : Fields O o) (p : Place) → f.place ≡ Some p → IsInOrder p.element (components_left f)
+pub components_left-from : {O : Type 0} {o : Ghosts O} (f : Fields O o) (p : ComponentPlace) → f.place ≡ Some p → IsInOrder p.element (components_left f)
 unfolding fields_left
 components_left-from {o = o} f p is =
     let xs : List ℕ = between f.start f.end (o.octets f.text.now) in
@@ -48,7 +48,7 @@ components_left-from {o = o} f p is =
     (IsInOrder-from f.separators xs p.element p.component p.at))
 
 module _ (sp : Separators) (xs : List ℕ) (start : ℕ) where
-  rest-in_order : (q : Option Place) → IsInOrder 0 (map unplaced (map (placed start) (rest_of sp xs q)))
+  rest-in_order : (q : Option ComponentPlace) → IsInOrder 0 (map unplaced (map (placed start) (rest_of sp xs q)))
   rest-in_order None = tt
   rest-in_order (Some p) =
       subst (IsInOrder 0) (sym (map-unplaced-placed start (fields_from sp xs p.element p.component p.at)))

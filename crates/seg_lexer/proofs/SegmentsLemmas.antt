@@ -10,16 +10,16 @@ use Rattle.std.proofs.lemmas.List.Sums.{prefix_len_is, prefix_len-le-length}
 use Rattle.std.proofs.lemmas.Option.{slice_get-map, slice_get_within, get_or_from_slice_get}
 use Rattle.std.proofs.lemmas.Slice.Zip.{length-zip}
 use Rattle.memchr.specs.Find.{IsFirst}
-use Rattle.value_lexer.specs.Released.{is_release, is_released}
-use Rattle.value_lexer.specs.Scan.{IsFree, is_free}
+use Rattle.seg_lexer.specs.Released.{is_release, is_released}
+use Rattle.seg_lexer.specs.Scan.{IsFree, is_free}
 use Rattle.seg_lexer.specs.Segments.{IsBoundary, IsLexed, boundaries_of, ends_of, is_end, segment_in, segments_of, tail_of}
-use Rattle.value_lexer.specs.Breaks.{is_break, lead}
+use Rattle.seg_lexer.specs.Breaks.{is_break, lead}
 use Rattle.seg_lexer.specs.Service.{IsUsable}
 use Rattle.seg_lexer.specs.declared.service.Service.{Service}
-use Rattle.value_lexer.specs.declared.scan.Sought.TheVariants.{One}
+use Rattle.seg_lexer.specs.declared.scan.Sought.TheVariants.{One}
 use Rattle.seg_lexer.specs.declared.segment.Lexed.TheVariants.{Ended, Tail, Nothing}
-use Rattle.value_lexer.proofs.PlacesLemmas.{IsStart, start-at, end-at}
-use Rattle.value_lexer.proofs.ReleasedLemmas.{is_released-start, is_released-more, is_released-from}
+use Rattle.seg_lexer.proofs.PlacesLemmas.{IsStart, start-at, end-at}
+use Rattle.seg_lexer.proofs.ReleasedLemmas.{is_released-start, is_released-more, is_released-from}
 
 -- the place that a skip of CR and LF comes to
 pub lead_is : (text : List ℕ) (a b start : ℕ) → a ≤ start → start ≤ b → b ≤ length text → ((k : ℕ) → a ≤ k → k < start → is_break (get_or text k 0) ≡ true) → (start < b → is_break (get_or text start 0) ≡ false) → start ≡ lead text a b

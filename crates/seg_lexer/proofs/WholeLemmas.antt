@@ -6,17 +6,17 @@ use Rattle.std.specs.Option.{ForSome, option_map}
 use Rattle.std.proofs.lemmas.Bool.{and_left, and_parts, both_ways, cases_Bool, cases_lt, eq-eqb, eqb-true, lt-ltb, ne_eqb, not-true}
 use Rattle.std.proofs.lemmas.List.{get_or-append-add, get_or_append_left, length-take-le, take-append-drop, take_more}
 use Rattle.std.proofs.lemmas.Option.{slice_get-map}
-use Rattle.value_lexer.specs.Released.{is_release, is_released}
+use Rattle.seg_lexer.specs.Released.{is_release, is_released}
 use Rattle.seg_lexer.specs.Segments.{IsBoundary, boundaries_of, ends_of, is_end, segment_in, segments_of, tail_of}
-use Rattle.value_lexer.specs.Breaks.{lead}
+use Rattle.seg_lexer.specs.Breaks.{lead}
 use Rattle.seg_lexer.specs.Service.{IsUsable}
-use Rattle.value_lexer.specs.Stretch.{Stretch, moved}
+use Rattle.seg_lexer.specs.Stretch.{Stretch, moved}
 use Rattle.seg_lexer.specs.Whole.{IsWhole, after_last, at_start, contents_of}
 use Rattle.seg_lexer.specs.declared.service.Service.{Service}
 use Rattle.seg_lexer.proofs.AppendLemmas.{after_last-append, after_last-shift, contents-append, is_released-front, is_released-past, lead-front, pairs, segments-append, tail-append}
 use Rattle.seg_lexer.proofs.EndsLemmas.{AllBelow, IsAscending, below-none, ends-append, ends-ascending, ends-before, ends-below, ends-front, found}
-use Rattle.value_lexer.proofs.PlacesLemmas.{IsStart, filter-fail, filter-pass, start-at}
-use Rattle.value_lexer.proofs.ReleasedLemmas.{is_released-from, is_released-more, is_released-start}
+use Rattle.seg_lexer.proofs.PlacesLemmas.{IsStart, filter-fail, filter-pass, start-at}
+use Rattle.seg_lexer.proofs.ReleasedLemmas.{is_released-from, is_released-more, is_released-start}
 use Rattle.seg_lexer.proofs.SegmentsLemmas.{boundary-at, boundary-zero}
 
 -- a place that passes is kept, and has a number among those that are

@@ -3,10 +3,10 @@ use Rattle.std.proofs.Common.{◌≡◌, refl}
 use Rattle.std.specs.Prelude.{codes}
 use Rattle.seg_lexer.specs.Context.{context_of}
 use Rattle.seg_lexer.specs.Fields.{fields_of, stretches}
-use Rattle.value_lexer.specs.Stretch.{places_that}
-use Rattle.value_lexer.specs.Released.{is_released, run_before, value_of}
+use Rattle.seg_lexer.specs.Stretch.{places_that}
+use Rattle.seg_lexer.specs.Released.{is_released, run_before, value_of}
 use Rattle.seg_lexer.specs.Segments.{boundaries_of, ends_of, segments_of}
-use Rattle.value_lexer.specs.Breaks.{lead}
+use Rattle.seg_lexer.specs.Breaks.{lead}
 use Rattle.seg_lexer.specs.Service.{default_service, service_of}
 use Rattle.seg_lexer.specs.Tag.{tag_of}
 use Rattle.seg_lexer.specs.declared.context.Level.TheVariants.{A, B}

@@ -2,8 +2,8 @@
 use Rattle.std.proofs.Common.{◌≡◌, [], ◌∷◌, Some, None, refl}
 use Rattle.std.specs.Prelude.{codes}
 use Rattle.seg_lexer.specs.Fields.{components_of, fields_of, separators_of, stretches}
-use Rattle.value_lexer.specs.Stretch.{places_that}
-use Rattle.value_lexer.specs.Released.{is_released, run_before, value_of}
+use Rattle.seg_lexer.specs.Stretch.{places_that}
+use Rattle.seg_lexer.specs.Released.{is_released, run_before, value_of}
 use Rattle.seg_lexer.specs.Service.{default_service}
 use Rattle.seg_lexer.specs.Tag.{tag_of}
 

@@ -1,9 +1,9 @@
 -- Worked texts, each computed by hand first: the segments, tails and service characters that the definitions give.
 use Rattle.std.proofs.Common.{◌≡◌, [], ◌∷◌, ◌++◌, Some, None, true, false, refl}
 use Rattle.std.specs.Prelude.{codes}
-use Rattle.value_lexer.specs.Released.{run_before, is_released}
+use Rattle.seg_lexer.specs.Released.{run_before, is_released}
 use Rattle.seg_lexer.specs.Segments.{boundaries_of, ends_of, segments_of, tail_of}
-use Rattle.value_lexer.specs.Breaks.{lead}
+use Rattle.seg_lexer.specs.Breaks.{lead}
 use Rattle.seg_lexer.specs.Service.{default_service, service_of}
 
 -- a released release character releases nothing

@@ -3,8 +3,9 @@
 use Rattle.std.specs.Prelude.{◌≤◌, ⊤, ℕ, ◌+◌, Bool, not, ◌&&◌, ◌==◌, List, [], ◌∷◌, length, map, find, slice_index, slice_range, Option}
 use Rattle.std.specs.List.{enumerate_from, flat_map}
 use Rattle.std.specs.Option.{option_map}
-use Rattle.value_lexer.specs.Released.{is_released, value_of}
-use Rattle.value_lexer.specs.Stretch.{Stretch, moved, octets_in, places_that}
+use Rattle.edi_tables.specs.Octets.{Octets}
+use Rattle.seg_lexer.specs.Released.{is_released, value_of}
+use Rattle.seg_lexer.specs.Stretch.{Stretch, moved, octets_in, places_that}
 use Rattle.seg_lexer.specs.declared.service.Separators.{Separators}
 use Rattle.seg_lexer.specs.declared.service.Service.{Service}
 
@@ -13,55 +14,55 @@ abbrev pub separators_of : Service → Separators
 separators_of s = record { release = s.release; element = s.element; component = s.component }
 
 -- place i holds an unreleased separator
-abbrev pub is_cut : Option ℕ → List ℕ → ℕ → ℕ → Bool
+abbrev pub is_cut : Option ℕ → Octets → ℕ → ℕ → Bool
 is_cut release xs separator i = slice_index xs i == separator && not (is_released release xs 0 i)
 
 -- the stretches that a..b falls into when it is cut at these places
-unfoldable pub stretches : ℕ → List ℕ → ℕ → List Stretch
+unfoldable pub stretches : ℕ → Octets → ℕ → List Stretch
 stretches a [] b = record { from = a; to = b } ∷ []
 stretches a (c ∷ cs) b = record { from = a; to = c } ∷ stretches (c + 1) cs b
 
 -- a..b cut at its unreleased separators
-abbrev pub cut : Option ℕ → List ℕ → ℕ → ℕ → ℕ → List Stretch
+abbrev pub cut : Option ℕ → Octets → ℕ → ℕ → ℕ → List Stretch
 cut release xs separator a b = stretches a (places_that (is_cut release xs separator) a b) b
 
 -- a component: the numbers of its element (0 for the tag field) and of itself (from 1), and its value
 pub record Component : Type 0 where
   pub element : ℕ
   pub component : ℕ
-  pub octets : List ℕ
+  pub octets : Octets
 
 -- the same with its place
 pub record PlacedComponent : Type 0 where
   pub element : ℕ
   pub component : ℕ
   pub place : Stretch
-  pub octets : List ℕ
+  pub octets : Octets
 
 abbrev pub unplaced : PlacedComponent → Component
 unplaced f = record { element = f.element; component = f.component; octets = f.octets }
 
 -- the component of an element that is this stretch of the segment, by its number
-abbrev pub component_in : Option ℕ → List ℕ → ℕ → ℕ × Stretch → PlacedComponent
+abbrev pub component_in : Option ℕ → Octets → ℕ → ℕ × Stretch → PlacedComponent
 component_in release xs element p =
     record { element = element; component = p.0; place = p.1; octets = value_of release (octets_in xs p.1) }
 
 -- the components of the stretch a..b, which belongs to an element, numbered from c
-abbrev pub components_in : Separators → List ℕ → ℕ → ℕ → ℕ → ℕ → List PlacedComponent
+abbrev pub components_in : Separators → Octets → ℕ → ℕ → ℕ → ℕ → List PlacedComponent
 components_in sp xs element c a b =
     map (component_in sp.release xs element) (enumerate_from c (cut sp.release xs sp.component a b))
 
 -- all components of an element that is this stretch of the segment, by its number
-abbrev pub element_in : Separators → List ℕ → ℕ × Stretch → List PlacedComponent
+abbrev pub element_in : Separators → Octets → ℕ × Stretch → List PlacedComponent
 element_in sp xs p = components_in sp xs p.0 1 p.1.from p.1.to
 
 -- every component of a segment, empty ones too, in order: the tag field is element 0,
 -- and components are numbered from 1 in each element
-unfoldable pub fields_of : Separators → List ℕ → List PlacedComponent
+unfoldable pub fields_of : Separators → Octets → List PlacedComponent
 fields_of sp xs = flat_map (element_in sp xs) (enumerate_from 0 (cut sp.release xs sp.element 0 (length xs)))
 
 -- the same without places: all that a segment says
-abbrev pub components_of : Separators → List ℕ → List Component
+abbrev pub components_of : Separators → Octets → List Component
 components_of sp xs = map unplaced (fields_of sp xs)
 
 -- a component of a segment that begins at place `start` of the text
@@ -69,11 +70,11 @@ abbrev pub placed : ℕ → PlacedComponent → PlacedComponent
 placed start f = record f { place = moved start f.place }
 
 -- the components of the segment start..end of a text
-abbrev pub fields_at : Service → List ℕ → ℕ → ℕ → List PlacedComponent
+abbrev pub fields_at : Service → Octets → ℕ → ℕ → List PlacedComponent
 fields_at s text start end = map (placed start) (fields_of (separators_of s) (slice_range text start end))
 
 -- the same without places
-abbrev pub components_at : Service → List ℕ → ℕ → ℕ → List Component
+abbrev pub components_at : Service → Octets → ℕ → ℕ → List Component
 components_at s text start end = components_of (separators_of s) (slice_range text start end)
 
 -- the elements of these components never fall, and none is below n
@@ -82,7 +83,7 @@ IsInOrder n [] = ⊤
 IsInOrder n (e ∷ es) = (n ≤ e.element) × IsInOrder e.element es
 
 -- the value of a component, where it is written
-abbrev pub octets_at : ℕ → ℕ → List Component → Option (List ℕ)
+abbrev pub octets_at : ℕ → ℕ → List Component → Option Octets
 octets_at element component es =
     option_map (λ e. e.octets) (find (λ e. e.element == element && e.component == component) es)
 

@@ -3,7 +3,7 @@ use Rattle.std.specs.Prelude.{List, map, slice_range}
 use Rattle.edi_octets.specs.declared.octets.Octets.{Ghosts}
 use Rattle.seg_lexer.specs.Fields.{Component, PlacedComponent, placed, unplaced}
 use Rattle.seg_lexer.specs.Place.{rest_of}
-use Rattle.value_lexer.specs.Value.{octets_of, span_of}
+use Rattle.seg_lexer.specs.Value.{octets_of, span_of}
 use Rattle.seg_lexer.specs.declared.components.Component.{Component as ReadComponent}
 use Rattle.seg_lexer.specs.declared.components.Fields.{Fields}
 

@@ -1,8 +1,14 @@
+pub mod Breaks
+pub mod Context
 pub mod Fields
 pub mod Left
+pub mod Lent
 pub mod Place
+pub mod Released
+pub mod Scan
 pub mod Segments
 pub mod Service
+pub mod Stretch
 pub mod Tag
-pub mod Context
+pub mod Value
 pub mod Whole

@@ -2,10 +2,11 @@
 use Rattle.std.specs.Prelude.{ℕ, ◌+◌, ◌≡◌, ◌≢◌, ◌≤◌, false, List, [], ◌∷◌, ◌++◌, length, Option, Some, None}
 use Rattle.std.specs.List.{enumerate_from, flat_map}
 use Rattle.std.specs.Option.{ForSome}
+use Rattle.edi_tables.specs.Octets.{Octets}
 use Rattle.seg_lexer.specs.Fields.{PlacedComponent, component_in, components_in, cut, element_in}
-use Rattle.value_lexer.specs.Released.{is_released}
-use Rattle.value_lexer.specs.Stretch.{Stretch}
-use Rattle.seg_lexer.specs.declared.components.Place.{Place}
+use Rattle.seg_lexer.specs.Released.{is_released}
+use Rattle.seg_lexer.specs.Stretch.{Stretch}
+use Rattle.seg_lexer.specs.declared.components.ComponentPlace.{ComponentPlace}
 use Rattle.seg_lexer.specs.declared.service.Separators.{Separators}
 
 -- the release character is no separator
@@ -14,32 +15,32 @@ AreApart sp = ForSome sp.release (λ r. (sp.element ≢ r) × (sp.component ≢ 
 
 -- from component c of an element on: the components of the first of these stretches, which belongs to that element,
 -- and those of the later elements
-abbrev pub fields_after : Separators → List ℕ → ℕ → List (ℕ × Stretch) → List PlacedComponent
+abbrev pub fields_after : Separators → Octets → ℕ → List (ℕ × Stretch) → List PlacedComponent
 fields_after sp xs c [] = []
 fields_after sp xs c (p ∷ ps) = components_in sp xs p.0 c p.1.from p.1.to ++ flat_map (element_in sp xs) ps
 
 -- the components of a segment from component c of an element on, which begins at place a
-unfoldable pub fields_from : Separators → List ℕ → ℕ → ℕ → ℕ → List PlacedComponent
+unfoldable pub fields_from : Separators → Octets → ℕ → ℕ → ℕ → List PlacedComponent
 fields_from sp xs element c a =
     fields_after sp xs c (enumerate_from element (cut sp.release xs sp.element a (length xs)))
 
 -- a component may begin there: no octet of the segment releases the one there,
 -- and its numbers are no greater than its place allows
-pub record IsPlace (release : Option ℕ) (xs : List ℕ) (p : Place) : Type 0 where
+pub record IsPlace (release : Option ℕ) (xs : Octets) (p : ComponentPlace) : Type 0 where
   pub within : p.at ≤ length xs
   pub element : p.element ≤ p.at
   pub component : p.component ≤ p.at + 1
   pub free : is_released release xs 0 p.at ≡ false
 
 -- the components of a segment from there on
-abbrev pub rest_of : Separators → List ℕ → Option Place → List PlacedComponent
+abbrev pub rest_of : Separators → Octets → Option ComponentPlace → List PlacedComponent
 rest_of sp xs None = []
 rest_of sp xs (Some p) = fields_from sp xs p.element p.component p.at
 
 -- the component that begins at a place and ends before place `stop` of the segment
-abbrev pub component_to : Option ℕ → List ℕ → Place → ℕ → PlacedComponent
+abbrev pub component_to : Option ℕ → Octets → ComponentPlace → ℕ → PlacedComponent
 component_to release xs p stop = component_in release xs p.element (p.component, record { from = p.at; to = stop })
 
 -- the component whose numbers a place has, where it stands in the text, and its value
-abbrev pub placed_at : Place → Stretch → List ℕ → PlacedComponent
+abbrev pub placed_at : ComponentPlace → Stretch → Octets → PlacedComponent
 placed_at p place octets = record { element = p.element; component = p.component; place = place; octets = octets }

@@ -1,7 +1,8 @@
 -- Service string advice (`UNA`, ISO 9735): the characters that separate, release and end the parts of a text.
-use Rattle.std.specs.Prelude.{ℕ, ◌≤◌, ◌≢◌, min, Bool, true, false, not, ◌&&◌, ◌||◌, ◌==◌, nat_le, nat_eq, List, [], ◌∷◌, length, slice_index, codes, Some, None, if◌then◌else◌}
+use Rattle.std.specs.Prelude.{ℕ, ◌≤◌, ◌≢◌, min, Bool, true, false, not, ◌&&◌, ◌||◌, ◌==◌, nat_le, nat_eq, [], ◌∷◌, length, slice_index, codes, Some, None, if◌then◌else◌}
 use Rattle.std.specs.List.{list_all, starts_with}
 use Rattle.std.specs.Option.{ForSome, option_to_list}
+use Rattle.edi_tables.specs.Octets.{Octets}
 use Rattle.seg_lexer.specs.declared.service.Service.{Service}
 
 -- the default service characters `:` `+` `.` `?` `'`, over a text without service string advice
@@ -18,7 +19,7 @@ default_service = record {
 
 -- octets 3 to 8 of a service string advice: component separator, element separator, decimal mark,
 -- release character (a space: none), a reserved place, terminator
-abbrev pub advice_in : List ℕ → Service
+abbrev pub advice_in : Octets → Service
 advice_in text = record {
   component = slice_index text 3;
   element = slice_index text 4;
@@ -41,11 +42,11 @@ is_plain x =
 
 -- the characters that a reading must tell apart: both separators, the terminator,
 -- and the release character if there is one
-abbrev pub characters_of : Service → List ℕ
+abbrev pub characters_of : Service → Octets
 characters_of s = s.component ∷ s.element ∷ s.terminator ∷ option_to_list s.release
 
 -- no two of them are equal
-abbrev pub are_different : List ℕ → Bool
+abbrev pub are_different : Octets → Bool
 are_different [] = true
 are_different (x ∷ xs) = list_all (λ y. not (x == y)) xs && are_different xs
 
@@ -56,18 +57,18 @@ is_acceptable s = are_different (characters_of s) && list_all (λ x. not (is_pla
 
 -- the service characters of a text that begins with `UNA`: those that it gives if it has nine octets and may be used,
 -- else the default characters, with a body that begins at octet 9 or at the end of a shorter text
-abbrev pub advised_service : List ℕ → Service
+abbrev pub advised_service : Octets → Service
 advised_service text =
     if nat_le 9 (length text) && is_acceptable (advice_in text) then advice_in text
     else record default_service { body = min 9 (length text); sound = false }
 
 -- the service characters of a text: the default ones where it doesn't begin with `UNA`
-unfoldable pub service_of : List ℕ → Service
+unfoldable pub service_of : Octets → Service
 service_of text = if starts_with nat_eq text (codes "UNA") then advised_service text else default_service
 
 -- a text can be read by these characters: the body lies in it,
 -- and the release character is neither the terminator nor a separator
-pub record IsUsable (s : Service) (text : List ℕ) : Type 0 where
+pub record IsUsable (s : Service) (text : Octets) : Type 0 where
   pub body : s.body ≤ length text
   pub from_terminator : ForSome s.release (λ r. r ≢ s.terminator)
   pub from_element : ForSome s.release (λ r. r ≢ s.element)

@@ -3,12 +3,13 @@ ghost use Rattle.std.specs.Prelude.{Some, ⊤, ◌≡◌, ◌∷◌, ◌+◌, �
 ghost use Rattle.std.specs.Option.{ForSome};
 ghost use Rattle.seg_lexer.specs.Fields.{separators_of};
 ghost use Rattle.seg_lexer.specs.Place.{AreApart, IsPlace, component_to, rest_of};
-ghost use Rattle.value_lexer.specs.declared.TheConstants.{LONGEST_TEXT};
+ghost use Rattle.edi_octets.specs.declared.octets.TheConstants.{LONGEST_TEXT};
 
+use crate::scan::{Sought, find_free};
 use crate::service::{Separators, Service};
+use crate::value::Value;
 use edi_octets::Octets;
 use std::alloc::AllocError;
-use value_lexer::{Sought, Value, find_free};
 
 /// A component of a segment: the number of its element, which is 0 for the tag field, its own number, from 1 in each
 /// element, and its value.
@@ -21,19 +22,19 @@ pub struct Component<'a, O: Octets> {
 
 /// Where a component begins, counted from the segment's first octet, and its numbers.
 #[derive(Clone, Copy, Debug)]
-struct Place {
+struct ComponentPlace {
     at: usize,
     element: u32,
     component: u32,
 }
 
-impl Place {
+impl ComponentPlace {
     /// The first component of the next element.
-    fn next_element(&self, at: usize) -> Place
+    fn next_element(&self, at: usize) -> ComponentPlace
         requires { self.now.element + 1 < 2 ^ 32 }
         ensures { result ≡ record { at = at; element = self.now.element + 1; component = 1 } }
     {
-        Place {
+        ComponentPlace {
             at,
             element: self.element + 1,
             component: 1,
@@ -41,12 +42,12 @@ impl Place {
     }
 
     /// The next component of the same element.
-    fn next_component(&self, at: usize) -> Place
+    fn next_component(&self, at: usize) -> ComponentPlace
         requires { self.now.component + 1 < 2 ^ 32 }
         ensures { result
             ≡ record { at = at; element = self.now.element; component = self.now.component + 1 } }
     {
-        Place {
+        ComponentPlace {
             at,
             element: self.element,
             component: self.component + 1,
@@ -55,7 +56,7 @@ impl Place {
 }
 
 /// The first component of a tag field.
-const FIRST: Place = Place {
+const FIRST: ComponentPlace = ComponentPlace {
     at: 0,
     element: 0,
     component: 1,
@@ -65,7 +66,7 @@ const FIRST: Place = Place {
 #[derive(Clone, Copy)]
 struct Cut {
     stop: usize,
-    next: Option<Place>,
+    next: Option<ComponentPlace>,
 }
 
 /// The components of a segment that are left, in order, empty ones too. A copy goes on by itself.
@@ -76,7 +77,7 @@ pub struct Fields<'a, O: Octets> {
     separators: Separators,
     start: usize,
     end: usize,
-    place: Option<Place>,
+    place: Option<ComponentPlace>,
     ghost apart: { AreApart separators },
     ghost ordered: { start ≤ end },
     ghost within: { end ≤ length (O.octets text.now) },
@@ -104,7 +105,7 @@ impl<'a, O: Octets> Fields<'a, O> {
     ghost use Rattle.seg_lexer.specs.Left.{components_left, fields_left};
     ghost use Rattle.seg_lexer.specs.Place.{placed_at};
     ghost use Rattle.seg_lexer.specs.Tag.{past_tag_field, tag_field};
-    ghost use Rattle.value_lexer.specs.Value.{octets_of, span_of};
+    ghost use Rattle.seg_lexer.specs.Value.{octets_of, span_of};
 
     /// The components of the segment `start..end` of a text.
     pub(crate) fn new(text: &'a O, service: &Service, start: usize, end: usize) -> Fields<'a, O>
@@ -154,7 +155,7 @@ impl<'a, O: Octets> Fields<'a, O> {
 
     /// Takes the value of the component that is next, and whose place is this.
     #[tactic(auto, unfolding(crate::specs::Left::fields_left))]
-    fn take(&mut self, place: Place) -> Value<'a, O>
+    fn take(&mut self, place: ComponentPlace) -> Value<'a, O>
         requires { self.old.place ≡ Some place }
         ensures { fields_left self.old
             ≡ placed_at place (span_of result) (octets_of result) ∷ fields_left self.new }
@@ -170,7 +171,7 @@ impl<'a, O: Octets> Fields<'a, O> {
     }
 
     /// Cuts off the component that is next.
-    fn cut(&self, place: Place) -> Cut
+    fn cut(&self, place: ComponentPlace) -> Cut
         requires { self.now.place ≡ Some place }
         ensures stop { (place.at ≤ result.stop) × (result.stop ≤ self.now.end - self.now.start) }
         ensures next { let xs =

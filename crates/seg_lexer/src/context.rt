@@ -5,16 +5,17 @@ ghost use Rattle.std.specs.Str.{bytes_eq};
 ghost use Rattle.seg_lexer.specs.Context.{context_in, context_of, level_in, opening_in, version_in};
 ghost use Rattle.seg_lexer.specs.Fields.{components_at};
 ghost use Rattle.seg_lexer.specs.Service.{IsUsable};
-ghost use Rattle.value_lexer.specs.Value.{octets_of};
+ghost use Rattle.seg_lexer.specs.Value.{octets_of};
+ghost use Rattle.edi_octets.specs.declared.octets.TheConstants.{LONGEST_TEXT};
 
 use crate::segment::{Lexed, fields, next_segment};
 use crate::service::{Service, read_service};
 use crate::tag::read_tag;
+use crate::value::Value;
 use edi_octets::Octets;
 use edi_tables::Tag;
 use std::sync::ledger::Ledger;
 use step_counter::Steps;
-use value_lexer::{LONGEST_TEXT, Value};
 
 /// A level of characters, `UNOA` to `UNOF`: which octets values may have.
 #[derive(Clone, Copy, Debug, PartialEq, Eq)]

@@ -4,13 +4,14 @@ ghost use Rattle.seg_lexer.specs.Fields.{IsInOrder, components_at, fields_at};
 ghost use Rattle.seg_lexer.specs.Left.{components_left, fields_left};
 ghost use Rattle.seg_lexer.specs.Segments.{IsBoundary, IsLexed, boundaries_of};
 ghost use Rattle.seg_lexer.specs.Service.{IsUsable};
+ghost use Rattle.edi_octets.specs.declared.octets.TheConstants.{LONGEST_TEXT};
 
 use crate::components::Fields;
+use crate::scan::{Sought, find_free, skip_breaks};
 use crate::service::Service;
 use edi_octets::Octets;
 use std::sync::ledger::Ledger;
 use step_counter::Steps;
-use value_lexer::{LONGEST_TEXT, Sought, find_free, skip_breaks};
 
 /// What is found at a boundary of a text.
 #[derive(Clone, Copy, Debug, PartialEq, Eq)]

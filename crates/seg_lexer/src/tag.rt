@@ -6,14 +6,15 @@ ghost use Rattle.seg_lexer.specs.Fields.{IsInOrder, components_at};
 ghost use Rattle.seg_lexer.specs.Left.{components_left, fields_left};
 ghost use Rattle.seg_lexer.specs.Service.{IsUsable};
 ghost use Rattle.seg_lexer.specs.Tag.{past_tag_field, tag_of};
-ghost use Rattle.value_lexer.specs.Value.{octets_of};
+ghost use Rattle.seg_lexer.specs.Value.{octets_of};
+ghost use Rattle.edi_octets.specs.declared.octets.TheConstants.{LONGEST_TEXT};
 
 use crate::components::Fields;
 use crate::segment::fields;
 use crate::service::Service;
+use crate::value::Value;
 use edi_octets::Octets;
 use edi_tables::{Tag, is_tag};
-use value_lexer::{LONGEST_TEXT, Value};
 
 /// The tag of the segment `start..end`: the value of its tag field's first component, if that is a tag and every
 /// further component of the tag field is empty.

@@ -7,14 +7,14 @@ use Rattle.edi_tables.specs.declared.tag.Tag.{Tag}
 use Rattle.edi_tables.specs.declared.table.Node.{Node}
 use Rattle.edi_tables.specs.Extents.{Extent}
 use Rattle.edi_tables.specs.Rows.{IsTable}
-use Rattle.dir_parts.specs.declared.parts.Parts.{Parts}
+use Rattle.dir_compile.specs.declared.parts.Parts.{Parts}
 use Rattle.dir_compile.specs.Directory.{IsDirectory}
 use Rattle.envelope_check.proofs.Extents.{closes_message, message_from, message_opened}
 use Rattle.table_walk.specs.Errors.{Fault, errors_of_placed, open_faults, structure_errors_of}
 use Rattle.table_walk.specs.Errors.Fault.{Missing}
 use Rattle.table_walk.specs.Steps.{is_over_in, member_in, missing_in}
 use Rattle.segment_records.specs.Segments.{Segment, tags_in}
-use Rattle.segment_records.specs.Messages.{Position, faults_at, faults_in, message_faults, mode_after, nodes_at, position_at}
+use Rattle.segment_records.specs.Messages.{Position, structure_errors_at, faults_in, message_faults, mode_after, nodes_at, position_at}
 use Rattle.segment_records.specs.Steps.{Step, step_of}
 use Rattle.segment_records.specs.Laws.{StepsTellFaults, end_faults, ends_after, faults_of_member, is_walked, step_faults}
 use Rattle.segment_records.specs.declared.mode.Mode.{Mode}
@@ -241,9 +241,9 @@ module _ (dir : Parts) (directory : IsDirectory dir) (segments : List Segment) (
       ∙ inner_held (message_opened tags i) refl site.next tests
       ∙ ap (λ (held : Option ℕ). step_told before_is ++ end_told (mode_open dir segments (i + 1) held)) (sym site.next)
 
-  faults_told : map (λ error. error.fault) (faults_at dir segments i)
+  faults_told : map (λ error. error.fault) (structure_errors_at dir segments i)
       ≡ step_told (mode_after dir segments i) ++ end_told (mode_after dir segments (i + 1))
-  unfolding faults_at
+  unfolding structure_errors_at
   faults_told =
       told_at (turn_of segment.tag)
       ∙ ap (λ (mode : Mode). step_told mode ++ end_told (mode_open dir segments (i + 1) (message_opened tags (i + 1))))

@@ -7,7 +7,7 @@ use Rattle.std.proofs.lemmas.List.{length-map}
 use Rattle.std.proofs.lemmas.Option.{slice_get-map, slice_get_within}
 use Rattle.edi_tables.specs.declared.tag.Tag.{Tag}
 use Rattle.edi_tables.specs.Extents.{Extent, tag_in, message_at}
-use Rattle.dir_parts.specs.declared.parts.Parts.{Parts}
+use Rattle.dir_compile.specs.declared.parts.Parts.{Parts}
 use Rattle.envelope_check.proofs.Extents.{message_opened, message_from}
 use Rattle.segment_records.specs.Segments.{Segment, tags_in}
 use Rattle.segment_records.specs.Messages.{Position, table_for, nodes_at, position_in, position_at, mode_in, mode_at, mode_after}

@@ -2,7 +2,7 @@
 use Rattle.std.proofs.Common.{◌≡◌, ℕ, ◌+◌, ◌-◌, Bool, List, Option, Some, None, refl, ap, ◌∙◌}
 use Rattle.std.specs.Option.{option_map}
 use Rattle.edi_tables.specs.declared.tag.Tag.{Tag}
-use Rattle.dir_parts.specs.declared.parts.Parts.{Parts}
+use Rattle.dir_compile.specs.declared.parts.Parts.{Parts}
 use Rattle.seg_lexer.specs.Fields.{Component}
 use Rattle.seg_lexer.specs.Tag.{tag_of}
 use Rattle.seg_lexer.specs.declared.context.Context.{Context}

@@ -12,7 +12,7 @@ use Rattle.edi_tables.specs.Rows.{IsTable}
 use Rattle.edi_tables.specs.Walk.{groups_round, is_trigger_at, is_trigger_of, parent_at}
 use Rattle.edi_tables.proofs.Placements.{first_outside}
 use Rattle.edi_tables.proofs.Walking.{groups_round_none}
-use Rattle.dir_parts.specs.declared.parts.Parts.{Parts}
+use Rattle.dir_compile.specs.declared.parts.Parts.{Parts}
 use Rattle.dir_compile.specs.Directory.{IsDirectory}
 use Rattle.error_ledger.specs.declared.tree.TreePlace.{TreePlace}
 use Rattle.error_ledger.specs.declared.tree.TreePlace.TheVariants as place
@@ -23,7 +23,7 @@ use Rattle.table_walk.specs.Steps.{member_in}
 use Rattle.table_walk.proofs.Readings.{reading_is}
 use Rattle.segment_records.specs.Segments.{Segment, tags_in}
 use Rattle.segment_records.specs.Messages.{mode_after, nodes_at, position_at, table_for}
-use Rattle.segment_records.specs.Places.{group_number, inner_place, opened_by, opening_place, place_at, place_by, place_in, place_of, place_with}
+use Rattle.segment_records.specs.Places.{group_number, inner_place, opened_by, opening_place, place_at, place_by, place_in, tree_place_of, place_with}
 use Rattle.segment_records.specs.Steps.{Step, is_named, is_no_part, opening_step, step_of}
 use Rattle.segment_records.specs.Laws.{StepsTellPlaces}
 use Rattle.segment_records.specs.declared.mode.Mode.{Mode}
@@ -131,7 +131,7 @@ module _ (dir : Parts) (directory : IsDirectory dir) (segments : List Segment) (
 
   -- the place in the message from place a on, with this table, if it has one
   abbrev placed_with : ℕ → Option ℕ → TreePlace
-  placed_with a found = place_of dir segments i (position_with found (message_from tags a))
+  placed_with a found = tree_place_of dir segments i (position_with found (message_from tags a))
 
   back : (a : ℕ) → (message_from tags a).first - 1 ≡ a
   back a = omega (arith, first_is tags a)
@@ -172,7 +172,7 @@ module _ (dir : Parts) (directory : IsDirectory dir) (segments : List Segment) (
   later_held : (held : Option ℕ) → message_opened tags i ≡ held
       → ((a : ℕ) → held ≡ Some a → (i + 1 ≤ (message_from tags a).last) × ((message_from tags a).last ≤ length tags))
       → (closes stops : Bool) → Tests segment.tag false closes false stops
-      → place_of dir segments i (position_held dir segments held)
+      → tree_place_of dir segments i (position_held dir segments held)
       ≡ inner_place dir (mode_open dir segments i held) (step_of dir (mode_open dir segments i held) segment).entry
   later_held None is reaches closes stops tests = refl
   later_held (Some a) is reaches closes stops tests =
@@ -195,11 +195,11 @@ module _ (dir : Parts) (directory : IsDirectory dir) (segments : List Segment) (
   before = mode_open dir segments i (message_opened tags i)
 
   placed_at : Turn segment.tag
-      → place_of dir segments i (position_at dir segments i) ≡ place_by dir before segment (step_of dir before segment)
+      → tree_place_of dir segments i (position_at dir segments i) ≡ place_by dir before segment (step_of dir before segment)
   placed_at (opening tests) =
       let site = site_at tags i within true false false true
       (tests_at dir segments i segment at true false false true tests) in
-      ap (place_of dir segments i) (position_is dir segments i (Some i) site.at)
+      ap (tree_place_of dir segments i) (position_is dir segments i (Some i) site.at)
       ∙ opening_placed (table_opened dir segments i) refl site.next
       ∙ ap (λ (found : Option Segment). opening_place
       (opening_step dir (option_and_then (λ (s : Segment). table_for dir s.components) found)).entry) at
@@ -208,18 +208,18 @@ module _ (dir : Parts) (directory : IsDirectory dir) (segments : List Segment) (
   placed_at (closing tests) =
       let site = site_at tags i within false true false true
       (tests_at dir segments i segment at false true false true tests) in
-      ap (place_of dir segments i) (position_is dir segments i (message_opened tags i) site.at)
+      ap (tree_place_of dir segments i) (position_is dir segments i (message_opened tags i) site.at)
       ∙ later_held (message_opened tags i) refl (closing_ends tests) true true tests
       ∙ sym (by_tests dir before segment (step_of dir before segment) false false tests.unh tests.out)
   placed_at (leaving tests) =
       let site = site_at tags i within false false true true
       (tests_at dir segments i segment at false false true true tests) in
-      ap (place_of dir segments i) (position_is dir segments i None site.at)
+      ap (tree_place_of dir segments i) (position_is dir segments i None site.at)
       ∙ sym (by_tests dir before segment (step_of dir before segment) false true tests.unh tests.out)
   placed_at (inner tests) =
       let site = site_at tags i within false false false false
       (tests_at dir segments i segment at false false false false tests) in
-      ap (place_of dir segments i) (position_is dir segments i (message_opened tags i) site.at)
+      ap (tree_place_of dir segments i) (position_is dir segments i (message_opened tags i) site.at)
       ∙ later_held (message_opened tags i) refl (inner_ends site.next) false false tests
       ∙ sym (by_tests dir before segment (step_of dir before segment) false false tests.unh tests.out)
 

@@ -1,7 +1,7 @@
 -- The step of a segment, by its tag.
 use Rattle.std.proofs.Common.{◌≡◌, ℕ, Bool, true, false, List, refl, ap, ◌∙◌}
 use Rattle.std.specs.Prelude.{codes, if◌then◌else◌}
-use Rattle.dir_parts.specs.declared.parts.Parts.{Parts}
+use Rattle.dir_compile.specs.declared.parts.Parts.{Parts}
 use Rattle.table_walk.specs.Steps.{member_in, pairs_after}
 use Rattle.segment_records.specs.Segments.{Segment}
 use Rattle.segment_records.specs.Messages.{table_for, nodes_at}

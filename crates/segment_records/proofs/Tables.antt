@@ -9,9 +9,9 @@ use Rattle.edi_tables.specs.Rows.{IsTable, nodes_of, table_faults}
 use Rattle.edi_tables.proofs.Restored.{table_of_rows}
 use Rattle.service_tables.specs.ServiceTables.{contrl_table_rows}
 use Rattle.service_tables.proofs.Tables.{table_faults-contrl}
-use Rattle.dir_parts.specs.declared.parts.Parts.{Parts}
+use Rattle.dir_compile.specs.declared.parts.Parts.{Parts}
 use Rattle.dir_compile.specs.Directory.{IsDirectory, TableName, contrl_name, is_table_named, message_table, table_names, tables_of}
-use Rattle.dir_parts.proofs.Groups.{fault-free}
+use Rattle.dir_compile.proofs.Groups.{fault-free}
 use Rattle.dir_compile.proofs.Making.{tables-free}
 use Rattle.seg_lexer.specs.Fields.{Component}
 use Rattle.segment_records.specs.Messages.{nodes_at, table_for}

@@ -1,7 +1,7 @@
 -- The cases of a step, as its code tells them apart, and the mode after a segment of a message.
 use Rattle.std.proofs.Common.{◌≡◌, ℕ, ◌<◌, Bool, true, false, List, length, sym, subst, ap, ◌∙◌}
 use Rattle.std.specs.Prelude.{codes, if◌then◌else◌}
-use Rattle.dir_parts.specs.declared.parts.Parts.{Parts}
+use Rattle.dir_compile.specs.declared.parts.Parts.{Parts}
 use Rattle.dir_compile.specs.Directory.{tables_of}
 use Rattle.table_walk.specs.Steps.{AreCountsUpTo, IsShaped}
 use Rattle.segment_records.specs.Messages.{nodes_at, table_for}

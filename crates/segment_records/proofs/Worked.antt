@@ -8,11 +8,11 @@ use Rattle.edi_tables.specs.Rows.{end_of, parent_of}
 use Rattle.edi_tables.specs.Walk.{later_siblings, groups_round, candidates_of, later_nodes, missing_between, missing_past}
 use Rattle.error_ledger.specs.declared.tree.TreePlace.{TreePlace}
 use Rattle.error_ledger.specs.declared.tree.TreePlace.TheVariants as place
-use Rattle.dir_parts.specs.declared.parts.Parts.{Parts}
+use Rattle.dir_compile.specs.declared.parts.Parts.{Parts}
 use Rattle.seg_lexer.specs.Fields.{Component}
 use Rattle.table_walk.specs.Errors.{Fault, structure_errors_of}
 use Rattle.table_walk.specs.Errors.Fault.{Missing, Unplaced}
-use Rattle.segment_records.specs.Messages.{faults_at, mode_after, position_at}
+use Rattle.segment_records.specs.Messages.{structure_errors_at, mode_after, position_at}
 use Rattle.segment_records.specs.Places.{place_at}
 use Rattle.segment_records.specs.Segments.{Segment}
 use Rattle.segment_records.specs.declared.mode.Mode.TheVariants.{Outside, Untabled, Within}
@@ -62,12 +62,12 @@ places = refl
 
 -- the faults at a place
 abbrev faults : ℕ → List Fault
-faults i = map (λ error. error.fault) (faults_at dir segments i)
+faults i = map (λ error. error.fault) (structure_errors_at dir segments i)
 
 -- UCI is missing before the first UCM, and UNT where the text ends
 told : map faults (0 ∷ 1 ∷ 2 ∷ 3 ∷ 4 ∷ 5 ∷ 6 ∷ 7 ∷ 8 ∷ 9 ∷ [])
     ≡ [] ∷ [] ∷ (Missing 1 ∷ []) ∷ (Unplaced ∷ []) ∷ [] ∷ [] ∷ [] ∷ [] ∷ [] ∷ (Missing 14 ∷ []) ∷ []
-unfolding faults_at position_at message_at message_extents structure_errors_of candidates_of later_siblings groups_round later_nodes missing_between missing_past entry_count group_count is_over rank_of end_of parent_of
+unfolding structure_errors_at position_at message_at message_extents structure_errors_of candidates_of later_siblings groups_round later_nodes missing_between missing_past entry_count group_count is_over rank_of end_of parent_of
 told = refl
 
 -- after both UCM the first group was opened twice, and UCM was placed once in its group

@@ -1,8 +1,8 @@
 pub mod Laws
 pub mod Messages
 pub mod Places
+pub mod RecordView
 pub mod Records
-pub mod Seen
 pub mod Segments
 pub mod Steps
 pub mod Taken

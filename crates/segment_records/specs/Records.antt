@@ -1,9 +1,9 @@
 -- What is kept of the segments of a text. Nothing of it changes by an edit outside of a segment's stretch, except by
 -- the mode before the segment.
 use Rattle.std.specs.Prelude.{ℕ, ◌+◌, ◌-◌, ◌<◌, ⊤, List, [], ◌∷◌, length, Option}
+use Rattle.edi_tables.specs.Octets.{Octets}
 use Rattle.edi_tables.specs.declared.tag.Tag.{Tag}
-use Rattle.dir_parts.specs.declared.parts.Parts.{Parts}
-use Rattle.dir_compile.specs.Directory.{tables_of}
+use Rattle.dir_compile.specs.Directory.{Directory, tables_of}
 use Rattle.seg_lexer.specs.Whole.{at_start}
 use Rattle.seg_lexer.specs.declared.context.Context.{Context}
 use Rattle.element_check.specs.declared.error.LocalError.{LocalError}
@@ -25,7 +25,7 @@ pub record Kept : Type 0 where
   pub step : Step
 
 -- what is kept of a segment after this mode
-abbrev pub kept_of : Parts → Context → Mode → Segment → Kept
+abbrev pub kept_of : Directory → Context → Mode → Segment → Kept
 kept_of dir context before segment = record {
   octets = segment.end + 1 - segment.from;
   breaks = segment.start - segment.from;
@@ -35,18 +35,18 @@ kept_of dir context before segment = record {
 }
 
 -- what is kept of segments, one after the other, from this mode on
-abbrev pub kept_from : Parts → Context → Mode → List Segment → List Kept
+abbrev pub kept_from : Directory → Context → Mode → List Segment → List Kept
 kept_from dir context before [] = []
 kept_from dir context before (segment ∷ more) =
     kept_of dir context before segment ∷ kept_from dir context (step_of dir before segment).after more
 
 -- what is kept of the segments of the octets after a boundary, from this mode on
-unfoldable pub records_from : Parts → Context → Mode → List ℕ → List Kept
+unfoldable pub records_from : Directory → Context → Mode → Octets → List Kept
 records_from dir context before octets = kept_from dir context before (segments_by (at_start context.service) octets)
 
 -- a mode belongs to a directory, and no count of it is greater: its table is one of the directory's, and its pairs
 -- belong to the table
-abbrev pub IsModeOf : Parts → ℕ → Mode → Type 0
+abbrev pub IsModeOf : Directory → ℕ → Mode → Type 0
 IsModeOf dir most Outside = ⊤
 IsModeOf dir most Untabled = ⊤
 IsModeOf dir most (Within table pairs) =

@@ -2,10 +2,11 @@
 use Rattle.std.specs.Prelude.{ℕ, List, [], map, Option, unwrap_or}
 use Rattle.std.specs.List.{zip}
 use Rattle.std.specs.Option.{option_map}
+use Rattle.edi_tables.specs.Octets.{Octets}
 use Rattle.edi_tables.specs.declared.tag.Tag.{Tag}
 use Rattle.seg_lexer.specs.Fields.{Component, components_at, octets_at}
 use Rattle.seg_lexer.specs.Segments.{boundaries_of, ends_of}
-use Rattle.value_lexer.specs.Breaks.{lead}
+use Rattle.seg_lexer.specs.Breaks.{lead}
 use Rattle.seg_lexer.specs.Service.{service_of}
 use Rattle.seg_lexer.specs.Tag.{tag_of}
 use Rattle.seg_lexer.specs.declared.service.Service.{Service}
@@ -24,27 +25,27 @@ abbrev pub tag_read : List Component → Option Tag
 tag_read components = option_map (λ octets. record { octets = octets }) (tag_of components)
 
 -- the segment start..end after the boundary `from`
-abbrev pub segment_read : Service → List ℕ → ℕ → ℕ → ℕ → Segment
+abbrev pub segment_read : Service → Octets → ℕ → ℕ → ℕ → Segment
 segment_read s text from start end =
     let components = components_at s text start end in
     record { from = from; start = start; end = end; components = components; tag = tag_read components }
 
 -- the segment between a boundary and the next end, without the line ends in front
-abbrev pub segment_between : Service → List ℕ → ℕ × ℕ → Segment
+abbrev pub segment_between : Service → Octets → ℕ × ℕ → Segment
 segment_between s text p = segment_read s text p.0 (lead text p.0 p.1) p.1
 
 -- every segment of a text, in order, by these service characters
-unfoldable pub segments_by : Service → List ℕ → List Segment
+unfoldable pub segments_by : Service → Octets → List Segment
 segments_by s text = map (segment_between s text) (zip (boundaries_of s text) (ends_of s text))
 
 -- every segment of a text, in order
-unfoldable pub segments_in : List ℕ → List Segment
-segments_in text = segments_by (service_of text) text
+unfoldable pub segments_of_text : Octets → List Segment
+segments_of_text text = segments_by (service_of text) text
 
 -- the tags of segments
 abbrev pub tags_in : List Segment → List (Option Tag)
 tags_in segments = map (λ segment. segment.tag) segments
 
 -- the value of a component of an element; one that isn't written is empty
-abbrev pub value_in : List Component → ℕ → ℕ → List ℕ
+abbrev pub value_in : List Component → ℕ → ℕ → Octets
 value_in components element component = unwrap_or (octets_at element component components) []

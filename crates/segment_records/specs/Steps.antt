@@ -2,10 +2,11 @@
 -- the laws say that it comes to the positions of messages.
 use Rattle.std.specs.Prelude.{ℕ, Bool, false, List, [], ◌∷◌, Option, Some, None, codes, if◌then◌else◌}
 use Rattle.std.specs.List.{list_any}
+use Rattle.dir_compile.specs.Directory.{Directory}
+use Rattle.edi_tables.specs.Octets.{Octets}
 use Rattle.edi_tables.specs.declared.table.Node.{Node}
 use Rattle.edi_tables.specs.Rows.{has_name}
 use Rattle.edi_tables.specs.Pairs.{pairs_of}
-use Rattle.dir_parts.specs.declared.parts.Parts.{Parts}
 use Rattle.table_walk.specs.Steps.{member_in, missing_in, is_over_in, pairs_after}
 use Rattle.segment_records.specs.Segments.{Segment}
 use Rattle.segment_records.specs.Messages.{table_for, nodes_at}
@@ -25,7 +26,7 @@ abbrev pub plain_step : Mode → Step
 plain_step after = record { entry = None; missing = []; over = false; after = after }
 
 -- a segment is named so
-abbrev pub is_named : List ℕ → Segment → Bool
+abbrev pub is_named : Octets → Segment → Bool
 is_named name segment = has_name name segment.tag
 
 -- UNB, UNG, UNE and UNZ are in no message
@@ -38,7 +39,7 @@ abbrev pub unless_closed : Segment → Mode → Mode
 unless_closed segment after = if is_named (codes "UNT") segment then Outside else after
 
 -- UNH, which is at entry 0 of the table that it names
-abbrev pub opening_step : Parts → Option ℕ → Step
+abbrev pub opening_step : Directory → Option ℕ → Step
 opening_step dir None = plain_step Untabled
 opening_step dir (Some table) =
     let pairs = pairs_of (nodes_at dir table) (Some 0 ∷ []) in
@@ -56,25 +57,25 @@ placed_step table nodes pairs segment =
     }
 
 -- a segment that neither opens nor leaves a message
-abbrev pub inner_step : Parts → Mode → Segment → Step
+abbrev pub inner_step : Directory → Mode → Segment → Step
 inner_step dir Outside segment = plain_step Outside
 inner_step dir Untabled segment = plain_step (unless_closed segment Untabled)
 inner_step dir (Within table pairs) segment = placed_step table (nodes_at dir table) pairs segment
 
 -- a segment after this mode
-unfoldable pub step_of : Parts → Mode → Segment → Step
+unfoldable pub step_of : Directory → Mode → Segment → Step
 step_of dir before segment =
     if is_named (codes "UNH") segment then opening_step dir (table_for dir segment.components)
     else if is_no_part segment then plain_step Outside
     else inner_step dir before segment
 
 -- the steps of segments, one after the other, from this mode on
-abbrev pub steps_from : Parts → Mode → List Segment → List Step
+abbrev pub steps_from : Directory → Mode → List Segment → List Step
 steps_from dir before [] = []
 steps_from dir before (segment ∷ more) =
     step_of dir before segment ∷ steps_from dir (step_of dir before segment).after more
 
 -- the mode after segments
-abbrev pub mode_from : Parts → Mode → List Segment → Mode
+abbrev pub mode_from : Directory → Mode → List Segment → Mode
 mode_from dir before [] = before
 mode_from dir before (segment ∷ more) = mode_from dir (step_of dir before segment).after more

@@ -8,6 +8,6 @@ mod tags;
 mod values;
 
 pub use mode::Mode;
-pub use record::{Place, Record};
+pub use record::{Record, SegmentPlace};
 pub use tags::{is_named, is_no_part};
 pub use values::{copy_two, copy_value, find_table};

@@ -2,20 +2,20 @@
 ghost use Rattle.std.specs.Prelude.{◌≡◌, ◌+◌, ◌<◌, ◌≤◌, ℕ, length, IfOk};
 ghost use Rattle.edi_octets.specs.declared.octets.Octets.{Ghosts};
 ghost use Rattle.seg_lexer.specs.Service.{IsUsable};
-ghost use Rattle.value_lexer.specs.declared.TheConstants.{LONGEST_TEXT};
-ghost use Rattle.segment_check.specs.Clean.{AreClean};
+ghost use Rattle.clean_segments.specs.Clean.{AreClean};
 ghost use Rattle.segment_records.specs.Records.{IsModeOf, kept_of};
-ghost use Rattle.segment_records.specs.Seen.{local_in, missing_in};
+ghost use Rattle.segment_records.specs.RecordView.{local_in, missing_in};
 ghost use Rattle.segment_records.specs.Segments.{segment_read};
+ghost use Rattle.edi_octets.specs.declared.octets.TheConstants.{LONGEST_TEXT};
 
 use crate::mode::Mode;
 use crate::step::take_step;
+use clean_segments::CleanSegments;
 use dir_compile::Directory;
 use edi_octets::Octets;
 use edi_tables::Tag;
 use element_check::LocalError;
 use seg_lexer::{Context, fields};
-use segment_check::CleanSegments;
 use seq_tree::Measured;
 use smallvec::SmallVec;
 use std::alloc::{AllocError, Global};
@@ -25,7 +25,7 @@ use step_counter::Steps;
 
 /// Where a segment is in a text: the boundary before it, its first octet, and the place of its terminator.
 #[derive(Clone, Copy, Debug, PartialEq, Eq)]
-pub struct Place {
+pub struct SegmentPlace {
     pub from: usize,
     pub start: usize,
     pub end: usize,
@@ -59,7 +59,7 @@ impl Model for Record {
 
     ghost Value = { Kept };
 
-    ghost use Rattle.segment_records.specs.Seen.{seen};
+    ghost use Rattle.segment_records.specs.RecordView.{seen};
 
     ghost view = { seen };
 }
@@ -99,7 +99,7 @@ impl Record {
         context: &Context,
         before: &Mode,
         text: &O,
-        place: Place,
+        place: SegmentPlace,
         clean: &mut CleanSegments,
         placed: &mut Steps<L>,
     ) -> Result<Record, AllocError>
@@ -119,7 +119,7 @@ impl Record {
         ensures clean { AreClean directory.now context.now (O.octets text.now) clean.new }
         ensures counted { placed.new ≤ placed.old + 1 }
     {
-        let Place { from, start, end } = place;
+        let SegmentPlace { from, start, end } = place;
         let (tag, local) = clean.check(alloc, directory, context, text, start, end)?;
         let components = fields(text, &context.service, start, end);
         let step = take_step(alloc, directory, before, tag, components, placed)?;

@@ -5,7 +5,7 @@ ghost use Rattle.std.specs.Option.{option_map, option_or};
 ghost use Rattle.dir_compile.specs.Directory.{tables_of};
 ghost use Rattle.seg_lexer.specs.Fields.{octets_at, unplaced, Component as SeenComponent};
 ghost use Rattle.seg_lexer.specs.Left.{components_left, placed_in};
-ghost use Rattle.value_lexer.specs.Value.{octets_of};
+ghost use Rattle.seg_lexer.specs.Value.{octets_of};
 ghost use Rattle.segment_records.specs.Messages.{table_for};
 ghost use Rattle.segment_records.specs.Segments.{value_in};
 

@@ -1,8 +1,8 @@
 //! A segment with more errors than take no memory.
 use dir_store::read_store;
-use edi_octets::Flat;
+use edi_octets::{Flat, LONGEST_TEXT};
 use element_check::check_segment;
-use seg_lexer::{Context, LONGEST_TEXT, Level, read_service};
+use seg_lexer::{Context, Level, read_service};
 use std::alloc::Global;
 use std::process::Abort;
 use std::test::Fail;

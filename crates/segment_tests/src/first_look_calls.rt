@@ -1,11 +1,11 @@
 //! Segments whose octets show at a first look that nothing is wrong, and others: a look that always gives up is proved too.
 ghost use Rattle.std.specs.Prelude.{◌≤◌, length};
-ghost use Rattle.value_lexer.specs.declared.TheConstants.{LONGEST_TEXT};
+ghost use Rattle.edi_octets.specs.declared.octets.TheConstants.{LONGEST_TEXT};
 
+use clean_segments::clean_tag;
 use dir_compile::Directory;
 use dir_store::read_store;
 use edi_octets::Flat;
-use first_look::clean_tag;
 use seg_lexer::{Context, Level, read_service};
 use std::alloc::Global;
 use std::test::Fail;

@@ -1,7 +1,7 @@
 -- A text is read from its body's start on.
 use Rattle.std.proofs.Common.{◌≡◌, ℕ, ◌≤◌, List, length, take, drop, sym, ap, ◌∙◌, subst, arith}
 use Rattle.std.proofs.lemmas.List.{length-map}
-use Rattle.dir_parts.specs.declared.parts.Parts.{Parts}
+use Rattle.dir_compile.specs.declared.parts.Parts.{Parts}
 use Rattle.seg_lexer.specs.Context.{context_of}
 use Rattle.seg_lexer.specs.Segments.{IsBoundary, segments_of}
 use Rattle.seg_lexer.specs.Service.{IsUsable, service_of}
@@ -11,12 +11,12 @@ use Rattle.seg_lexer.specs.declared.service.Service.{Service}
 use Rattle.seg_lexer.proofs.SegmentsLemmas.{boundary-zero, first-boundary}
 use Rattle.seg_lexer.proofs.ServiceLemmas.{service_of-usable}
 use Rattle.segment_records.specs.Records.{kept_from, records_from}
-use Rattle.segment_records.specs.Segments.{segments_by, segments_in}
+use Rattle.segment_records.specs.Segments.{segments_by, segments_of_text}
 use Rattle.segment_records.specs.declared.mode.Mode.TheVariants.{Outside}
 use Rattle.segment_records.proofs.BodyLaws.{moved_on, whole_is_body}
 use Rattle.segment_records.proofs.ModeLaws.{length_kept}
 use Rattle.segment_walk.specs.Count.{segment_count_of}
-use Rattle.segment_walk.specs.Seen.{kept_in}
+use Rattle.segment_walk.specs.WalkedSegments.{kept_in}
 use Rattle.segment_walk.proofs.Rests.{rest_count, rest_segments, same_count}
 use Rattle.segment_walk.proofs.Stretches.{context_service, few_segments}
 
@@ -42,7 +42,7 @@ module _ (text : List ℕ) (context : Context) (is : context ≡ context_of text
 
   -- and what is kept of them is what is kept of it
   pub kept_by : (dir : Parts) → records_from dir context Outside (drop context.service.body text) ≡ kept_in dir text
-  unfolding kept_in segments_in
+  unfolding kept_in segments_of_text
   kept_by dir =
       sym (whole_is_body dir context text)
       ∙ ap (λ (s : Service). kept_from dir context Outside (segments_by s text)) service_is
@@ -50,7 +50,7 @@ module _ (text : List ℕ) (context : Context) (is : context ≡ context_of text
 
 -- a text has no more records than octets
 pub few_kept : (dir : Parts) (text : List ℕ) → length (kept_in dir text) ≤ length text
-unfolding kept_in segments_in
+unfolding kept_in segments_of_text
 few_kept dir text =
     let count = length_kept dir (context_of text) Outside (segments_by (service_of text) text) in
     let few = few_segments (service_of text) text in

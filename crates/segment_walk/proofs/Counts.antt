@@ -1,7 +1,7 @@
 -- The counts of a mode are no more than a number, and so no more than a greater one.
 use Rattle.std.proofs.Common.{ℕ, ◌≤◌, arith}
 use Rattle.std.proofs.lemmas.List.Elements.{All-weaker}
-use Rattle.dir_parts.specs.declared.parts.Parts.{Parts}
+use Rattle.dir_compile.specs.declared.parts.Parts.{Parts}
 use Rattle.segment_records.specs.Records.{IsModeOf}
 use Rattle.segment_records.specs.declared.mode.Mode.{Mode}
 use Rattle.segment_records.specs.declared.mode.Mode.TheVariants.{Outside, Untabled, Within}

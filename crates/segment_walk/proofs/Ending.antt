@@ -4,14 +4,14 @@ use Rattle.std.specs.Prelude.{map, if◌then◌else◌}
 use Rattle.edi_tables.specs.declared.table.Node.{Node}
 use Rattle.edi_tables.specs.Pairs.{entry_in}
 use Rattle.edi_tables.specs.Walk.{missing_past}
-use Rattle.dir_parts.specs.declared.parts.Parts.{Parts}
+use Rattle.dir_compile.specs.declared.parts.Parts.{Parts}
 use Rattle.table_walk.specs.Errors.Fault.{Missing}
 use Rattle.segment_records.specs.Laws.{missing_at_end}
 use Rattle.segment_records.specs.Messages.{nodes_at}
 use Rattle.segment_records.specs.declared.mode.Mode.{Mode}
 use Rattle.segment_records.specs.declared.mode.Mode.TheVariants.{Within}
 use Rattle.segment_walk.specs.Line.{end_lines, ends_before, fault_lines, faults_of_step, nodes_of_mode, step_lines}
-use Rattle.segment_walk.specs.Seen.{SeenSegment, bounds_message}
+use Rattle.segment_walk.specs.WalkedSegments.{SeenSegment, bounds_message}
 
 -- in a message that ends
 pub ends_within : (dir : Parts) (seen : SeenSegment) (table : ℕ) (pairs : List (ℕ × ℕ)) (nodes : List Node)

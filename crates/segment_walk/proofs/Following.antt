@@ -6,21 +6,21 @@ use Rattle.std.proofs.lemmas.List.Elements.{All-head, All-tail, All-map}
 use Rattle.std.proofs.lemmas.List.{length-map}
 use Rattle.std.proofs.lemmas.List.FromFn.{length-enumerate_from}
 use Rattle.std.proofs.lemmas.Option.{slice_get_within}
-use Rattle.dir_parts.specs.declared.parts.Parts.{Parts}
+use Rattle.dir_compile.specs.declared.parts.Parts.{Parts}
 use Rattle.dir_compile.specs.Directory.{IsDirectory}
 use Rattle.seg_lexer.specs.Context.{context_of}
 use Rattle.seg_lexer.specs.Service.{service_of}
 use Rattle.seg_lexer.proofs.ServiceLemmas.{service_of-usable}
 use Rattle.segment_records.specs.Messages.{mode_after}
 use Rattle.segment_records.specs.Records.{IsModeOf}
-use Rattle.segment_records.specs.Segments.{Segment, segments_by, segments_in}
+use Rattle.segment_records.specs.Segments.{Segment, segments_by, segments_of_text}
 use Rattle.segment_records.specs.Steps.{inner_step, is_named, is_no_part, step_of}
 use Rattle.segment_records.specs.Taken.{read_as}
 use Rattle.segment_records.specs.declared.mode.Mode.{Mode}
 use Rattle.segment_records.specs.declared.mode.Mode.TheVariants.{Outside, Untabled, Within}
 use Rattle.segment_records.proofs.ModeLaws.{mode_belongs, steps_are_modes}
 use Rattle.segment_records.proofs.Taking.{step_inside}
-use Rattle.segment_walk.specs.Seen.{Follows, LiesIn, SeenSegment, bounds_message, seen_at, seen_in}
+use Rattle.segment_walk.specs.WalkedSegments.{Follows, LiesIn, SeenSegment, bounds_message, seen_at, seen_in}
 use Rattle.segment_walk.proofs.Counts.{mode_more}
 use Rattle.segment_walk.proofs.Looking.{all_enumerated, seen_is}
 use Rattle.segment_walk.proofs.Stretches.{IsStretch, all_stretches, few_segments}
@@ -47,22 +47,22 @@ All-at P (y ∷ ys) all (suc k) x is = All-at P ys (All-tail P y ys all) k x is
 
 module _ (dir : Parts) (directory : IsDirectory dir) (text : List ℕ) where
   segments : List Segment
-  segments = segments_in text
+  segments = segments_of_text text
 
   seen_where : (P : SeenSegment → Type 0)
-      → ((k : ℕ) (segment : Segment) → slice_get (segments_in text) k ≡ Some segment → P (seen_at dir (context_of text) (segments_in text) (k, segment)))
+      → ((k : ℕ) (segment : Segment) → slice_get (segments_of_text text) k ≡ Some segment → P (seen_at dir (context_of text) (segments_of_text text) (k, segment)))
       → All P (seen_in dir text)
   seen_where P each =
       subst (All P) (sym (seen_is dir directory text))
-      (All-map P (seen_at dir (context_of text) (segments_in text)) (enumerate_from 0 (segments_in text))
-      (all_enumerated (λ (p : ℕ × Segment). P (seen_at dir (context_of text) (segments_in text) p)) (segments_in text) each))
+      (All-map P (seen_at dir (context_of text) (segments_of_text text)) (enumerate_from 0 (segments_of_text text))
+      (all_enumerated (λ (p : ℕ × Segment). P (seen_at dir (context_of text) (segments_of_text text) p)) (segments_of_text text) each))
 
-  pub few_in : length (segments_in text) ≤ length text
-  unfolding segments_in
+  pub few_in : length (segments_of_text text) ≤ length text
+  unfolding segments_of_text
   few_in = omega (arith, few_segments (service_of text) text)
 
-  pub stretch_in : (k : ℕ) (segment : Segment) → slice_get (segments_in text) k ≡ Some segment → IsStretch text segment
-  unfolding segments_in
+  pub stretch_in : (k : ℕ) (segment : Segment) → slice_get (segments_of_text text) k ≡ Some segment → IsStretch text segment
+  unfolding segments_of_text
   stretch_in k segment is =
       All-at (IsStretch text) (segments_by (service_of text) text) (all_stretches (service_of text) text (service_of-usable text).body) k segment is
 
@@ -75,13 +75,13 @@ module _ (dir : Parts) (directory : IsDirectory dir) (text : List ℕ) where
       let within = it.within in
       omega arith)
 
-  module _ (short : length text ≤ 4194304) (k : ℕ) (segment : Segment) (is : slice_get (segments_in text) k ≡ Some segment) where
-    within : k < length (segments_in text)
-    within = slice_get_within (segments_in text) k segment is
+  module _ (short : length text ≤ 4194304) (k : ℕ) (segment : Segment) (is : slice_get (segments_of_text text) k ≡ Some segment) where
+    within : k < length (segments_of_text text)
+    within = slice_get_within (segments_of_text text) k segment is
 
-    follows : Follows dir (seen_at dir (context_of text) (segments_in text) (k, segment))
+    follows : Follows dir (seen_at dir (context_of text) (segments_of_text text) (k, segment))
     follows =
-        let all : List Segment = segments_in text in
+        let all : List Segment = segments_of_text text in
         let before : Mode = mode_after dir all k in
         record {
           before = mode_more dir k 4194303 before (omega (arith, within, few_in)) (mode_belongs dir directory all k (omega (arith, within)));
@@ -98,5 +98,5 @@ module _ (dir : Parts) (directory : IsDirectory dir) (text : List ℕ) where
   pub few_seen : length text ≤ 4194304 → length (seen_in dir text) ≤ 4194304
   few_seen short =
       let count = ap length (seen_is dir directory text) in
-      let mapped = length-map (enumerate_from 0 (segments_in text)) (seen_at dir (context_of text) (segments_in text)) in
-      omega (arith, few_in, length-enumerate_from 0 (segments_in text))
+      let mapped = length-map (enumerate_from 0 (segments_of_text text)) (seen_at dir (context_of text) (segments_of_text text)) in
+      omega (arith, few_in, length-enumerate_from 0 (segments_of_text text))

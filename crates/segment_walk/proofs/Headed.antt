@@ -9,7 +9,7 @@ use Rattle.std.proofs.lemmas.Option.{slice_get-map}
 use Rattle.edi_tables.specs.declared.tag.Tag.{Tag}
 use Rattle.edi_tables.specs.Extents.{tag_in}
 use Rattle.edi_tables.specs.Rows.{has_name}
-use Rattle.dir_parts.specs.declared.parts.Parts.{Parts}
+use Rattle.dir_compile.specs.declared.parts.Parts.{Parts}
 use Rattle.dir_compile.specs.Directory.{IsDirectory}
 use Rattle.seg_lexer.specs.Context.{context_of}
 use Rattle.seg_lexer.specs.Fields.{Component, components_at}
@@ -22,15 +22,15 @@ use Rattle.envelope_check.specs.declared.head.Head.{Head}
 use Rattle.envelope_check.specs.declared.head.HeadKind.{HeadKind}
 use Rattle.envelope_check.specs.declared.head.HeadKind.TheVariants.{Unb, Ung, Unh, Unt, Une, Unz}
 use Rattle.envelope_check.specs.declared.head.SegmentMark.{SegmentMark}
-use Rattle.envelope_check.specs.Heads.{Fits, HeadPlace, head_place, kind_of, place_of, start_in, tags_of}
+use Rattle.envelope_check.specs.Heads.{Fits, HeadPlace, head_place, kind_of, head_place_of, start_in, tags_of}
 use Rattle.envelope_check.proofs.TagKinds.{IsOther, Sort, known, named, other, sort_of}
 use Rattle.segment_records.specs.Messages.{mode_after, table_for}
-use Rattle.segment_records.specs.Segments.{Segment, segment_between, segments_by, segments_in}
+use Rattle.segment_records.specs.Segments.{Segment, segment_between, segments_by, segments_of_text}
 use Rattle.segment_records.specs.Steps.{Step, opening_step}
 use Rattle.segment_records.proofs.Taking.{step_at_unh}
 use Rattle.segment_walk.specs.Count.{segment_count_of}
 use Rattle.segment_walk.specs.Heads.{count_in, head_at, head_of, heads_of, marks_of, name_in, reference_in, tabled_in}
-use Rattle.segment_walk.specs.Seen.{SeenSegment, as_segment, seen_at, seen_in}
+use Rattle.segment_walk.specs.WalkedSegments.{SeenSegment, as_segment, seen_at, seen_in}
 use Rattle.segment_walk.specs.Told.{components_seen, head_seen, head_when, mark_seen, tabled_seen}
 use Rattle.segment_walk.proofs.Following.{All-at, stretch_in}
 use Rattle.segment_walk.proofs.Looking.{all_enumerated, filter_map_alike, first_left, map_alike, next_left, seen_is}
@@ -49,8 +49,8 @@ all_places : (s : Service) (text : List ℕ) → All (IsAtPlace s text) (segment
 unfolding segments_by boundaries_of
 all_places s text = places_of_pairs s text (pairs s.body (ends_of s text))
 
-pub place_in : (text : List ℕ) (i : ℕ) (segment : Segment) → slice_get (segments_in text) i ≡ Some segment → IsAtPlace (service_of text) text segment
-unfolding segments_in
+pub place_in : (text : List ℕ) (i : ℕ) (segment : Segment) → slice_get (segments_of_text text) i ≡ Some segment → IsAtPlace (service_of text) text segment
+unfolding segments_of_text
 place_in text i segment is = All-at (IsAtPlace (service_of text) text) (segments_by (service_of text) text) (all_places (service_of text) text) i segment is
 
 kind_named : (kind : HeadKind) → kind_of (named kind) ≡ Some kind
@@ -151,11 +151,11 @@ plain_map f n (x ∷ xs) = ap (λ ys. f x ∷ ys) (plain_map f (n + 1) xs)
 
 module _ (dir : Parts) (directory : IsDirectory dir) (text : List ℕ) where
   -- the heads of a text
-  pub heads_are : filter_map (head_when (service_of text) text) (seen_in dir text) ≡ heads_of dir (segments_in text)
+  pub heads_are : filter_map (head_when (service_of text) text) (seen_in dir text) ≡ heads_of dir (segments_of_text text)
   unfolding heads_of
   heads_are =
       let context = context_of text in
-      let segments : List Segment = segments_in text in
+      let segments : List Segment = segments_of_text text in
       let s = service_of text in
       ap (filter_map (head_when s text)) (seen_is dir directory text)
       ∙ filter_map_alike (seen_at dir context segments) (head_when s text) (λ (p : ℕ × Segment). head_at dir (p.0 + 1, p.1)) (enumerate_from 0 segments)
@@ -164,10 +164,10 @@ module _ (dir : Parts) (directory : IsDirectory dir) (text : List ℕ) where
       ∙ counted_up (head_at dir) 0 segments
 
   -- its marks
-  pub marks_are : map mark_seen (seen_in dir text) ≡ marks_of (segments_in text)
+  pub marks_are : map mark_seen (seen_in dir text) ≡ marks_of (segments_of_text text)
   marks_are =
       let context = context_of text in
-      let segments : List Segment = segments_in text in
+      let segments : List Segment = segments_of_text text in
       let s = service_of text in
       let mark : Segment → SegmentMark = λ segment. record { start = segment.start; tag = segment.tag } in
       ap (map mark_seen) (seen_is dir directory text)
@@ -191,27 +191,27 @@ module _ (dir : Parts) (all : List Segment) where
       (slice_get-map (λ (segment : Segment). record { start = segment.start; tag = segment.tag }) all i
       ∙ ap (option_map (λ (segment : Segment). record { start = segment.start; tag = segment.tag })) is)
 
-  place_alike : (i : ℕ) (segment : Segment) → slice_get all i ≡ Some segment → option_map place_of (head_at dir (i + 1, segment)) ≡ head_place (marks_of all) i
+  place_alike : (i : ℕ) (segment : Segment) → slice_get all i ≡ Some segment → option_map head_place_of (head_at dir (i + 1, segment)) ≡ head_place (marks_of all) i
   place_alike i segment is =
       by (kind_of segment.tag)
       ∙ ap (λ (n : ℕ). option_map (λ (kind : HeadKind). let p : HeadPlace = record { segment = i + 1; start = n; kind = kind } in p) (kind_of segment.tag)) (sym (start_at_place i segment is))
       ∙ ap (λ (tag : Option Tag). option_map (λ (kind : HeadKind). let p : HeadPlace = record { segment = i + 1; start = start_in (marks_of all) i; kind = kind } in p) (kind_of tag)) (sym (tag_at_place i segment is))
     where
-      by : (found : Option HeadKind) → option_map place_of (option_map (head_of dir (i + 1) segment) found)
+      by : (found : Option HeadKind) → option_map head_place_of (option_map (head_of dir (i + 1) segment) found)
           ≡ option_map (λ (kind : HeadKind). let p : HeadPlace = record { segment = i + 1; start = segment.start; kind = kind } in p) found
       by None = refl
       by (Some kind) = refl
 
-  mapped_option : (o : Option Head) (heads : List Head) → map place_of (cons_option o heads) ≡ cons_option (option_map place_of o) (map place_of heads)
+  mapped_option : (o : Option Head) (heads : List Head) → map head_place_of (cons_option o heads) ≡ cons_option (option_map head_place_of o) (map head_place_of heads)
   mapped_option None heads = refl
   mapped_option (Some head) heads = refl
 
   fits_from : (k : ℕ) (more : List Segment) → drop k all ≡ more
-      → map place_of (filter_map (head_at dir) (enumerate_from (k + 1) more)) ≡ filter_map (head_place (marks_of all)) (range_with_len k (length more))
+      → map head_place_of (filter_map (head_at dir) (enumerate_from (k + 1) more)) ≡ filter_map (head_place (marks_of all)) (range_with_len k (length more))
   fits_from k [] left = refl
   fits_from k (segment ∷ more) left =
       mapped_option (head_at dir (k + 1, segment)) (filter_map (head_at dir) (enumerate_from (k + 1 + 1) more))
-      ∙ ap (λ (o : Option HeadPlace). cons_option o (map place_of (filter_map (head_at dir) (enumerate_from (k + 1 + 1) more)))) (place_alike k segment (first_left all (segment ∷ more) k left))
+      ∙ ap (λ (o : Option HeadPlace). cons_option o (map head_place_of (filter_map (head_at dir) (enumerate_from (k + 1 + 1) more)))) (place_alike k segment (first_left all (segment ∷ more) k left))
       ∙ ap (λ (places : List HeadPlace). cons_option (head_place (marks_of all) k) places) (fits_from (k + 1) more (next_left all segment more k left))
 
   -- the heads fit the marks
@@ -222,8 +222,8 @@ module _ (dir : Parts) (all : List Segment) where
       ∙ ap (λ (n : ℕ). filter_map (head_place (marks_of all)) (range_with_len 0 n)) (sym (length-map all (λ (segment : Segment). record { start = segment.start; tag = segment.tag })))
 
 -- there are as many marks as segments
-pub count_marks : (text : List ℕ) → segment_count_of text ≡ length (marks_of (segments_in text))
-unfolding segments_in
+pub count_marks : (text : List ℕ) → segment_count_of text ≡ length (marks_of (segments_of_text text))
+unfolding segments_of_text
 count_marks text =
     same_count (service_of text) text
     ∙ sym (length-map (segments_by (service_of text) text) (λ (segment : Segment). record { start = segment.start; tag = segment.tag }))

@@ -9,7 +9,7 @@ use Rattle.std.proofs.lemmas.Option.{slice_get_within}
 use Rattle.edi_tables.specs.declared.tag.Tag.{Tag}
 use Rattle.edi_tables.specs.declared.table.Node.{Node}
 use Rattle.edi_tables.specs.Extents.{tag_in}
-use Rattle.dir_parts.specs.declared.parts.Parts.{Parts}
+use Rattle.dir_compile.specs.declared.parts.Parts.{Parts}
 use Rattle.dir_compile.specs.Directory.{IsDirectory}
 use Rattle.error_ledger.specs.declared.error.ErrorLine.{ErrorLine}
 use Rattle.element_check.specs.declared.error.LocalError.{LocalError}
@@ -19,9 +19,9 @@ use Rattle.seg_lexer.specs.declared.context.Context.{Context}
 use Rattle.table_walk.specs.Errors.{Fault, StructureError}
 use Rattle.table_walk.specs.Errors.Fault.{Missing, Over, Unplaced}
 use Rattle.segment_records.specs.Laws.{end_faults, ends_after, missing_at_end, step_faults}
-use Rattle.segment_records.specs.Messages.{faults_at, mode_after, nodes_at, position_at}
+use Rattle.segment_records.specs.Messages.{structure_errors_at, mode_after, nodes_at, position_at}
 use Rattle.segment_records.specs.Records.{kept_of}
-use Rattle.segment_records.specs.Segments.{Segment, segments_in, tags_in}
+use Rattle.segment_records.specs.Segments.{Segment, segments_of_text, tags_in}
 use Rattle.segment_records.specs.Steps.{Step, is_named, is_no_part, step_of}
 use Rattle.segment_records.specs.declared.mode.Mode.{Mode}
 use Rattle.segment_records.specs.declared.mode.Mode.TheVariants.{Outside, Untabled, Within}
@@ -30,7 +30,7 @@ use Rattle.segment_records.proofs.Held.{length_tags, tag_is}
 use Rattle.segment_records.proofs.ModeLaws.{steps_are_modes}
 use Rattle.segment_walk.specs.Errors.{error_with, fault_line, local_lines, nodes_in, segment_lines, structure_lines}
 use Rattle.segment_walk.specs.Line.{end_lines, ends_before, fault_lines, faults_of_step, lines_seen, local_seen, nodes_of_mode, step_lines, structure_seen}
-use Rattle.segment_walk.specs.Seen.{SeenSegment, as_segment, bounds_message, seen_at, seen_in}
+use Rattle.segment_walk.specs.WalkedSegments.{SeenSegment, as_segment, bounds_message, seen_at, seen_in}
 use Rattle.segment_walk.proofs.Following.{stretch_in}
 use Rattle.segment_walk.proofs.Looking.{all_enumerated, flat_map_alike, seen_is}
 use Rattle.segment_walk.proofs.Nearby.{nodes_after, nodes_before}
@@ -139,7 +139,7 @@ module _ (dir : Parts) (directory : IsDirectory dir) (context : Context) (segmen
       let before : Mode = mode_after dir segments i in
       let one : List Fault = step_faults before segment step in
       let two : List Fault = end_faults dir tags i (mode_after dir segments (i + 1)) in
-      sym (mapped_twice (fault_line nodes_here (i + 1) segment) (λ (error : StructureError). error.fault) (faults_at dir segments i)
+      sym (mapped_twice (fault_line nodes_here (i + 1) segment) (λ (error : StructureError). error.fault) (structure_errors_at dir segments i)
       ∙ ap told (steps_tell_faults dir directory segments i segment is)
       ∙ map-append (fault_line nodes_here (i + 1) segment) one two
       ∙ ap (λ (xs : List ErrorLine). xs ++ told two) (step_by before refl)
@@ -156,10 +156,10 @@ module _ (dir : Parts) (directory : IsDirectory dir) (context : Context) (segmen
 
 -- the errors of all segments
 pub lines_are : (dir : Parts) → IsDirectory dir → (text : List ℕ) → flat_map (lines_seen dir) (seen_in dir text)
-    ≡ flat_map (segment_lines dir (context_of text) (segments_in text)) (enumerate_from 0 (segments_in text))
+    ≡ flat_map (segment_lines dir (context_of text) (segments_of_text text)) (enumerate_from 0 (segments_of_text text))
 lines_are dir directory text =
     let context = context_of text in
-    let segments : List Segment = segments_in text in
+    let segments : List Segment = segments_of_text text in
     ap (flat_map (lines_seen dir)) (seen_is dir directory text)
     ∙ flat_map_alike (seen_at dir context segments) (lines_seen dir) (segment_lines dir context segments) (enumerate_from 0 segments)
     (all_enumerated (λ (p : ℕ × Segment). lines_seen dir (seen_at dir context segments p) ≡ segment_lines dir context segments p) segments

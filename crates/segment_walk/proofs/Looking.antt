@@ -4,7 +4,7 @@ use Rattle.std.specs.Prelude.{map, All}
 use Rattle.std.specs.List.{slice_get, enumerate_from, flat_map, filter_map, cons_option}
 use Rattle.std.specs.Option.{option_map}
 use Rattle.std.proofs.lemmas.List.Elements.{All-cons, All-nil, All-head, All-tail}
-use Rattle.dir_parts.specs.declared.parts.Parts.{Parts}
+use Rattle.dir_compile.specs.declared.parts.Parts.{Parts}
 use Rattle.dir_compile.specs.Directory.{IsDirectory}
 use Rattle.seg_lexer.specs.Context.{context_of}
 use Rattle.seg_lexer.specs.Segments.{boundaries_of, ends_of}
@@ -16,12 +16,12 @@ use Rattle.seg_lexer.proofs.EndsLemmas.{IsAscending, ends-ascending}
 use Rattle.seg_lexer.proofs.ServiceLemmas.{service_of-usable}
 use Rattle.segment_records.specs.Messages.{mode_after}
 use Rattle.segment_records.specs.Records.{Kept, kept_from, kept_of}
-use Rattle.segment_records.specs.Segments.{Segment, segment_between, segments_by, segments_in}
+use Rattle.segment_records.specs.Segments.{Segment, segment_between, segments_by, segments_of_text}
 use Rattle.segment_records.specs.Steps.{step_of}
 use Rattle.segment_records.specs.declared.mode.Mode.{Mode}
 use Rattle.segment_records.proofs.Held.{mode_first}
 use Rattle.segment_records.proofs.ModeLaws.{steps_are_modes}
-use Rattle.segment_walk.specs.Seen.{SeenSegment, kept_in, seen_at, seen_from, seen_in}
+use Rattle.segment_walk.specs.WalkedSegments.{SeenSegment, kept_in, seen_at, seen_from, seen_in}
 
 -- the first of what is kept
 first_kept : (dir : Parts) (context : Context) (before : Mode) (segments : List Segment)
@@ -73,8 +73,8 @@ module _ (dir : Parts) (directory : IsDirectory dir) (context : Context) (s : Se
 
 -- all segments of a text
 pub seen_is : (dir : Parts) → IsDirectory dir → (text : List ℕ)
-    → seen_in dir text ≡ map (seen_at dir (context_of text) (segments_in text)) (enumerate_from 0 (segments_in text))
-unfolding seen_in kept_in segments_in segments_by boundaries_of
+    → seen_in dir text ≡ map (seen_at dir (context_of text) (segments_of_text text)) (enumerate_from 0 (segments_of_text text))
+unfolding seen_in kept_in segments_of_text segments_by boundaries_of
 seen_is dir directory text =
     let s = service_of text in
     let all : List Segment = map (segment_between s text) (pairs s.body (ends_of s text)) in

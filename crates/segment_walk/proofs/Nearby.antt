@@ -8,7 +8,7 @@ use Rattle.edi_tables.specs.declared.tag.Tag.{Tag}
 use Rattle.edi_tables.specs.declared.table.Node.{Node}
 use Rattle.edi_tables.specs.Extents.{message_at, tag_in}
 use Rattle.edi_tables.specs.Rows.{has_name}
-use Rattle.dir_parts.specs.declared.parts.Parts.{Parts}
+use Rattle.dir_compile.specs.declared.parts.Parts.{Parts}
 use Rattle.envelope_check.proofs.Extents.{message_from, message_opened}
 use Rattle.segment_records.specs.Messages.{mode_after, nodes_at, position_at}
 use Rattle.segment_records.specs.Segments.{Segment, tags_in}
@@ -18,7 +18,7 @@ use Rattle.segment_records.proofs.Sites.{site_at}
 use Rattle.segment_records.proofs.Turns.{Tests, Turn, closing, inner, leaving, opening, turn_of}
 use Rattle.segment_walk.specs.Errors.{nodes_in}
 use Rattle.segment_walk.specs.Line.{nodes_of_mode}
-use Rattle.segment_walk.specs.Seen.{bounds_message}
+use Rattle.segment_walk.specs.WalkedSegments.{bounds_message}
 
 -- the nodes of what is open, by the position and by the mode
 open_nodes : (dir : Parts) (segments : List Segment) (i : ℕ) (held : Option ℕ)

@@ -6,13 +6,13 @@ use Rattle.std.specs.Option.{option_map}
 use Rattle.std.proofs.lemmas.Bool.{lt-ltb}
 use Rattle.std.proofs.lemmas.List.{append_assoc, append-nil, drop_all, drop_at, drop_more, length-map, length-take-le}
 use Rattle.std.proofs.lemmas.Option.{get_or_from_slice_get, slice_get-map, slice_get_within}
-use Rattle.dir_parts.specs.declared.parts.Parts.{Parts}
+use Rattle.dir_compile.specs.declared.parts.Parts.{Parts}
 use Rattle.seg_lexer.specs.declared.segment.Lexed.{Lexed}
 use Rattle.seg_lexer.specs.declared.segment.Lexed.TheVariants.{Ended, Tail, Nothing}
 use Rattle.seg_lexer.specs.Segments.{IsBoundary, IsLexed, IsSegment, boundaries_of, ends_of, segment_in, segments_of}
-use Rattle.value_lexer.specs.Breaks.{lead}
+use Rattle.seg_lexer.specs.Breaks.{lead}
 use Rattle.seg_lexer.specs.Service.{IsUsable}
-use Rattle.value_lexer.specs.Stretch.{Stretch}
+use Rattle.seg_lexer.specs.Stretch.{Stretch}
 use Rattle.seg_lexer.specs.Whole.{IsWhole, at_start}
 use Rattle.seg_lexer.specs.declared.context.Context.{Context}
 use Rattle.seg_lexer.specs.declared.service.Service.{Service}

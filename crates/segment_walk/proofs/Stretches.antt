@@ -5,7 +5,7 @@ use Rattle.std.specs.List.{sum_by, range_with_len}
 use Rattle.std.proofs.lemmas.List.Elements.{All-cons, All-nil}
 use Rattle.std.proofs.lemmas.List.FromFn.{length-range_with_len}
 use Rattle.std.proofs.lemmas.List.Sums.{sum_by-cons}
-use Rattle.dir_parts.specs.declared.parts.Parts.{Parts}
+use Rattle.dir_compile.specs.declared.parts.Parts.{Parts}
 use Rattle.seg_lexer.specs.Context.{context_of}
 use Rattle.seg_lexer.specs.Segments.{boundaries_of, ends_of, is_end}
 use Rattle.seg_lexer.specs.Service.{service_of}
@@ -14,15 +14,15 @@ use Rattle.seg_lexer.specs.declared.context.Context.{Context}
 use Rattle.seg_lexer.specs.declared.service.Service.{Service}
 use Rattle.seg_lexer.proofs.AppendLemmas.{pairs}
 use Rattle.seg_lexer.proofs.EndsLemmas.{AllBelow, IsAscending, ends-ascending, ends-below}
-use Rattle.value_lexer.proofs.PlacesLemmas.{length-filter-le}
+use Rattle.seg_lexer.proofs.PlacesLemmas.{length-filter-le}
 use Rattle.seg_lexer.proofs.SegmentsLemmas.{IsLead, lead-within}
 use Rattle.seg_lexer.proofs.ServiceLemmas.{service_of-usable}
 use Rattle.segment_records.specs.Records.{Kept, kept_from, kept_of}
-use Rattle.segment_records.specs.Segments.{Segment, segment_between, segments_by, segments_in}
+use Rattle.segment_records.specs.Segments.{Segment, segment_between, segments_by, segments_of_text}
 use Rattle.segment_records.specs.Steps.{step_of}
 use Rattle.segment_records.specs.declared.mode.Mode.{Mode}
 use Rattle.segment_records.specs.declared.mode.Mode.TheVariants.{Outside}
-use Rattle.segment_walk.specs.Seen.{AreStretches, IsFilled, kept_in}
+use Rattle.segment_walk.specs.WalkedSegments.{AreStretches, IsFilled, kept_in}
 use Rattle.segment_walk.proofs.Rests.{length_segments}
 
 -- how many octets these are of
@@ -106,7 +106,7 @@ module _ (dir : Parts) (text : List ℕ) where
 
   -- the records of a text are of its stretches
   pub kept_stretches : length text ≤ 4194304 → AreStretches 1 (service_of text).body (kept_in dir text)
-  unfolding kept_in segments_in segments_by boundaries_of
+  unfolding kept_in segments_of_text segments_by boundaries_of
   kept_stretches short =
       let s = service_of text in
       let es = ends_of s text in
@@ -120,7 +120,7 @@ module _ (dir : Parts) (text : List ℕ) where
 
   -- the last boundary is after them all
   pub last_boundary : (service_of text).body + octets_in (kept_in dir text) ≡ get_or (boundaries_of (service_of text) text) (length (ends_of (service_of text) text)) 0
-  unfolding kept_in segments_in segments_by boundaries_of
+  unfolding kept_in segments_of_text segments_by boundaries_of
   last_boundary =
       let s = service_of text in
       octets_last s text dir (context_of text) s.body (ends_of s text) Outside (ends-ascending s text body_within)

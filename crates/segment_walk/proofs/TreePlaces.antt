@@ -8,7 +8,7 @@ use Rattle.edi_tables.specs.Rows.{IsTable}
 use Rattle.edi_tables.specs.Walk.{groups_round, is_trigger_at, is_trigger_of, parent_at}
 use Rattle.edi_tables.specs.Pairs.{count_in}
 use Rattle.edi_tables.proofs.Walking.{groups_round_some}
-use Rattle.dir_parts.specs.declared.parts.Parts.{Parts}
+use Rattle.dir_compile.specs.declared.parts.Parts.{Parts}
 use Rattle.dir_compile.specs.Directory.{IsDirectory}
 use Rattle.error_ledger.specs.declared.tree.TreeLine.{TreeLine}
 use Rattle.error_ledger.specs.declared.tree.TreePlace.{TreePlace}
@@ -25,7 +25,7 @@ use Rattle.segment_records.specs.declared.mode.Mode.{Mode}
 use Rattle.segment_records.specs.declared.mode.Mode.TheVariants.{Outside, Untabled, Within}
 use Rattle.segment_records.proofs.Tables.{table_is}
 use Rattle.table_walk.specs.Steps.{IsShaped, member_in}
-use Rattle.segment_walk.specs.Seen.{Follows, SeenSegment, as_segment, bounds_message}
+use Rattle.segment_walk.specs.WalkedSegments.{Follows, SeenSegment, as_segment, bounds_message}
 use Rattle.segment_walk.specs.Told.{line_in_tree}
 use Rattle.segment_walk.proofs.Nodes.{member_within}
 

@@ -5,7 +5,7 @@ use Rattle.std.specs.Iterator.{YieldsFirstRef}
 use Rattle.std.proofs.lemmas.List.Elements.{All-head, All-tail}
 use Rattle.std.proofs.lemmas.List.Sums.{sum_by-cons}
 use Rattle.segment_records.specs.Records.{Kept}
-use Rattle.segment_walk.specs.Seen.{AreStretches, IsFilled, left_of}
+use Rattle.segment_walk.specs.WalkedSegments.{AreStretches, IsFilled, left_of}
 
 pub first_filled : (number from : ℕ) (kept : Kept) (rest : List Kept) → AreStretches number from (kept ∷ rest) → IsFilled kept
 first_filled number from kept rest it = All-head IsFilled kept rest it.filled

@@ -2,7 +2,8 @@
 use Rattle.std.specs.Prelude.{ℕ, Bool, false, List, [], map, Option, is_some}
 use Rattle.std.specs.Option.{option_map}
 use Rattle.std.specs.List.{enumerate_from, filter_map}
-use Rattle.dir_parts.specs.declared.parts.Parts.{Parts}
+use Rattle.dir_compile.specs.Directory.{Directory}
+use Rattle.edi_tables.specs.Octets.{Octets}
 use Rattle.seg_lexer.specs.Fields.{Component}
 use Rattle.envelope_check.specs.Heads.{kind_of}
 use Rattle.envelope_check.specs.declared.head.Head.{Head}
@@ -13,7 +14,7 @@ use Rattle.segment_records.specs.Segments.{Segment, value_in}
 use Rattle.segment_records.specs.Messages.{table_for}
 
 -- the reference that a segment of this kind gives: 0020 of UNB and UNZ, 0048 of UNG and UNE, 0062 of UNH and UNT
-abbrev pub reference_in : List Component → HeadKind → List ℕ
+abbrev pub reference_in : List Component → HeadKind → Octets
 reference_in components Unb = value_in components 5 1
 reference_in components Ung = value_in components 5 1
 reference_in components Unh = value_in components 1 1
@@ -22,25 +23,25 @@ reference_in components Une = value_in components 2 1
 reference_in components Unz = value_in components 2 1
 
 -- the count that it gives: 0074 of UNT, 0060 of UNE, 0036 of UNZ
-abbrev pub count_in : List Component → HeadKind → List ℕ
+abbrev pub count_in : List Component → HeadKind → Octets
 count_in components Unt = value_in components 1 1
 count_in components Une = value_in components 1 1
 count_in components Unz = value_in components 1 1
 count_in components _ = []
 
 -- the type of message that it gives: 0065 of UNH, 0038 of UNG
-abbrev pub name_in : List Component → HeadKind → List ℕ
+abbrev pub name_in : List Component → HeadKind → Octets
 name_in components Unh = value_in components 2 1
 name_in components Ung = value_in components 1 1
 name_in components _ = []
 
 -- a UNH whose message the directory has a segment table for
-abbrev pub tabled_in : Parts → List Component → HeadKind → Bool
+abbrev pub tabled_in : Directory → List Component → HeadKind → Bool
 tabled_in dir components Unh = is_some (table_for dir components)
 tabled_in dir components _ = false
 
 -- segment k as a head of this kind
-abbrev pub head_of : Parts → ℕ → Segment → HeadKind → Head
+abbrev pub head_of : Directory → ℕ → Segment → HeadKind → Head
 head_of dir k segment kind = record {
   segment = k;
   start = segment.start;
@@ -52,11 +53,11 @@ head_of dir k segment kind = record {
 }
 
 -- segment k as a head, where its tag is one of the six
-abbrev pub head_at : Parts → ℕ × Segment → Option Head
+abbrev pub head_at : Directory → ℕ × Segment → Option Head
 head_at dir p = option_map (head_of dir p.0 p.1) (kind_of p.1.tag)
 
 -- all segments that open or close an envelope, in order
-unfoldable pub heads_of : Parts → List Segment → List Head
+unfoldable pub heads_of : Directory → List Segment → List Head
 heads_of dir segments = filter_map (head_at dir) (enumerate_from 1 segments)
 
 -- the first octet and the tag of each segment

@@ -5,7 +5,7 @@ pub mod Heads
 pub mod Line
 pub mod Look
 pub mod Openers
-pub mod Seen
 pub mod Spans
 pub mod Told
 pub mod Walked
+pub mod WalkedSegments

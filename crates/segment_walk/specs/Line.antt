@@ -1,8 +1,9 @@
 -- The errors of a segment, by what is seen of it.
 use Rattle.std.specs.Prelude.{ℕ, Bool, true, List, [], ◌++◌, map, Option, Some, None, if◌then◌else◌}
+use Rattle.dir_compile.specs.Directory.{Directory}
+use Rattle.edi_tables.specs.Octets.{Octets}
 use Rattle.edi_tables.specs.declared.table.Node.{Node}
 use Rattle.edi_tables.specs.Rows.{when}
-use Rattle.dir_parts.specs.declared.parts.Parts.{Parts}
 use Rattle.error_ledger.specs.declared.error.ErrorLine.{ErrorLine}
 use Rattle.error_ledger.specs.declared.kind.Kind.{Kind}
 use Rattle.error_ledger.specs.declared.kind.Kind.TheVariants as kind
@@ -17,11 +18,11 @@ use Rattle.segment_records.specs.Steps.{Step}
 use Rattle.segment_records.specs.declared.mode.Mode.{Mode}
 use Rattle.segment_records.specs.declared.mode.Mode.TheVariants.{Outside, Untabled, Within}
 use Rattle.segment_walk.specs.Errors.{error_of, fault_line, is_unknown, levels, local_line, versions}
-use Rattle.segment_walk.specs.Seen.{SeenSegment, as_segment, bounds_message}
+use Rattle.segment_walk.specs.WalkedSegments.{SeenSegment, as_segment, bounds_message}
 use Rattle.segment_walk.specs.Told.{components_seen}
 
 -- the nodes of the table of a mode
-abbrev pub nodes_of_mode : Parts → Mode → List Node
+abbrev pub nodes_of_mode : Directory → Mode → List Node
 nodes_of_mode dir Outside = []
 nodes_of_mode dir Untabled = []
 nodes_of_mode dir (Within table pairs) = nodes_at dir table
@@ -35,7 +36,7 @@ abbrev pub faults_of_step : Step → List Fault
 faults_of_step step = faults_of_member step.entry step.missing step.over
 
 -- what is wrong with a segment that is part of an open message with a table
-abbrev pub step_lines : Parts → Mode → SeenSegment → List ErrorLine
+abbrev pub step_lines : Directory → Mode → SeenSegment → List ErrorLine
 step_lines dir (Within table pairs) seen =
     if bounds_message seen.kept.tag then [] else fault_lines (nodes_at dir table) seen (faults_of_step seen.kept.step)
 step_lines dir mode seen = []
@@ -46,7 +47,7 @@ ends_before None = true
 ends_before (Some kept) = bounds_message kept.tag
 
 -- what is missing where a message ends with a segment
-abbrev pub end_lines : Parts → SeenSegment → List ErrorLine
+abbrev pub end_lines : Directory → SeenSegment → List ErrorLine
 end_lines dir seen =
     if ends_before seen.next
     then fault_lines (nodes_of_mode dir seen.kept.step.after) seen
@@ -54,14 +55,14 @@ end_lines dir seen =
     else []
 
 -- the structure errors at a segment
-abbrev pub structure_seen : Parts → SeenSegment → List ErrorLine
+abbrev pub structure_seen : Directory → SeenSegment → List ErrorLine
 structure_seen dir seen = step_lines dir seen.before seen ++ end_lines dir seen
 
 -- its local errors
 abbrev pub local_seen : SeenSegment → List ErrorLine
 local_seen seen = map (local_line seen.number (as_segment seen)) seen.kept.local
 
-abbrev pub lines_seen : Parts → SeenSegment → List ErrorLine
+abbrev pub lines_seen : Directory → SeenSegment → List ErrorLine
 lines_seen dir seen = structure_seen dir seen ++ local_seen seen
 
 -- an error of a segment at a component of an element
@@ -69,7 +70,7 @@ abbrev pub seen_error : SeenSegment → ℕ → ℕ → Kind → ErrorLine
 seen_error seen element component found = error_of seen.number (as_segment seen) element component found
 
 -- what is wrong with the level and the version that a UNB names, whose components are read from its text
-abbrev pub opening_seen : Service → List ℕ → SeenSegment → List ErrorLine
+abbrev pub opening_seen : Service → Octets → SeenSegment → List ErrorLine
 opening_seen service text seen =
     let components = components_seen service text seen in
     when (is_unknown (value_in components 1 1) levels) (seen_error seen 1 1 kind.Syntax)

@@ -1,9 +1,9 @@
 -- The segment that an item of the walk over records is.
 use Rattle.std.specs.Option.{option_copied}
-use Rattle.segment_walk.specs.declared.seen.Seen.{Seen}
-use Rattle.segment_walk.specs.Seen.{SeenSegment}
+use Rattle.segment_walk.specs.declared.walked_segment.WalkedSegment.{WalkedSegment}
+use Rattle.segment_walk.specs.WalkedSegments.{SeenSegment}
 
-abbrev pub seen_of : Seen → SeenSegment
+abbrev pub seen_of : WalkedSegment → SeenSegment
 seen_of s = record {
   number = s.number;
   from = s.from;

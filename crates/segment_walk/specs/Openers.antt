@@ -1,5 +1,6 @@
 -- What an acknowledgement tells of the segment that opens an interchange, a functional group or a message.
 use Rattle.std.specs.Prelude.{ℕ, List, [], ◌∷◌, Option}
+use Rattle.edi_tables.specs.Octets.{Octets}
 use Rattle.edi_tables.specs.Extents.{Extent}
 use Rattle.seg_lexer.specs.Fields.{Component}
 use Rattle.seg_lexer.specs.declared.context.Context.{Context}
@@ -12,7 +13,7 @@ use Rattle.contrl_segments.specs.declared.summary.Party.{Party}
 use Rattle.segment_records.specs.Segments.{value_in}
 
 -- a party in an element of UNB or UNG, by its first two components, with this route
-abbrev pub party_in : List Component → ℕ → List ℕ → Party
+abbrev pub party_in : List Component → ℕ → Octets → Party
 party_in components element route = record {
   id = value_in components element 1;
   qualifier = value_in components element 2;

@@ -1,12 +1,13 @@
 -- The functional groups and messages of segments that are seen one after the other.
 use Rattle.std.specs.Prelude.{◌<◌, ℕ, ◌+◌, ◌-◌, Bool, false, List, [], ◌∷◌, ◌++◌, Option, Some, None, codes, if◌then◌else◌}
 use Rattle.std.specs.List.{list_any}
+use Rattle.edi_tables.specs.Octets.{Octets}
 use Rattle.edi_tables.specs.declared.tag.Tag.{Tag}
 use Rattle.edi_tables.specs.Rows.{has_name}
 use Rattle.seg_lexer.specs.declared.service.Service.{Service}
 use Rattle.contrl_segments.specs.declared.summary.GroupHead.{GroupHead}
 use Rattle.contrl_segments.specs.declared.summary.MessageHead.{MessageHead}
-use Rattle.segment_walk.specs.Seen.{SeenSegment}
+use Rattle.segment_walk.specs.WalkedSegments.{SeenSegment}
 use Rattle.segment_walk.specs.Openers.{group_head_of, message_head_of}
 use Rattle.segment_walk.specs.Told.{components_seen}
 
@@ -52,7 +53,7 @@ heads_from by count current (x ∷ xs) =
     else heads_from by count current xs
 
 -- the group that a UNG opens; its end isn't seen yet
-abbrev pub group_seen : Service → List ℕ → SeenSegment → GroupHead
+abbrev pub group_seen : Service → Octets → SeenSegment → GroupHead
 group_seen service text seen =
     group_head_of (record { first = seen.number; last = seen.number; closed = false })
     (components_seen service text seen)
@@ -60,7 +61,7 @@ group_seen service text seen =
 abbrev pub group_ended : GroupHead → ℕ → GroupHead
 group_ended head last = record head { last = last }
 
-abbrev pub group_spans : Service → List ℕ → Spanning SeenSegment GroupHead
+abbrev pub group_spans : Service → Octets → Spanning SeenSegment GroupHead
 group_spans service text = record {
   opens = λ seen. has_name (codes "UNG") seen.kept.tag;
   closes = λ seen. has_name (codes "UNE") seen.kept.tag;
@@ -85,7 +86,7 @@ grouped begun group (seen ∷ more) =
     ∷ grouped (begun_by seen.kept.tag begun) (group_by seen.kept.tag begun group) more
 
 -- the message that a UNH opens in a group; its end isn't seen yet
-abbrev pub message_seen : Service → List ℕ → Option ℕ → SeenSegment → MessageHead
+abbrev pub message_seen : Service → Octets → Option ℕ → SeenSegment → MessageHead
 message_seen service text group seen =
     message_head_of group (record { first = seen.number; last = seen.number; closed = false })
     (components_seen service text seen)
@@ -93,7 +94,7 @@ message_seen service text group seen =
 abbrev pub message_ended : MessageHead → ℕ → MessageHead
 message_ended head last = record head { last = last }
 
-abbrev pub message_spans : Service → List ℕ → Spanning (Option ℕ × SeenSegment) MessageHead
+abbrev pub message_spans : Service → Octets → Spanning (Option ℕ × SeenSegment) MessageHead
 message_spans service text = record {
   opens = λ p. has_name (codes "UNH") p.1.kept.tag;
   closes = λ p. has_name (codes "UNT") p.1.kept.tag;

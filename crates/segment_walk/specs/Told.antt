@@ -1,18 +1,19 @@
 -- The head, the mark and the place in the tree of a segment, by what is seen of it.
-use Rattle.std.specs.Prelude.{ℕ, Bool, false, List, Option, is_some}
+use Rattle.std.specs.Prelude.{Bool, false, List, Option, is_some}
 use Rattle.std.specs.Option.{option_map}
+use Rattle.dir_compile.specs.Directory.{Directory}
+use Rattle.edi_tables.specs.Octets.{Octets}
 use Rattle.envelope_check.specs.Heads.{kind_of}
 use Rattle.envelope_check.specs.declared.head.Head.{Head}
 use Rattle.envelope_check.specs.declared.head.HeadKind.{HeadKind}
 use Rattle.envelope_check.specs.declared.head.HeadKind.TheVariants.{Unh}
 use Rattle.envelope_check.specs.declared.head.SegmentMark.{SegmentMark}
-use Rattle.dir_parts.specs.declared.parts.Parts.{Parts}
 use Rattle.error_ledger.specs.declared.tree.TreeLine.{TreeLine}
 use Rattle.seg_lexer.specs.Fields.{Component, components_at}
 use Rattle.seg_lexer.specs.declared.service.Service.{Service}
 use Rattle.segment_records.specs.Places.{place_by}
 use Rattle.segment_walk.specs.Heads.{count_in, name_in, reference_in}
-use Rattle.segment_walk.specs.Seen.{SeenSegment, as_segment}
+use Rattle.segment_walk.specs.WalkedSegments.{SeenSegment, as_segment}
 
 -- a UNH that is at an entry
 abbrev pub tabled_seen : SeenSegment → HeadKind → Bool
@@ -20,10 +21,10 @@ tabled_seen seen Unh = is_some seen.kept.step.entry
 tabled_seen seen _ = false
 
 -- the components of a segment, in its text
-abbrev pub components_seen : Service → List ℕ → SeenSegment → List Component
+abbrev pub components_seen : Service → Octets → SeenSegment → List Component
 components_seen service text seen = components_at service text (as_segment seen).start (as_segment seen).end
 
-abbrev pub head_seen : Service → List ℕ → SeenSegment → HeadKind → Head
+abbrev pub head_seen : Service → Octets → SeenSegment → HeadKind → Head
 head_seen service text seen kind = record {
   segment = seen.number;
   start = (as_segment seen).start;
@@ -37,7 +38,7 @@ head_seen service text seen kind = record {
 abbrev pub mark_seen : SeenSegment → SegmentMark
 mark_seen seen = record { start = (as_segment seen).start; tag = seen.kept.tag }
 
-abbrev pub line_in_tree : Parts → SeenSegment → TreeLine
+abbrev pub line_in_tree : Directory → SeenSegment → TreeLine
 line_in_tree dir seen = record {
   segment = seen.number;
   tag = seen.kept.tag;
@@ -45,5 +46,5 @@ line_in_tree dir seen = record {
 }
 
 -- a segment as a head, where its tag is one of the six
-abbrev pub head_when : Service → List ℕ → SeenSegment → Option Head
+abbrev pub head_when : Service → Octets → SeenSegment → Option Head
 head_when service text seen = option_map (head_seen service text seen) (kind_of seen.kept.tag)

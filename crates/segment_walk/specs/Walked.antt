@@ -1,8 +1,8 @@
 -- For bodies: what is seen of a walk over records.
 use Rattle.std.specs.Prelude.{◌≡◌, List, []}
 use Rattle.std.specs.Option.{ForNone, option_copied}
-use Rattle.segment_walk.specs.Seen.{AreStretches, SeenSegment, left_of, seen_from}
-use Rattle.segment_walk.specs.declared.seen.Segments.TheInside.{Inside}
+use Rattle.segment_walk.specs.WalkedSegments.{AreStretches, SeenSegment, left_of, seen_from}
+use Rattle.segment_walk.specs.declared.walked_segment.Segments.TheInside.{Inside}
 
 -- the segments to come
 abbrev pub segments_left : Inside → List SeenSegment

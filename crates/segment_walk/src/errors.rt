@@ -1,23 +1,12 @@
 //! The errors of a segment, as lines of the error list.
-ghost use Rattle.std.specs.Prelude.{◌≡◌, ◌++◌, OnOk};
+ghost use Rattle.std.specs.Prelude.{◌≡◌};
 ghost use Rattle.segment_walk.specs.Errors.{error_with};
-ghost use Rattle.segment_walk.specs.Line.{local_seen, seen_error};
+ghost use Rattle.segment_walk.specs.Line.{seen_error};
 ghost use Rattle.segment_walk.specs.Look.{seen_of};
 
-use crate::seen::Seen;
+use crate::walked_segment::WalkedSegment;
 use edi_tables::Tag;
 use error_ledger::{ErrorLine, Kind};
-use std::alloc::AllocError;
-
-/// Puts the local errors of a segment. Only want of memory is an error.
-pub fn put_local(seen: &Seen<'_>, list: &mut Vec<ErrorLine>) -> Result<(), AllocError>
-    ensures { OnOk result (list.new.items ≡ list.old.items ++ local_seen (seen_of seen.now)) }
-{
-    for error in seen.record.local() {
-        list.push(seen.error(error.element, error.component, error.kind))?;
-    }
-    Ok(())
-}
 
 /// An error of segment `k`, from 1, whose first octet and tag are these, at a component of an element, both from 1: 0 is the
 /// whole segment, or the whole element. An error of the text itself is of segment 0.
@@ -43,9 +32,9 @@ pub fn error_with(
     }
 }
 
-impl Seen<'_> {
+impl WalkedSegment<'_> {
     /// An error of the segment at a component of an element.
-    pub(crate) fn error(&self, element: u32, component: u32, kind: Kind) -> ErrorLine
+    pub fn error(&self, element: u32, component: u32, kind: Kind) -> ErrorLine
         ensures { result ≡ seen_error (seen_of self.now) element component kind }
     {
         error_with(

@@ -5,24 +5,9 @@
 #![tactic(auto)]
 
 mod errors;
-mod group_heads;
-mod heads;
-mod message_heads;
-mod opening;
-mod places;
 mod read;
-mod seen;
-mod structure;
-mod tail;
-mod values;
+mod walked_segment;
 
-pub use errors::{error_with, put_local};
-pub use group_heads::{last_by, open_group, put_group, stops_group};
-pub use heads::read_head;
-pub use message_heads::{begun_by, group_by, open_message, put_message, stops_message};
-pub use opening::{put_opening, read_opening};
-pub use places::{number_groups, place_of};
+pub use errors::error_with;
 pub use read::{read_records, read_text};
-pub use seen::{Seen, Segments};
-pub use structure::put_structure;
-pub use tail::find_tail;
+pub use walked_segment::{Segments, WalkedSegment};

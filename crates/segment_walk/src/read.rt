@@ -6,18 +6,18 @@ ghost use Rattle.seg_lexer.specs.Context.{context_of};
 ghost use Rattle.seg_lexer.specs.Segments.{IsBoundary};
 ghost use Rattle.seg_lexer.specs.Service.{IsUsable};
 ghost use Rattle.seg_lexer.specs.Whole.{at_start};
-ghost use Rattle.value_lexer.specs.declared.TheConstants.{LONGEST_TEXT};
 ghost use Rattle.segment_records.specs.Laws.{ForgetsBefore, WholeThenMore};
 ghost use Rattle.segment_records.specs.Records.{IsModeOf, records_from};
 ghost use Rattle.segment_records.specs.Segments.{Segment, segments_by};
 ghost use Rattle.segment_walk.specs.Count.{segment_count_of};
-ghost use Rattle.segment_walk.specs.Seen.{kept_in};
+ghost use Rattle.segment_walk.specs.WalkedSegments.{kept_in};
+ghost use Rattle.edi_octets.specs.declared.octets.TheConstants.{LONGEST_TEXT};
 
+use clean_segments::CleanSegments;
 use dir_compile::Directory;
 use edi_octets::{Flat, Octets};
 use seg_lexer::{Context, Lexed, next_segment, read_context};
-use segment_check::CleanSegments;
-use segment_records::{Mode, Place, Record};
+use segment_records::{Mode, Record, SegmentPlace};
 use std::alloc::{AllocError, Global};
 use std::sync::ledger::Ledger;
 use step_counter::Steps;
@@ -59,7 +59,7 @@ pub fn read_records<O: Octets, L: Ledger, M: Ledger>(
     let mut clean = CleanSegments::none(alloc)?;
     let mut from = from;
     while let Lexed::Ended { start, end } = next_segment(text, &context.service, from, lexed) {
-        let place = Place { from, start, end };
+        let place = SegmentPlace { from, start, end };
         let mode = mode_after(before, &records);
         let record = Record::read(
             alloc, directory, context, mode, text, place, &mut clean, placed,

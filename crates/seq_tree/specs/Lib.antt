@@ -1,2 +1,5 @@
+pub mod Join
 pub mod Seq
+pub mod Shape
+pub mod Tree
 pub mod Walk

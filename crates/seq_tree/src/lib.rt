@@ -1,9 +1,15 @@
 //! A sequence of weighed items whose versions share what they have in common: a tree of nodes held by `Rc`, balanced by height.
 #![tactic(auto)]
 
+mod join;
+mod look;
+mod measure;
+mod run;
 mod sequence;
+mod tree;
 mod walk;
 
+pub use look::Located;
+pub use measure::Measured;
 pub use sequence::Seq;
-pub use shared_tree::{Located, Measured};
 pub use walk::Iter;

@@ -2,8 +2,12 @@
 
 ghost use Rattle.std.specs.Prelude.{◌≡◌, ℕ, ◌+◌, ◌-◌, ◌*◌, ◌^◌, ◌<◌, ◌≤◌, [], ◌++◌, length, take, drop, insert, sum_by, slice_get, slice_range, Some, IfOk, IsTrue, ◌↔◌};
 
+use crate::join::join;
+use crate::look::Located;
+use crate::measure::Measured;
+use crate::run::Run;
+use crate::tree::{Node, Tree};
 use crate::walk::Iter;
-use shared_tree::{Located, Measured, Node, Run, Tree};
 use std::alloc::{AllocError, Global};
 use std::fmt::{self, Debug, Formatter, Write};
 use std::marker::Model;
@@ -198,7 +202,7 @@ impl<T: Measured> Seq<T> {
             (None, _) => other.share(),
             (_, None) => self.share(),
             (Some(left), Some(right)) => {
-                let root = tree_join::join(alloc, left, right)?;
+                let root = join(alloc, left, right)?;
                 Ok(Seq { root: Some(root) })
             }
         }
@@ -263,12 +267,12 @@ fn build<T: Measured>(
     let middle = from + (to - from) / 2;
     let left = build(alloc, list, from, middle)?;
     let right = build(alloc, list, middle, to)?;
-    let tree = tree_join::join(alloc, &left, &right)?;
+    let tree = join(alloc, &left, &right)?;
     Ok(tree)
 }
 
 /// The first `i` items of a tree and the others.
-#[tactic(auto, using(shared_tree::proofs::Parts::take_right, shared_tree::proofs::Parts::drop_right))]
+#[tactic(auto, using(crate::proofs::Ranges::take_right, crate::proofs::Ranges::drop_right))]
 fn cut_tree<T: Measured>(
     alloc: Global,
     tree: &Tree<T>,

@@ -3,7 +3,8 @@
 ghost use Rattle.std.specs.Prelude.{◌≡◌, ◌+◌, ◌<◌, ◌≤◌, [], ◌++◌, length, drop, IfSome, IfNone};
 
 use arrayvec::ArrayVec;
-use shared_tree::{Measured, Node, Tree};
+use crate::measure::Measured;
+use crate::tree::{Node, Tree};
 use std::marker::Model;
 
 /// Every tree is lower than this.
@@ -118,7 +119,7 @@ impl<'a, T: Measured> Pending<'a, T> {
 }
 
 /// The items of a tree from place `i` on, before those to come: the first of them, and the others are put there.
-#[tactic(auto, using(shared_tree::proofs::Parts::drop_right))]
+#[tactic(auto, using(crate::proofs::Ranges::drop_right))]
 fn open_at<'a, T: Measured>(tree: &'a Tree<T>, i: usize, pending: &mut Pending<'a, T>) -> &'a [T]
     requires within { i ≤ length tree.now.0 }
     requires room { tree.now.1 + pending.old.1 < 64 }

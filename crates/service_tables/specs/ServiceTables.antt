@@ -1,6 +1,7 @@
 -- The service segments, their composites, and the segment table of CONTRL.
 use Rattle.std.specs.Prelude.{ℕ, Bool, true, false, List, [], ◌∷◌, Option, Some, None, codes, if◌then◌else◌}
 use Rattle.std.specs.Str.{bytes_eq}
+use Rattle.edi_tables.specs.Octets.{Octets}
 use Rattle.edi_tables.specs.declared.element.Class.{Class}
 use Rattle.edi_tables.specs.declared.element.Class.TheVariants.{A, N, An}
 use Rattle.edi_tables.specs.declared.element.CompositeDef.{CompositeDef}
@@ -34,22 +35,22 @@ abbrev pub repr_of : Class → Length → Repr
 repr_of class long = record { class = class; exact = long.exact; max = long.max }
 
 -- a data element: its code, class, length and status
-abbrev pub part : List ℕ → Class → Length → Bool → PartDef
+abbrev pub part : Octets → Class → Length → Bool → PartDef
 part code class long must = record { code = record { octets = code }; must = must; repr = repr_of class long }
 
-abbrev pub alone : List ℕ → Class → Length → Bool → ItemDef
+abbrev pub alone : Octets → Class → Length → Bool → ItemDef
 alone code class long must = Alone (part code class long must)
 
 -- a composite where it is used: its code and its status
-abbrev pub composite : List ℕ → Bool → ItemDef
+abbrev pub composite : Octets → Bool → ItemDef
 composite code must = Composite (record { octets = code }) must
 
 -- the composite of these parts
-abbrev pub composite_of : List ℕ → List PartDef → CompositeDef
+abbrev pub composite_of : Octets → List PartDef → CompositeDef
 composite_of code parts = record { code = record { octets = code }; parts = parts }
 
 -- the segment of these items
-abbrev pub segment_of : List ℕ → List ItemDef → SegmentDef
+abbrev pub segment_of : Octets → List ItemDef → SegmentDef
 segment_of tag items = record { tag = record { octets = tag }; items = items }
 
 -- the composites of the service segments, with their components in order
@@ -168,7 +169,7 @@ service_segments =
     ∷ []
 
 -- a row of a segment table: a segment, and a group
-abbrev pub segment_row : List ℕ → Bool → ℕ → ℕ → TableRow
+abbrev pub segment_row : Octets → Bool → ℕ → ℕ → TableRow
 segment_row tag must max depth = record { tag = Some (record { octets = tag }); must = must; max = max; depth = depth }
 
 abbrev pub group_row : Bool → ℕ → ℕ → TableRow
@@ -195,16 +196,16 @@ contrl_table_rows =
     ∷ []
 
 -- what the first of these with that name holds, if there is one
-abbrev pub held_by : {A B : Type 0} → (A → List ℕ) → (A → B) → List A → List ℕ → Option B
+abbrev pub held_by : {A B : Type 0} → (A → Octets) → (A → B) → List A → Octets → Option B
 held_by name value [] wanted = None
 held_by name value (x ∷ xs) wanted =
     if bytes_eq (name x) wanted then Some (value x) else held_by name value xs wanted
 
 -- the data elements of a service segment, if there is one of that tag
-unfoldable pub service_items_of : List ℕ → Option (List ItemDef)
+unfoldable pub service_items_of : Octets → Option (List ItemDef)
 service_items_of tag = held_by (λ segment. segment.tag.octets) (λ segment. segment.items) service_segments tag
 
 -- the components of a composite of the service segments, if there is one of that code
-unfoldable pub service_parts_of : List ℕ → Option (List PartDef)
+unfoldable pub service_parts_of : Octets → Option (List PartDef)
 service_parts_of code =
     held_by (λ composite. composite.code.octets) (λ composite. composite.parts) service_composites code

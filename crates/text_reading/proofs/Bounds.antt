@@ -5,7 +5,7 @@ use Rattle.std.specs.Iterator.{YieldsFirstBy}
 use Rattle.std.specs.List.{slice_get, enumerate_from, flat_map}
 use Rattle.std.proofs.lemmas.List.{append-nil}
 use Rattle.edi_tables.specs.Rows.{has_name, when}
-use Rattle.dir_parts.specs.declared.parts.Parts.{Parts}
+use Rattle.dir_compile.specs.declared.parts.Parts.{Parts}
 use Rattle.dir_compile.specs.Directory.{IsDirectory}
 use Rattle.envelope_check.specs.Envelope.{envelope_errors_of}
 use Rattle.error_ledger.specs.declared.error.ErrorLine.{ErrorLine}
@@ -15,15 +15,15 @@ use Rattle.seg_lexer.specs.Fields.{Component}
 use Rattle.seg_lexer.specs.Segments.{tail_of}
 use Rattle.seg_lexer.specs.Service.{service_of}
 use Rattle.seg_lexer.specs.declared.service.Service.{Service}
-use Rattle.segment_records.specs.Segments.{Segment, segments_in, value_in}
+use Rattle.segment_records.specs.Segments.{Segment, segments_of_text, value_in}
 use Rattle.segment_walk.specs.Count.{segment_count_of}
 use Rattle.segment_walk.specs.Errors.{error_with, is_unknown, levels, segment_lines, versions}
 use Rattle.text_reading.specs.Errors.{advice_lines, errors_found, opening_lines, syntax_lines, tail_lines}
 use Rattle.segment_walk.specs.Heads.{heads_of, marks_of}
 use Rattle.segment_walk.specs.Line.{opening_seen}
 use Rattle.segment_walk.specs.Look.{seen_of}
-use Rattle.segment_walk.specs.declared.seen.Seen.{Seen}
-use Rattle.segment_walk.specs.Seen.{SeenSegment, as_segment, seen_at, seen_in}
+use Rattle.segment_walk.specs.declared.walked_segment.WalkedSegment.{WalkedSegment}
+use Rattle.segment_walk.specs.WalkedSegments.{SeenSegment, as_segment, seen_at, seen_in}
 use Rattle.segment_walk.proofs.Following.{stretch_in}
 use Rattle.segment_walk.proofs.Headed.{components_alike, place_in, starts_alike}
 use Rattle.segment_walk.proofs.Looking.{seen_is}
@@ -31,7 +31,7 @@ use Rattle.segment_walk.proofs.Rests.{same_count}
 use Rattle.segment_walk.proofs.Stretches.{context_service, few_segments}
 
 -- nothing is left where no segment comes
-pub none_left : (left rest : List SeenSegment) (next : Option Seen) → next ≡ None → YieldsFirstBy seen_of (λ (xs : List SeenSegment). xs) left next rest → left ≡ []
+pub none_left : (left rest : List SeenSegment) (next : Option WalkedSegment) → next ≡ None → YieldsFirstBy seen_of (λ (xs : List SeenSegment). xs) left next rest → left ≡ []
 none_left left rest None none step = step.0
 none_left left rest (Some seen) none step = absurd (let no : ⊥ = cc in no)
 
@@ -42,33 +42,33 @@ few_counted text =
 
 module _ (dir : Parts) (directory : IsDirectory dir) (text : List ℕ) where
   -- no segment is first
-  pub none_first : (segments : List Segment) → map (seen_at dir (context_of text) (segments_in text)) (enumerate_from 0 segments) ≡ [] → slice_get segments 0 ≡ None
+  pub none_first : (segments : List Segment) → map (seen_at dir (context_of text) (segments_of_text text)) (enumerate_from 0 segments) ≡ [] → slice_get segments 0 ≡ None
   none_first [] is = refl
   none_first (segment ∷ more) is = absurd (let no : ⊥ = cc in no)
 
   -- the first segment is seen first
   pub some_first : (segments : List Segment) (seen : SeenSegment) (rest : List SeenSegment)
-      → map (seen_at dir (context_of text) (segments_in text)) (enumerate_from 0 segments) ≡ seen ∷ rest
-      → (segment : Segment) × (slice_get segments 0 ≡ Some segment) × (seen ≡ seen_at dir (context_of text) (segments_in text) (0, segment))
+      → map (seen_at dir (context_of text) (segments_of_text text)) (enumerate_from 0 segments) ≡ seen ∷ rest
+      → (segment : Segment) × (slice_get segments 0 ≡ Some segment) × (seen ≡ seen_at dir (context_of text) (segments_of_text text) (0, segment))
   some_first [] seen rest is = absurd (let no : ⊥ = cc in no)
   some_first (segment ∷ more) seen rest is = (segment, refl, cc)
 
-  pub syntax_none : seen_in dir text ≡ [] → (list : List ErrorLine) → list ≡ list ++ syntax_lines (slice_get (segments_in text) 0)
+  pub syntax_none : seen_in dir text ≡ [] → (list : List ErrorLine) → list ≡ list ++ syntax_lines (slice_get (segments_of_text text) 0)
   syntax_none none list =
-      let first = none_first (segments_in text) (sym (seen_is dir directory text) ∙ none) in
+      let first = none_first (segments_of_text text) (sym (seen_is dir directory text) ∙ none) in
       sym (append-nil list) ∙ ap (λ (o : Option Segment). list ++ syntax_lines o) (sym first)
 
   module _ (seen : SeenSegment) (rest : List SeenSegment) (is : seen_in dir text ≡ seen ∷ rest) where
-    abbrev found : (segment : Segment) × (slice_get (segments_in text) 0 ≡ Some segment) × (seen ≡ seen_at dir (context_of text) (segments_in text) (0, segment))
-    found = some_first (segments_in text) seen rest (sym (seen_is dir directory text) ∙ is)
+    abbrev found : (segment : Segment) × (slice_get (segments_of_text text) 0 ≡ Some segment) × (seen ≡ seen_at dir (context_of text) (segments_of_text text) (0, segment))
+    found = some_first (segments_of_text text) seen rest (sym (seen_is dir directory text) ∙ is)
 
     judged : (named : Bool) → has_name (codes "UNB") seen.kept.tag ≡ named
-        → syntax_lines (slice_get (segments_in text) 0) ≡ (if named then opening_lines found.0 else [])
+        → syntax_lines (slice_get (segments_of_text text) 0) ≡ (if named then opening_lines found.0 else [])
     judged named same =
         ap syntax_lines found.1
         ∙ ap (λ (b : Bool). if b then opening_lines found.0 else []) (ap (λ (s : SeenSegment). has_name (codes "UNB") s.kept.tag) (sym found.2) ∙ same)
 
-    pub syntax_past : has_name (codes "UNB") seen.kept.tag ≡ false → (list : List ErrorLine) → list ≡ list ++ syntax_lines (slice_get (segments_in text) 0)
+    pub syntax_past : has_name (codes "UNB") seen.kept.tag ≡ false → (list : List ErrorLine) → list ≡ list ++ syntax_lines (slice_get (segments_of_text text) 0)
     syntax_past other list = sym (append-nil list) ∙ ap (λ (lines : List ErrorLine). list ++ lines) (sym (judged false other))
 
     -- what is wrong with the opening, by the components at its places
@@ -77,10 +77,10 @@ module _ (dir : Parts) (directory : IsDirectory dir) (text : List ℕ) where
         when (is_unknown (value_in components 1 1) levels) (error_with 1 start found.0.tag 1 1 kind.Syntax)
         ++ when (is_unknown (value_in components 1 2) versions) (error_with 1 start found.0.tag 1 2 kind.Syntax)
 
-    pub opening_is : has_name (codes "UNB") seen.kept.tag ≡ true → opening_seen (service_of text) text seen ≡ syntax_lines (slice_get (segments_in text) 0)
+    pub opening_is : has_name (codes "UNB") seen.kept.tag ≡ true → opening_seen (service_of text) text seen ≡ syntax_lines (slice_get (segments_of_text text) 0)
     opening_is named =
         let segment : Segment = found.0 in
-        let segments : List Segment = segments_in text in
+        let segments : List Segment = segments_of_text text in
         let context = context_of text in
         let s = service_of text in
         let it = stretch_in dir directory text 0 segment found.1 in
@@ -92,15 +92,15 @@ module _ (dir : Parts) (directory : IsDirectory dir) (text : List ℕ) where
 
 -- errors that are gathered so are those that are found
 pub gathered : (dir : Parts) (text : List ℕ) (a b c d e : List ErrorLine)
-    → a ≡ envelope_errors_of (heads_of dir (segments_in text)) (marks_of (segments_in text))
+    → a ≡ envelope_errors_of (heads_of dir (segments_of_text text)) (marks_of (segments_of_text text))
     → b ≡ a ++ advice_lines (service_of text).sound
     → c ≡ b ++ tail_lines (segment_count_of text) (tail_of (service_of text) text)
-    → d ≡ c ++ syntax_lines (slice_get (segments_in text) 0)
-    → e ≡ d ++ flat_map (segment_lines dir (context_of text) (segments_in text)) (enumerate_from 0 (segments_in text))
+    → d ≡ c ++ syntax_lines (slice_get (segments_of_text text) 0)
+    → e ≡ d ++ flat_map (segment_lines dir (context_of text) (segments_of_text text)) (enumerate_from 0 (segments_of_text text))
     → e ≡ errors_found dir text
-unfolding errors_found segments_in
+unfolding errors_found segments_of_text
 gathered dir text a b c d e a_is b_is c_is d_is e_is =
-    let segments : List Segment = segments_in text in
+    let segments : List Segment = segments_of_text text in
     let lines = flat_map (segment_lines dir (context_of text) segments) (enumerate_from 0 segments) in
     e_is ∙ ap (λ (xs : List ErrorLine). xs ++ lines)
     (d_is ∙ ap (λ (xs : List ErrorLine). xs ++ syntax_lines (slice_get segments 0))

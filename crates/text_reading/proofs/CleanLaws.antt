@@ -9,8 +9,8 @@ use Rattle.edi_octets.specs.Decimal.{decimal_in}
 use Rattle.edi_tables.specs.Rows.{has_name, when}
 use Rattle.edi_tables.specs.declared.tag.Tag.{Tag}
 use Rattle.dir_compile.specs.Directory.{IsDirectory, table_names}
-use Rattle.dir_parts.specs.declared.parts.Parts.{Parts}
-use Rattle.seg_lexer.specs.Context.{context_of, opening_of, version_in}
+use Rattle.dir_compile.specs.declared.parts.Parts.{Parts}
+use Rattle.seg_lexer.specs.Context.{context_of, opening_components_of, version_in}
 use Rattle.seg_lexer.specs.Fields.{octets_at}
 use Rattle.seg_lexer.specs.Segments.{segments_of, tail_of}
 use Rattle.seg_lexer.specs.Service.{service_of}
@@ -26,8 +26,8 @@ use Rattle.element_check.specs.declared.error.LocalError.{LocalError}
 use Rattle.table_walk.specs.Errors.{StructureError}
 use Rattle.envelope_check.specs.Envelope.{envelope_errors_of}
 use Rattle.envelope_check.specs.Heads.{kind_of}
-use Rattle.segment_records.specs.Messages.{faults_at, position_at, table_for}
-use Rattle.segment_records.specs.Segments.{Segment, segments_in, value_in}
+use Rattle.segment_records.specs.Messages.{structure_errors_at, position_at, table_for}
+use Rattle.segment_records.specs.Segments.{Segment, segments_of_text, value_in}
 use Rattle.contrl_writer.specs.Contrl.{answer_by, contrl_of}
 use Rattle.contrl_segments.specs.Service.{level_word, unh, unt, unz}
 use Rattle.contrl_segments.specs.ReadBack.{IsReadAs, components_read}
@@ -169,7 +169,7 @@ version_is (Some v) = version_by (bytes_eq v (codes "1")) (bytes_eq v (codes "2"
 
 context_version : (text : List ℕ) → IsVersion ((context_of text).version)
 unfolding context_of
-context_version text = let s : Service = service_of text in version_is (octets_at 1 2 (opening_of s text (slice_get (segments_of s text) 0)))
+context_version text = let s : Service = service_of text in version_is (octets_at 1 2 (opening_components_of s text (slice_get (segments_of s text) 0)))
 
 module _ (dir : Parts) (directory : IsDirectory dir) (level : Level) (version : ℕ) (own : List ℕ) (ws : List written.Segment) (octets : List ℕ)
     (read : IsReadAs ws octets) (shape : IsShaped level version own ws) (version_known : IsVersion version) where
@@ -180,7 +180,7 @@ module _ (dir : Parts) (directory : IsDirectory dir) (level : Level) (version : 
   back = subst (λ (xs : List written.Segment). IsReadAs xs octets) shape.is read
 
   abbrev segments : List Segment
-  segments = segments_in octets
+  segments = segments_of_text octets
 
   are_read : AreRead segments canonical
   are_read = segments-back canonical octets back
@@ -219,9 +219,9 @@ module _ (dir : Parts) (directory : IsDirectory dir) (level : Level) (version : 
   table_known = ap (table_for dir) parts.h_read ∙ contrl_tabled dir
 
   -- no structure error
-  faults_none : (i : ℕ) (s : Segment) → slice_get segments i ≡ Some s → faults_at dir segments i ≡ []
+  faults_none : (i : ℕ) (s : Segment) → slice_get segments i ≡ Some s → structure_errors_at dir segments i ≡ []
   faults_none =
-      subst (λ (ss : List Segment). (i : ℕ) (s : Segment) → slice_get ss i ≡ Some s → faults_at dir ss i ≡ []) (sym parts.is)
+      subst (λ (ss : List Segment). (i : ℕ) (s : Segment) → slice_get ss i ≡ Some s → structure_errors_at dir ss i ≡ []) (sym parts.is)
       (runs_free dir directory (parts.b ∷ parts.h ∷ parts.c ∷ (parts.front ++ parts.u ∷ parts.z ∷ []))
       (contrl_runs dir (tags_of shape.rest) parts.b parts.h parts.c (parts.front ++ parts.u ∷ parts.z ∷ []) have_parts table_known shape.walks
       (omega (arith, shape.few, length-map shape.rest (λ (w : written.Segment). w.tag)))))
@@ -291,7 +291,7 @@ small_version n (inr (inl is)) = omega arith
 small_version n (inr (inr is)) = omega arith
 
 -- what is answered for this opening has no error
-clean_by : (dir : Parts) (directory : IsDirectory dir) (text : List ℕ) (stamp : Stamp) (own : List ℕ) → IsStamp stamp → IsTrue (is_reference_of own) → All (IsGoodOpening dir text) (segments_in text)
+clean_by : (dir : Parts) (directory : IsDirectory dir) (text : List ℕ) (stamp : Stamp) (own : List ℕ) → IsStamp stamp → IsTrue (is_reference_of own) → All (IsGoodOpening dir text) (segments_of_text text)
     → (opening : Opening) → (summary_of dir text).opening ≡ opening → IsOpened (context_of text) opening → (octets : List ℕ) → answer_by opening (contrl_of (summary_of dir text) stamp own) ≡ answers.Octets octets → errors_found dir octets ≡ []
 clean_by dir directory text stamp own stamped own_is good NoUnb is opened octets same = absurd (let never : ⊥ = cc in never)
 clean_by dir directory text stamp own stamped own_is good BadUnb is opened octets same = absurd (let never : ⊥ = cc in never)

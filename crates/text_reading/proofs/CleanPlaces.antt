@@ -6,7 +6,7 @@ use Rattle.std.proofs.lemmas.Bool.{cases_Bool, false≢true}
 use Rattle.edi_tables.specs.declared.table.Node.{Node}
 use Rattle.edi_tables.specs.Rows.{has_name, when}
 use Rattle.edi_tables.specs.Walk.{is_group_at, is_trigger_at}
-use Rattle.dir_parts.specs.declared.parts.Parts.{Parts}
+use Rattle.dir_compile.specs.declared.parts.Parts.{Parts}
 use Rattle.seg_lexer.specs.Context.{context_of}
 use Rattle.seg_lexer.specs.Segments.{tail_of}
 use Rattle.seg_lexer.specs.Service.{service_of}
@@ -21,10 +21,10 @@ use Rattle.table_walk.specs.Errors.{Fault, StructureError}
 use Rattle.table_walk.specs.Errors.Fault.{Missing, Over, Unplaced}
 use Rattle.envelope_check.specs.declared.head.Head.{Head}
 use Rattle.envelope_check.specs.declared.head.SegmentMark.{SegmentMark}
-use Rattle.envelope_check.specs.Envelope.{end_of_interchange, envelope_errors_of, error_at, error_of_text, is_at, errors_at, is_second_unb, text_errors}
+use Rattle.envelope_check.specs.Envelope.{end_of_interchange, envelope_errors_of, error_at, error_of_text, is_at, envelope_errors_at, is_second_unb, text_errors}
 use Rattle.envelope_check.specs.Heads.{tags_of}
-use Rattle.segment_records.specs.Messages.{faults_at, position_at}
-use Rattle.segment_records.specs.Segments.{Segment, segments_in, value_in}
+use Rattle.segment_records.specs.Messages.{structure_errors_at, position_at}
+use Rattle.segment_records.specs.Segments.{Segment, segments_of_text, value_in}
 use Rattle.contrl_laws.proofs.Each.{Each, each-all, each-append, each-flat, each-map}
 use Rattle.contrl_laws.proofs.Lawful.{IsPlaced}
 use Rattle.contrl_laws.proofs.Places.{NamesElement, local_names}
@@ -41,8 +41,8 @@ other : (e : ErrorLine) → is_of_element e.kind ≡ false → IsPlaced e
 other e free is = absurd (false≢true (sym free ∙ is))
 
 module _ (heads : List Head) (marks : List SegmentMark) where
-  at_place : (i : ℕ) → Each IsPlaced (errors_at heads marks i)
-  unfolding errors_at number_of
+  at_place : (i : ℕ) → Each IsPlaced (envelope_errors_at heads marks i)
+  unfolding envelope_errors_at number_of
   at_place i =
       let more : (xs : List ErrorLine) (b : Bool) (e : ErrorLine) → is_of_element e.kind ≡ false → Each IsPlaced xs → Each IsPlaced (xs ++ when b e) =
       λ xs b e free all. each-append IsPlaced xs (when b e) all (each-when b e (other e free)) in
@@ -63,9 +63,9 @@ module _ (heads : List Head) (marks : List SegmentMark) where
   envelope_placed =
       let no_unb : Bool = not (is_at (codes "UNB") (tags_of marks) 0) in
       let no_unz : Bool = not (is_some (end_of_interchange (tags_of marks))) in
-      each-append IsPlaced (text_errors (tags_of marks)) (flat_map (errors_at heads marks) (range_with_len 0 (length marks)))
+      each-append IsPlaced (text_errors (tags_of marks)) (flat_map (envelope_errors_at heads marks) (range_with_len 0 (length marks)))
       (each-append IsPlaced (when no_unb (error_of_text kind.NoUnb)) (when no_unz (error_of_text kind.NoUnz)) (each-when no_unb (error_of_text kind.NoUnb) (other (error_of_text kind.NoUnb) refl)) (each-when no_unz (error_of_text kind.NoUnz) (other (error_of_text kind.NoUnz) refl)))
-      (each-flat (λ i. Unit {0}) IsPlaced (errors_at heads marks) (λ i t. at_place i) (range_with_len 0 (length marks)) (each-all (λ i. Unit {0}) (λ i. tt) (range_with_len 0 (length marks))))
+      (each-flat (λ i. Unit {0}) IsPlaced (envelope_errors_at heads marks) (λ i t. at_place i) (range_with_len 0 (length marks)) (each-all (λ i. Unit {0}) (λ i. tt) (range_with_len 0 (length marks))))
 
 either_kind : (b : Bool) (one two : Kind) → is_of_element one ≡ false → is_of_element two ≡ false → is_of_element (cond b one two) ≡ false
 either_kind true one two first second = first
@@ -82,8 +82,8 @@ module _ (dir : Parts) (context : Context) (segments : List Segment) where
   lines_placed p =
       each-append IsPlaced (structure_lines dir segments p.0 p.1) (map (local_line (p.0 + 1) p.1) (local_errors_of dir context p.1.components))
       (each-map (λ (error : StructureError). Unit {0}) IsPlaced (λ error. fault_line (nodes_in dir (position_at dir segments p.0)) (p.0 + 1) p.1 error.fault)
-      (λ error t. fault_placed (nodes_in dir (position_at dir segments p.0)) (p.0 + 1) p.1 error.fault) (faults_at dir segments p.0)
-      (each-all (λ error. Unit {0}) (λ error. tt) (faults_at dir segments p.0)))
+      (λ error t. fault_placed (nodes_in dir (position_at dir segments p.0)) (p.0 + 1) p.1 error.fault) (structure_errors_at dir segments p.0)
+      (each-all (λ error. Unit {0}) (λ error. tt) (structure_errors_at dir segments p.0)))
       (each-map NamesElement IsPlaced (local_line (p.0 + 1) p.1) (λ error names. names) (local_errors_of dir context p.1.components) (local_names dir context p.1.components))
 
   opening_placed : (segment : Segment) → Each IsPlaced (opening_lines segment)
@@ -146,4 +146,4 @@ each-ordered P errors all = each-sorted P is_before errors all
 -- all errors of a text
 pub errors_placed : (dir : Parts) (text : List ℕ) → Each IsPlaced (errors_of dir text)
 unfolding errors_of errors_found
-errors_placed dir text = each-ordered IsPlaced (errors_found dir text) (in_placed dir (context_of text) (segments_in text) (tail_of (service_of text) text))
+errors_placed dir text = each-ordered IsPlaced (errors_found dir text) (in_placed dir (context_of text) (segments_of_text text) (tail_of (service_of text) text))

@@ -7,7 +7,7 @@ use Rattle.std.proofs.lemmas.Option.{get_or_from_slice_get, slice_get_within}
 use Rattle.edi_tables.specs.Extents.{Extent, extent_at, extent_to, group_extents, message_extents, next_of, tag_in}
 use Rattle.edi_tables.specs.Rows.{has_name}
 use Rattle.edi_tables.specs.declared.tag.Tag.{Tag}
-use Rattle.dir_parts.specs.declared.parts.Parts.{Parts}
+use Rattle.dir_compile.specs.declared.parts.Parts.{Parts}
 use Rattle.seg_lexer.specs.Context.{context_of}
 use Rattle.seg_lexer.specs.Fields.{Component}
 use Rattle.seg_lexer.specs.Tag.{tag_of}
@@ -18,7 +18,7 @@ use Rattle.contrl_writer.specs.Levels.{with_level}
 use Rattle.contrl_segments.specs.declared.summary.Opening.{Opening}
 use Rattle.contrl_segments.specs.declared.summary.Opening.TheVariants.{NoUnb, BadUnb, Good}
 use Rattle.error_ledger.specs.Order.{in_order}
-use Rattle.segment_records.specs.Segments.{Segment, segments_in, tag_read, tags_in}
+use Rattle.segment_records.specs.Segments.{Segment, segments_of_text, tag_read, tags_in}
 use Rattle.contrl_laws.proofs.Back.{cons_parts, tags-read}
 use Rattle.contrl_laws.proofs.Each.{Each, each-get, each-map}
 use Rattle.contrl_laws.proofs.Lawful.{IsGoodGroup, IsGoodMessage, IsPlaced, IsPlacedLevelled}
@@ -42,8 +42,8 @@ each-read (s ∷ ss) same all =
     let parts = cons_parts s.tag (tag_read s.components) (map (λ x. x.tag) ss) (map (λ x. tag_read x.components) ss) same in
     ((all.0, parts.0), each-read ss parts.1 all.1)
 
-text-read : (text : List ℕ) → Each IsRead (segments_in text)
-text-read text = each-read (segments_in text) (tags-read text) (text-numbered text)
+text-read : (text : List ℕ) → Each IsRead (segments_of_text text)
+text-read text = each-read (segments_of_text text) (tags-read text) (text-numbered text)
 
 tagged : (name : List ℕ) (s : Segment) → IsRead s → has_name name s.tag ≡ true → tag_of s.components ≡ Some name
 tagged name s read is = tag-named name s.components (sym (ap (has_name name) read.1) ∙ is)
@@ -106,12 +106,12 @@ found_at name [] (suc j) is = absurd (false≢true is)
 found_at name (s ∷ ss) zero is = record { segment = s; there = refl; named = is }
 found_at name (s ∷ ss) (suc j) is = let later = found_at name ss j is in record { segment = later.segment; there = later.there; named = later.named }
 
-module _ (dir : Parts) (text : List ℕ) (good : All (IsGoodOpening dir text) (segments_in text)) where
+module _ (dir : Parts) (text : List ℕ) (good : All (IsGoodOpening dir text) (segments_of_text text)) where
   abbrev context : Context
   context = context_of text
 
   abbrev segments : List Segment
-  segments = segments_in text
+  segments = segments_of_text text
 
   opening_good : (j : ℕ) (s : Segment) → slice_get segments j ≡ Some s → IsGoodOpening dir text s
   opening_good j s at = subst (IsGoodOpening dir text) (get_or_from_slice_get segments j s s at) (good j s (slice_get_within segments j s at))

@@ -13,7 +13,7 @@ use Rattle.edi_tables.specs.Placement.{group_count}
 use Rattle.edi_tables.specs.Rows.{IsTable}
 use Rattle.edi_tables.proofs.Openings.{AreMarks, IsClear, Opened, holder, next_stop, opened, opened_is, stretch, stretch_at, stretch_to}
 use Rattle.edi_tables.proofs.Searching.{Found, IsFirst, find_given, found}
-use Rattle.dir_parts.specs.declared.parts.Parts.{Parts}
+use Rattle.dir_compile.specs.declared.parts.Parts.{Parts}
 use Rattle.dir_compile.specs.Directory.{IsDirectory}
 use Rattle.envelope_check.proofs.Extents.{closes_message, ends_message, message_from, message_marks, message_opened, opens_message}
 use Rattle.error_ledger.specs.declared.tree.TreeLine.{TreeLine}
@@ -23,8 +23,8 @@ use Rattle.table_walk.proofs.Readings.{reading_is}
 use Rattle.table_walk.proofs.Whole.{first_place, whole_is}
 use Rattle.segment_records.specs.Messages.{Position, message_reading, nodes_at, position_at, position_in, table_for, tags_of_message}
 use Rattle.segment_records.specs.Messages.Position.{Outside, Untabled, Within}
-use Rattle.segment_records.specs.Places.{place_at, place_in, place_of, place_with}
-use Rattle.segment_records.specs.Segments.{Segment, segments_in, tags_in}
+use Rattle.segment_records.specs.Places.{place_at, place_in, tree_place_of, place_with}
+use Rattle.segment_records.specs.Segments.{Segment, segments_of_text, tags_in}
 use Rattle.segment_records.proofs.Ends.{message_reaches}
 use Rattle.segment_records.proofs.Held.{length_tags, position_is, position_with, table_opened}
 use Rattle.segment_records.proofs.ModeLaws.{opened_within}
@@ -159,7 +159,7 @@ module _ (nodes : List Node) (table : IsTable nodes) (tags : List (Option Tag)) 
 
 module _ (dir : Parts) (directory : IsDirectory dir) (text : List ℕ) where
   abbrev segments : List Segment
-  segments = segments_in text
+  segments = segments_of_text text
 
   abbrev tags : List (Option Tag)
   tags = tags_in segments
@@ -212,7 +212,7 @@ module _ (dir : Parts) (directory : IsDirectory dir) (text : List ℕ) where
     shown_there : (j : ℕ) → a ≤ j → j + 1 ≤ e.last → entry_shown (place_at dir segments j) ≡ member_at whole (j + 1 - e.first)
     unfolding place_at
     shown_there j from low =
-        ap (λ (p : Position). entry_shown (place_of dir segments j p)) (position_there j from low)
+        ap (λ (p : Position). entry_shown (tree_place_of dir segments j p)) (position_there j from low)
         ∙ shown_in nodes whole (j + 1 - e.first)
 
     long : length (tags_of_message segments e) ≡ e.last - a

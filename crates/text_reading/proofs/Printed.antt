@@ -6,12 +6,12 @@ use Rattle.std.proofs.lemmas.Grind.{flat_map-append}
 use Rattle.std.proofs.lemmas.List.{append_assoc, append-nil, length-map}
 use Rattle.std.proofs.lemmas.List.Elements.{All-head}
 use Rattle.std.proofs.lemmas.List.Folds.{flat_map-map}
-use Rattle.dir_parts.specs.declared.parts.Parts.{Parts}
+use Rattle.dir_compile.specs.declared.parts.Parts.{Parts}
 use Rattle.dir_compile.specs.Directory.{IsDirectory}
 use Rattle.error_ledger.specs.Printing.{IsWellPlaced, ended_lines, tree_lines, tree_text}
 use Rattle.edi_octets.specs.Decimal.{count_line}
 use Rattle.error_ledger.proofs.PrintLemmas.{lines_bounded}
-use Rattle.segment_walk.specs.Seen.{Follows, SeenSegment, seen_in}
+use Rattle.segment_walk.specs.WalkedSegments.{Follows, SeenSegment, seen_in}
 use Rattle.segment_walk.specs.Told.{line_in_tree}
 use Rattle.segment_walk.proofs.TreePlaces.{well_all}
 use Rattle.text_reading.specs.Tree.{tree_of}

@@ -10,14 +10,14 @@ use Rattle.seg_lexer.specs.declared.service.Service.{Service}
 use Rattle.seg_lexer.proofs.ServiceLemmas.{service_of-usable}
 use Rattle.segment_records.specs.Messages.{mode_after}
 use Rattle.segment_records.specs.Records.{Kept, kept_from, kept_of}
-use Rattle.segment_records.specs.Segments.{Segment, segments_in}
+use Rattle.segment_records.specs.Segments.{Segment, segments_of_text}
 use Rattle.segment_records.specs.declared.mode.Mode.{Mode}
 use Rattle.segment_records.specs.declared.mode.Mode.TheVariants.{Outside}
 use Rattle.segment_records.proofs.ModeLaws.{kept_is, length_kept, steps_are_modes}
 use Rattle.segment_walk.specs.Count.{segment_count_of}
 use Rattle.text_reading.specs.declared.kept.KeptText.TheInside.{Inside}
 use Rattle.text_reading.specs.Kept.{IsReading}
-use Rattle.segment_walk.specs.Seen.{AreStretches, kept_in, seen_from, seen_in}
+use Rattle.segment_walk.specs.WalkedSegments.{AreStretches, kept_in, seen_from, seen_in}
 use Rattle.segment_walk.proofs.Rests.{same_count}
 use Rattle.segment_walk.proofs.Stretches.{context_service, few_segments, kept_stretches, last_boundary, octets_in}
 
@@ -60,25 +60,25 @@ module _ (e : Inside) (it : IsReading e) where
 
   -- a record for each segment
   pub count_is : length e.records ≡ segment_count_of e.text
-  unfolding kept_in segments_in
+  unfolding kept_in segments_of_text
   count_is =
       ap length it.records
-      ∙ length_kept e.directory.now (context_of e.text) Outside (segments_in e.text)
+      ∙ length_kept e.directory.now (context_of e.text) Outside (segments_of_text e.text)
       ∙ sym (same_count (service_of e.text) e.text)
 
   pub few_records : length e.records ≤ length e.text
-  unfolding kept_in segments_in
+  unfolding kept_in segments_of_text
   few_records =
       let few = few_segments (service_of e.text) e.text in
-      let count = ap length it.records ∙ length_kept e.directory.now (context_of e.text) Outside (segments_in e.text) in
+      let count = ap length it.records ∙ length_kept e.directory.now (context_of e.text) Outside (segments_of_text e.text) in
       omega arith
 
   -- the mode after the record at a place
-  pub record_mode : (k : ℕ) (kept : Kept) → slice_get e.records k ≡ Some kept → kept.step.after ≡ mode_after e.directory.now (segments_in e.text) (k + 1)
+  pub record_mode : (k : ℕ) (kept : Kept) → slice_get e.records k ≡ Some kept → kept.step.after ≡ mode_after e.directory.now (segments_of_text e.text) (k + 1)
   unfolding kept_in
   record_mode k kept is =
       let dir = e.directory.now in
-      let segments : List Segment = segments_in e.text in
+      let segments : List Segment = segments_of_text e.text in
       let kept_is_at : slice_get (kept_from dir (context_of e.text) Outside segments) k ≡ Some kept = sym (ap (λ (xs : List Kept). slice_get xs k) it.records) ∙ is in
       let within : k < length (kept_from dir (context_of e.text) Outside segments) = slice_get_within (kept_from dir (context_of e.text) Outside segments) k kept kept_is_at in
       let long = length_kept dir (context_of e.text) Outside segments in

@@ -11,7 +11,7 @@ use Rattle.edi_tables.specs.declared.tag.Tag.{Tag}
 use Rattle.edi_tables.specs.Extents.{Extent, group_extents, message_extents, tag_in}
 use Rattle.edi_tables.specs.Rows.{has_name}
 use Rattle.edi_tables.proofs.Openings.{first_of, next_stop, opened, stretch}
-use Rattle.dir_parts.specs.declared.parts.Parts.{Parts}
+use Rattle.dir_compile.specs.declared.parts.Parts.{Parts}
 use Rattle.dir_compile.specs.Directory.{IsDirectory}
 use Rattle.envelope_check.specs.declared.head.HeadKind.{HeadKind}
 use Rattle.envelope_check.specs.declared.head.HeadKind.TheVariants.{Unb, Ung, Unh, Unt, Une, Unz}
@@ -26,12 +26,12 @@ use Rattle.seg_lexer.specs.Fields.{Component}
 use Rattle.seg_lexer.specs.Service.{service_of}
 use Rattle.seg_lexer.specs.declared.context.Context.{Context}
 use Rattle.seg_lexer.specs.declared.service.Service.{Service}
-use Rattle.segment_records.specs.Segments.{Segment, segments_in, tags_in}
+use Rattle.segment_records.specs.Segments.{Segment, segments_of_text, tags_in}
 use Rattle.segment_records.specs.Records.{Kept}
 use Rattle.segment_records.specs.declared.mode.Mode.{Mode}
 use Rattle.segment_records.specs.declared.mode.Mode.TheVariants.{Outside}
 use Rattle.segment_walk.specs.Count.{segment_count_of}
-use Rattle.segment_walk.specs.Seen.{SeenSegment, kept_in, seen_at, seen_from, seen_in}
+use Rattle.segment_walk.specs.WalkedSegments.{SeenSegment, kept_in, seen_at, seen_from, seen_in}
 use Rattle.segment_walk.specs.Spans.{IsNumbered, begun_by, group_by, group_spans, grouped, heads_from, message_seen, message_spans, stops_group, stops_message}
 use Rattle.segment_walk.specs.Openers.{group_head_of, message_head_of, opening_by}
 use Rattle.text_reading.specs.Summary.{group_of, groups_in, messages_in, opening_components, opening_in}
@@ -120,7 +120,7 @@ module _ (dir : Parts) (directory : IsDirectory dir) (text : List ℕ) where
   s = service_of text
 
   abbrev all : List Segment
-  all = segments_in text
+  all = segments_of_text text
 
   abbrev seen : ℕ × Segment → SeenSegment
   seen = seen_at dir (context_of text) all
@@ -223,8 +223,8 @@ module _ (dir : Parts) (directory : IsDirectory dir) (text : List ℕ) where
   length_grouped begun group (x ∷ xs) = ap suc (length_grouped (begun_by x.kept.tag begun) (group_by x.kept.tag begun group) xs)
 
   count_is : segment_count_of text ≡ length (tags_in all)
-  unfolding segments_in
-  count_is = same_count s text ∙ sym (count_tags (segments_in text))
+  unfolding segments_of_text
+  count_is = same_count s text ∙ sym (count_tags (segments_of_text text))
 
   groups_are : heads_from (group_spans s text) (segment_count_of text) None (seen_in dir text) ≡ groups_in all
   unfolding group_extents

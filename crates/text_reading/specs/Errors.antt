@@ -1,8 +1,9 @@
 -- All errors of a text, by a directory.
 use Rattle.std.specs.Prelude.{ℕ, ◌+◌, Bool, not, List, [], ◌∷◌, ◌++◌, length, slice_get, Option, Some, None, codes, if◌then◌else◌}
 use Rattle.std.specs.List.{flat_map, enumerate_from}
+use Rattle.dir_compile.specs.Directory.{Directory}
+use Rattle.edi_tables.specs.Octets.{Octets}
 use Rattle.edi_tables.specs.Rows.{has_name, when}
-use Rattle.dir_parts.specs.declared.parts.Parts.{Parts}
 use Rattle.seg_lexer.specs.Context.{context_of}
 use Rattle.seg_lexer.specs.Segments.{tail_of}
 use Rattle.seg_lexer.specs.Service.{service_of}
@@ -10,7 +11,7 @@ use Rattle.seg_lexer.specs.declared.context.Context.{Context}
 use Rattle.error_ledger.specs.declared.error.ErrorLine.{ErrorLine}
 use Rattle.error_ledger.specs.declared.kind.Kind.TheVariants as kind
 use Rattle.envelope_check.specs.Envelope.{envelope_errors_of}
-use Rattle.segment_records.specs.Segments.{Segment, segments_in, value_in}
+use Rattle.segment_records.specs.Segments.{Segment, segments_of_text, value_in}
 use Rattle.segment_walk.specs.Errors.{error_of, error_with, is_unknown, levels, segment_lines, versions}
 use Rattle.segment_walk.specs.Heads.{heads_of, marks_of}
 use Rattle.error_ledger.specs.Order.{in_order}
@@ -36,7 +37,7 @@ abbrev pub advice_lines : Bool → List ErrorLine
 advice_lines sound = when (not sound) (error_with 0 0 None 0 0 kind.BadUna)
 
 -- the errors of a text with these segments and this context
-abbrev pub errors_in : Parts → Context → List Segment → Option ℕ → List ErrorLine
+abbrev pub errors_in : Directory → Context → List Segment → Option ℕ → List ErrorLine
 errors_in dir context segments tail =
     envelope_errors_of (heads_of dir segments) (marks_of segments)
     ++ advice_lines context.service.sound
@@ -45,9 +46,9 @@ errors_in dir context segments tail =
     ++ flat_map (segment_lines dir context segments) (enumerate_from 0 segments)
 
 -- the errors of a text, as they are found
-unfoldable pub errors_found : Parts → List ℕ → List ErrorLine
-errors_found dir text = errors_in dir (context_of text) (segments_in text) (tail_of (service_of text) text)
+unfoldable pub errors_found : Directory → Octets → List ErrorLine
+errors_found dir text = errors_in dir (context_of text) (segments_of_text text) (tail_of (service_of text) text)
 
 -- the errors of a text, in ascending order of segment, element, component, number of the kind, and node
-unfoldable pub errors_of : Parts → List ℕ → List ErrorLine
+unfoldable pub errors_of : Directory → Octets → List ErrorLine
 errors_of dir text = in_order (errors_found dir text)

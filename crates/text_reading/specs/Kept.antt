@@ -4,8 +4,9 @@ use Rattle.dir_compile.specs.Directory.{IsDirectory}
 use Rattle.seg_lexer.specs.Context.{context_of}
 use Rattle.segment_records.specs.declared.mode.Mode.TheVariants.{Outside}
 use Rattle.text_reading.specs.Reading.{Reading}
-use Rattle.segment_walk.specs.Seen.{kept_in}
+use Rattle.segment_walk.specs.WalkedSegments.{kept_in}
 use Rattle.text_reading.specs.declared.kept.KeptText.TheInside.{Inside}
+use Rattle.edi_octets.specs.declared.octets.TheConstants.{LONGEST_TEXT}
 
 abbrev pub reading : Inside → Reading
 reading k = record { directory = k.directory.now; text = k.text }
@@ -13,7 +14,7 @@ reading k = record { directory = k.directory.now; text = k.text }
 -- the records are those of the text by its context, from outside of messages on
 pub record IsReading (k : Inside) : Type 0 where
   pub directory : IsDirectory k.directory.now
-  pub short : length k.text ≤ 4194304
+  pub short : length k.text ≤ LONGEST_TEXT
   pub context : k.context ≡ context_of k.text
   pub records : k.records ≡ kept_in k.directory.now k.text
   pub outside : k.outside ≡ Outside

@@ -1,5 +1,7 @@
 -- Where a tree places the segments of messages.
 use Rattle.std.specs.Prelude.{◌≡◌, ◌<◌, ◌+◌, ◌-◌, ℕ, Bool, List, [], length, map, take, slice_get, slice_range, Option, Some, None}
+use Rattle.dir_compile.specs.Directory.{Directory}
+use Rattle.edi_tables.specs.Octets.{Octets}
 use Rattle.edi_tables.specs.declared.table.Node.{Node}
 use Rattle.edi_tables.specs.declared.tag.Tag.{Tag}
 use Rattle.edi_tables.specs.Collisions.{collisions_of}
@@ -8,10 +10,9 @@ use Rattle.edi_tables.specs.Placement.{IsDerivation}
 use Rattle.error_ledger.specs.declared.tree.TreeLine.{TreeLine}
 use Rattle.error_ledger.specs.declared.tree.TreePlace.{TreePlace}
 use Rattle.error_ledger.specs.declared.tree.TreePlace.TheVariants.{Placed}
-use Rattle.dir_parts.specs.declared.parts.Parts.{Parts}
 use Rattle.table_walk.specs.Errors.{faults_at, structure_errors_of}
 use Rattle.table_walk.specs.Reading.{first_free, member_at}
-use Rattle.segment_records.specs.Segments.{segments_in}
+use Rattle.segment_records.specs.Segments.{segments_of_text}
 use Rattle.segment_records.specs.Messages.{nodes_at, position_at, tags_of_message}
 use Rattle.segment_records.specs.Messages.Position.{Within}
 use Rattle.text_reading.specs.Tree.{tree_of}
@@ -46,7 +47,7 @@ IsMessagePlaced nodes tags shown = IsFirstPlaced nodes tags shown × IsOnlyDeriv
 
 -- the tree of a text places the segments of each message with a table so: of the message that any segment of the text
 -- lies in
-abbrev pub AreMessagesPlaced : Parts → List ℕ → Type 0
+abbrev pub AreMessagesPlaced : Directory → Octets → Type 0
 AreMessagesPlaced dir text =
-    (i table : ℕ) (e : Extent) → position_at dir (segments_in text) i ≡ Within table e
-    → IsMessagePlaced (nodes_at dir table) (tags_of_message (segments_in text) e) (entries_shown (tree_of dir text) e)
+    (i table : ℕ) (e : Extent) → position_at dir (segments_of_text text) i ≡ Within table e
+    → IsMessagePlaced (nodes_at dir table) (tags_of_message (segments_of_text text) e) (entries_shown (tree_of dir text) e)

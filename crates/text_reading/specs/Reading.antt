@@ -1,8 +1,8 @@
 -- What is seen of a text that is read by a directory.
-use Rattle.std.specs.Prelude.{ℕ, List}
-use Rattle.dir_parts.specs.declared.parts.Parts.{Parts}
+use Rattle.dir_compile.specs.Directory.{Directory}
+use Rattle.edi_tables.specs.Octets.{Octets}
 
 -- the directory that it is checked by, and the text as it is now
 pub record Reading : Type 0 where
-  pub directory : Parts
-  pub text : List ℕ
+  pub directory : Directory
+  pub text : Octets

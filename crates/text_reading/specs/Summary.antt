@@ -2,9 +2,10 @@
 use Rattle.std.specs.Prelude.{ℕ, ◌-◌, List, [], map, find, slice_get, Option, Some, None, codes, if◌then◌else◌}
 use Rattle.std.specs.List.{enumerate_from}
 use Rattle.std.specs.Option.{option_map}
+use Rattle.dir_compile.specs.Directory.{Directory}
+use Rattle.edi_tables.specs.Octets.{Octets}
 use Rattle.edi_tables.specs.Extents.{Extent, group_extents, lies_in, message_extents}
 use Rattle.edi_tables.specs.Rows.{has_name}
-use Rattle.dir_parts.specs.declared.parts.Parts.{Parts}
 use Rattle.seg_lexer.specs.Context.{context_of}
 use Rattle.seg_lexer.specs.Fields.{Component}
 use Rattle.seg_lexer.specs.declared.context.Context.{Context}
@@ -17,12 +18,12 @@ use Rattle.contrl_segments.specs.declared.summary.Opening.{Opening}
 use Rattle.contrl_segments.specs.declared.summary.Opening.TheVariants.{NoUnb}
 use Rattle.contrl_segments.specs.declared.summary.Summary.{Summary}
 use Rattle.contrl_writer.specs.Contrl.{answer_to}
-use Rattle.segment_records.specs.Segments.{Segment, segments_in, tags_in}
+use Rattle.segment_records.specs.Segments.{Segment, segments_of_text, tags_in}
 use Rattle.segment_walk.specs.Openers.{group_head_of, message_head_of, opening_by}
 use Rattle.text_reading.specs.Errors.{errors_of}
 
 -- what opens an interchange with this first segment
-abbrev pub opening_in : Parts → Context → Option Segment → Opening
+abbrev pub opening_in : Directory → Context → Option Segment → Opening
 opening_in dir context None = NoUnb
 opening_in dir context (Some segment) =
     if has_name (codes "UNB") segment.tag
@@ -51,8 +52,8 @@ messages_in segments =
     (message_extents (tags_in segments))
 
 -- what an acknowledgement tells of a text, by a directory
-unfoldable pub summary_of : Parts → List ℕ → Summary
-summary_of dir text = let segments = segments_in text in record {
+unfoldable pub summary_of : Directory → Octets → Summary
+summary_of dir text = let segments = segments_of_text text in record {
   opening = opening_in dir (context_of text) (slice_get segments 0);
   groups = groups_in segments;
   messages = messages_in segments;
@@ -60,5 +61,5 @@ summary_of dir text = let segments = segments_in text in record {
 }
 
 -- the acknowledgement of a text by a directory, made at a time, with a reference of its own
-unfoldable pub contrl_to : Parts → List ℕ → Stamp → List ℕ → Contrl
+unfoldable pub contrl_to : Directory → Octets → Stamp → Octets → Contrl
 contrl_to dir text stamp reference = answer_to (summary_of dir text) stamp reference

@@ -5,11 +5,12 @@ ghost use Rattle.seg_lexer.specs.Context.{context_of};
 ghost use Rattle.seg_lexer.specs.Segments.{boundaries_of, ends_of};
 ghost use Rattle.seg_lexer.specs.Service.{IsUsable, service_of};
 ghost use Rattle.segment_records.specs.Messages.{mode_after};
-ghost use Rattle.segment_records.specs.Segments.{segments_in};
+ghost use Rattle.segment_records.specs.Segments.{segments_of_text};
 ghost use Rattle.segment_walk.specs.Count.{segment_count_of};
-ghost use Rattle.segment_walk.specs.Seen.{Follows, LiesIn, seen_in};
+ghost use Rattle.segment_walk.specs.WalkedSegments.{Follows, LiesIn, seen_in};
 ghost use Rattle.text_reading.specs.Edit.{reading_with, text_with};
 ghost use Rattle.text_reading.specs.Placed.{AreMessagesPlaced};
+ghost use Rattle.edi_octets.specs.declared.octets.TheConstants.{LONGEST_TEXT};
 
 use dir_compile::Directory;
 use edi_tables::Chunk;
@@ -52,13 +53,13 @@ impl<'d> Model for KeptText<'d> {
 impl<'d> KeptText<'d> {
     /// Reads a text, which it keeps. Each call of the lexer and of the walk is counted. Only want of memory is an error.
     pub fn read<L: Ledger, M: Ledger>(
-        directory: &'d Directory,
         alloc: Global,
+        directory: &'d Directory,
         octets: Vec<u8>,
         lexed: &mut Steps<L>,
         placed: &mut Steps<M>,
     ) -> Result<KeptText<'d>, AllocError>
-        requires { length octets.items ≤ 4194304 }
+        requires { length octets.items ≤ LONGEST_TEXT }
         ensures read { IfOk result
             (λ kept. kept ≡ record { directory = directory.now; text = octets.items }) }
         ensures lexed { lexed.new ≤ lexed.old + (segment_count_of octets.items + 2) }
@@ -89,7 +90,7 @@ impl<'d> KeptText<'d> {
         placed: &mut Steps<M>,
     ) -> Result<KeptText<'d>, AllocError>
         requires inside { at + cut ≤ length self.now.text }
-        requires short { length self.now.text - cut + length put.now ≤ 4194304 }
+        requires short { length self.now.text - cut + length put.now ≤ LONGEST_TEXT }
         ensures edited { IfOk result (λ kept. kept ≡ reading_with self.now at cut put.now) }
         ensures lexed { lexed.new ≤ lexed.old
             + (segment_count_of (text_with self.now.text at cut put.now) + 2) }
@@ -122,7 +123,7 @@ impl<'d> KeptText<'d> {
     /// How many octets the text has.
     pub fn text_len(&self) -> u64
         ensures length { result ≡ length self.now.text }
-        ensures short { result ≤ 4194304 }
+        ensures short { result ≤ LONGEST_TEXT }
     {
         self.text.len() as u64
     }
@@ -144,7 +145,7 @@ impl<'d> KeptText<'d> {
     /// The mode after the first `k` segments.
     pub fn state_after(&self, k: u32) -> &Mode
         requires { k ≤ segment_count_of self.now.text }
-        ensures { result.now ≡ mode_after self.now.directory (segments_in self.now.text) k }
+        ensures { result.now ≡ mode_after self.now.directory (segments_of_text self.now.text) k }
     {
         if k == 0 {
             return &self.outside;
@@ -160,7 +161,7 @@ impl<'d> KeptText<'d> {
         ensures segments { result ≡ seen_in self.now.directory self.now.text }
         ensures follow { All (Follows self.now.directory) result }
         ensures inside { All (LiesIn self.now.text) result }
-        ensures few { length result ≤ 4194304 }
+        ensures few { length result ≤ LONGEST_TEXT }
         ensures lawful { IsDirectory self.now.directory }
     {
         Segments::of(
@@ -173,7 +174,7 @@ impl<'d> KeptText<'d> {
     /// The whole text.
     pub fn whole(&self) -> View<'_>
         ensures text { result ≡ self.now.text }
-        ensures short { length self.now.text ≤ 4194304 }
+        ensures short { length self.now.text ≤ LONGEST_TEXT }
     {
         self.text.view(0, self.text.len())
     }

@@ -1,7 +1,7 @@
 //! Service characters, levels and versions in texts that are made octet by octet, and the copy of a value.
 ghost use Rattle.std.specs.Prelude.{◌≡◌, ◌<◌, ◌≤◌, length};
 
-use edi_octets::Flat;
+use edi_octets::{Flat, LONGEST_TEXT};
 use seg_lexer::*;
 use std::alloc::Global;
 use std::marker::Brand;

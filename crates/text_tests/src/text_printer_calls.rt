@@ -1,6 +1,6 @@
 //! Printed texts, worked out by hand.
+use listing_printer::{Detail, print_text};
 use std::test::Fail;
-use text_printer::{Detail, print_text};
 
 const TEXT: &[u8] = b"UNH::+1+A:?+\\'\r\nu+B'UNT:X+2";
 

@@ -9,7 +9,7 @@ use crate::{Opened, Shelf, ShelfFile, Taken};
 
 // The file that is open, by its place among the files, and its next octet.
 #[derive(Clone, Copy, Debug)]
-pub(crate) struct Place {
+pub(crate) struct OpenFile {
     pub(crate) file: usize,
     pub(crate) from: usize,
 }
@@ -21,7 +21,7 @@ pub struct MemShelf {
     files: Vec<ShelfFile>,
     most: usize,
     calls: Calls,
-    place: Option<Place>,
+    place: Option<OpenFile>,
     ghost moves: { 0 < most },
     ghost fits: { calls.faults < 2 ^ 64 },
     ghost placed: { IsPlaced files.items place },
@@ -80,7 +80,7 @@ impl Shelf for MemShelf {
         match position_of(&self.files, name) {
             None => Opened::Absent,
             Some(file) => {
-                self.place = Some(Place { file, from: 0 });
+                self.place = Some(OpenFile { file, from: 0 });
                 Opened::Open
             }
         }
@@ -109,7 +109,7 @@ impl Shelf for MemShelf {
         }
         let n = left.min(self.most).min(buffer.len());
         copy_front(buffer, &octets[place.from..place.from + n]);
-        self.place = Some(Place {
+        self.place = Some(OpenFile {
             file: place.file,
             from: place.from + n,
         });

@@ -1,7 +1,7 @@
 use Rattle.std.proofs.Common.{◌∙◌, subst, sym}
 use Rattle.std.proofs.lemmas.Result.{err_from_is_err_and}
 use Rattle.dir_compile.specs.Directory.{IsDirectory}
-use Rattle.dir_parts.proofs.Groups.{fault-free, free-twice}
+use Rattle.dir_compile.proofs.Groups.{fault-free, free-twice}
 use Rattle.dir_compile.proofs.Making.{compiles-told, compiles-of, ordered-of, directory-ordered}
 use Rattle.dir_compile.proofs.build.compile.Goals as goal
 

@@ -1,5 +1,5 @@
 use Rattle.std.proofs.Common.{◌≡◌, List, ℕ, true, false, sym, ap, ◌∙◌}
-use Rattle.dir_parts.specs.declared.parts.Parts.{Parts}
+use Rattle.dir_compile.specs.declared.parts.Parts.{Parts}
 use Rattle.dir_load.specs.Load.{is_store}
 use Rattle.dir_load.proofs.LoadLemmas.{Answers-unread, load_of-lines, load_of-spelled, load_of-store}
 use Rattle.dir_load.proofs.loading.load.Goals as goal

@@ -1,6 +1,6 @@
 use Rattle.std.proofs.Common.{◌≡◌, true, false, length, sym, ap, subst, arith, is_some, refl}
 use Rattle.edi_tables.specs.declared.segment.MessageDef.{MessageDef}
-use Rattle.edi_tables.specs.First.{Answers}
+use Rattle.edi_tables.specs.First.{IsVerdict}
 use Rattle.edi_tables.specs.Forms.{is_message_formed}
 use Rattle.edi_octets.specs.DirStop.{fault_in}
 use Rattle.edi_octets.specs.Left.{lines_left, line_shown}
@@ -22,8 +22,8 @@ returns-in-Some-type_name c =
     let line = line_shown c.in-Some.line in
     let type : is_type_line line ≡ true = ap (λ o. is_some o) (sym c.in-Some-type_name.ensures) in
     let found = sought-found c.args.file.now line (lines_left c.loop-line.lines) (lines_left c.next.new.self) c.loop-line.count c.loop-line.invariant c.in-Some.ensures.steps type in
-    let answers : Answers (λ (m : MessageDef). m) fault_in c.read_drawing.result (message_in c.args.file.now) =
-    subst (λ file. Answers (λ (m : MessageDef). m) fault_in c.read_drawing.result file) (sym found) (c.read_drawing.ensures line refl (sym c.in-Some-type_name.ensures)) in
+    let answers : IsVerdict (λ (m : MessageDef). m) fault_in c.read_drawing.result (message_in c.args.file.now) =
+    subst (λ file. IsVerdict (λ (m : MessageDef). m) fault_in c.read_drawing.result file) (sym found) (c.read_drawing.ensures line refl (sym c.in-Some-type_name.ensures)) in
     record {
       answers = answers;
       forms = IfOk-answered (λ (m : MessageDef). m) (λ m. is_message_formed m ≡ true) c.read_drawing.result (message_in c.args.file.now) (message_in-formed c.args.file.now) answers;

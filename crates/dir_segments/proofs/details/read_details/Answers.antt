@@ -3,10 +3,10 @@ use Rattle.std.proofs.lemmas.Result.{err_from_is_err_and}
 use Rattle.edi_tables.specs.declared.element.PartDef.{PartDef}
 use Rattle.edi_octets.specs.Left.{line_shown, body_left}
 use Rattle.edi_octets.specs.Profile.{fields_of}
-use Rattle.dir_composites.specs.Parts.{is_item_line, part_in}
+use Rattle.dir_segments.specs.Parts.{is_item_line, part_in}
 use Rattle.dir_segments.specs.Segments.{details_of, detail_faults, is_part_line, repeated_parts}
 use Rattle.dir_segments.proofs.ItemLemmas.{details_of-detail, details_text, details_part, details_stop}
-use Rattle.dir_composites.proofs.StopLemmas.{no_faults, value_given}
+use Rattle.dir_segments.proofs.StopLemmas.{no_faults, value_given}
 use Rattle.dir_segments.proofs.details.read_details.Goals as goal
 
 pub returns-in_err-part : goal.returns-in_err-part

@@ -4,9 +4,9 @@ use Rattle.std.proofs.lemmas.Result.{err_from_is_err_and}
 use Rattle.edi_tables.specs.declared.segment.ItemDef.{ItemDef}
 use Rattle.edi_octets.specs.declared.fault.DirFault.{DirFault}
 use Rattle.edi_octets.specs.Left.{line_shown}
-use Rattle.dir_composites.specs.Parts.{fields_behind, composite_fault, status_fault, fault_list}
+use Rattle.dir_segments.specs.Parts.{fields_behind, composite_fault, status_fault, fault_list}
 use Rattle.dir_segments.specs.Segments.{item_in}
-use Rattle.dir_composites.proofs.StopLemmas.{stops_same}
+use Rattle.dir_segments.proofs.StopLemmas.{stops_same}
 use Rattle.dir_segments.proofs.item_line.judge_composite.Goals as goal
 
 pub returns-in_err-must : goal.returns-in_err-must

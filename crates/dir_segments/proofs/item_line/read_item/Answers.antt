@@ -4,11 +4,11 @@ use Rattle.edi_tables.specs.declared.element.PartDef.{PartDef}
 use Rattle.edi_tables.specs.declared.segment.ItemDef.{ItemDef}
 use Rattle.edi_octets.specs.Left.{line_shown}
 use Rattle.edi_octets.specs.Profile.{position_of}
-use Rattle.dir_composites.specs.Parts.{is_placed, fields_behind, is_element_form, is_composite_form, part_in, element_fault, composite_fault, fault_list}
+use Rattle.dir_segments.specs.Parts.{is_placed, fields_behind, is_element_form, is_composite_form, part_in, element_fault, composite_fault, fault_list}
 use Rattle.dir_segments.specs.Segments.{line_faults, item_in}
-use Rattle.dir_composites.proofs.FieldLemmas.{some_where}
+use Rattle.dir_segments.proofs.FieldLemmas.{some_where}
 use Rattle.dir_segments.proofs.ItemLemmas.{line_faults-element, line_faults-composite}
-use Rattle.dir_composites.proofs.StopLemmas.{placed, stops_same}
+use Rattle.dir_segments.proofs.StopLemmas.{placed, stops_same}
 use Rattle.dir_segments.proofs.item_line.read_item.Goals as goal
 
 pub returns-in_err-part : goal.returns-in_err-part

@@ -6,9 +6,9 @@ use Rattle.edi_tables.specs.Tag.{is_tag_of}
 use Rattle.edi_octets.specs.Head.{head_faults}
 use Rattle.edi_octets.specs.Left.{line_shown, body_left, entry_shown}
 use Rattle.edi_octets.specs.Profile.{fields_of, first_field}
-use Rattle.dir_composites.specs.Parts.{count_faults}
+use Rattle.dir_segments.specs.Parts.{count_faults}
 use Rattle.dir_segments.specs.Segments.{items_of, items_faults, segment_of}
-use Rattle.dir_composites.proofs.StopLemmas.{stops}
+use Rattle.dir_segments.proofs.StopLemmas.{stops}
 use Rattle.dir_segments.proofs.segments.read_entry.Goals as goal
 
 pub returns-in_err-tag-clause-judged : goal.returns-in_err-tag-clause-judged

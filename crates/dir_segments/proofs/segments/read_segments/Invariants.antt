@@ -2,7 +2,7 @@ use Rattle.edi_octets.specs.Left.{entries_left}
 use Rattle.edi_octets.specs.Lines.{lines_of}
 use Rattle.edi_octets.specs.Profile.{entries_of}
 use Rattle.dir_segments.specs.Segments.{segment_faults, segment_of}
-use Rattle.dir_composites.proofs.FrontLemmas.{AreRead}
+use Rattle.dir_segments.proofs.FrontLemmas.{AreRead}
 use Rattle.dir_segments.proofs.segments.read_segments.Given as goal
 
 -- the entries so far

@@ -3,13 +3,13 @@ use Rattle.std.specs.List.{flat_map}
 use Rattle.std.proofs.lemmas.Result.{err_from_is_err_and}
 use Rattle.edi_tables.specs.declared.element.PartDef.{PartDef}
 use Rattle.edi_tables.specs.declared.segment.ItemDef.{ItemDef}
-use Rattle.edi_tables.specs.First.{Answers, unless_faulty}
+use Rattle.edi_tables.specs.First.{IsVerdict, unless_faulty}
 use Rattle.edi_octets.specs.DirStop.{fault_in}
 use Rattle.edi_octets.specs.Left.{line_shown, body_left}
 use Rattle.edi_octets.specs.Profile.{position_of}
-use Rattle.dir_composites.specs.Parts.{Passes, fields_behind, is_composite_form}
+use Rattle.dir_segments.specs.Parts.{Passes, fields_behind, is_composite_form}
 use Rattle.dir_segments.specs.Segments.{item_in, item_end_faults, line_faults, details_of, detail_faults, repeated_parts}
-use Rattle.dir_composites.proofs.StopLemmas.{placed, placed_none, placed_value, no_faults, value_given, passed, gives, stops}
+use Rattle.dir_segments.proofs.StopLemmas.{placed, placed_none, placed_value, no_faults, value_given, passed, gives, stops}
 use Rattle.dir_segments.proofs.segments.read_whole_item.Goals as goal
 
 pub returns-in_err-position : goal.returns-in_err-position
@@ -38,7 +38,7 @@ returns-in_err-repeated c =
     let none = placed_none read first (position_of line) (item_in fields) c.in_ok-position.ensures in
     let value = placed_value read first (position_of line) (item_in fields) c.in_ok-position.ensures in
     let stop = c.in_err-repeated.field-0.0 in
-    let Stops : Bool → Type 0 = λ below. Answers (λ (parts : Vec PartDef Global). parts.items) fault_in (Err stop) (unless_faulty (flat_map (detail_faults below) details) (repeated_parts details)) in
+    let Stops : Bool → Type 0 = λ below. IsVerdict (λ (parts : Vec PartDef Global). parts.items) fault_in (Err stop) (unless_faulty (flat_map (detail_faults below) details) (repeated_parts details)) in
     let given : Stops (is_composite_form fields) = subst Stops (c.is_composite_item.ensures fields value.1) c.in_err-repeated.ensures in
     rw (err.1, err.2) (stops (λ (parts : Vec PartDef Global). parts.items) (placed {A = ItemDef}) stop first second third (first ++ (second ++ third)) (repeated_parts details) (position_of line, item_in fields) none refl given)
 
@@ -64,7 +64,7 @@ returns-in_err-judge_end c =
     let value = placed_value read first (position_of line) (item_in fields) c.in_ok-position.ensures in
     let items = λ (parts : Vec PartDef Global). parts.items in
     let repeated = c.in_ok-repeated.repeated in
-    let Read : Bool → Type 0 = λ below. Answers items fault_in (Ok repeated) (unless_faulty (flat_map (detail_faults below) details) (repeated_parts details)) in
+    let Read : Bool → Type 0 = λ below. IsVerdict items fault_in (Ok repeated) (unless_faulty (flat_map (detail_faults below) details) (repeated_parts details)) in
     let whole : Read (is_composite_form fields) = subst Read (c.is_composite_item.ensures fields value.1) c.in_ok-repeated.ensures in
     let second_none = no_faults items repeated second (repeated_parts details) whole in
     let parts = value_given items repeated second (repeated_parts details) whole in
@@ -90,7 +90,7 @@ returns c =
     let value = placed_value read first (position_of line) (item_in fields) c.in_ok-position.ensures in
     let items = λ (parts : Vec PartDef Global). parts.items in
     let repeated = c.in_ok-repeated.repeated in
-    let Read : Bool → Type 0 = λ below. Answers items fault_in (Ok repeated) (unless_faulty (flat_map (detail_faults below) details) (repeated_parts details)) in
+    let Read : Bool → Type 0 = λ below. IsVerdict items fault_in (Ok repeated) (unless_faulty (flat_map (detail_faults below) details) (repeated_parts details)) in
     let whole : Read (is_composite_form fields) = subst Read (c.is_composite_item.ensures fields value.1) c.in_ok-repeated.ensures in
     let second_none = no_faults items repeated second (repeated_parts details) whole in
     let parts = value_given items repeated second (repeated_parts details) whole in

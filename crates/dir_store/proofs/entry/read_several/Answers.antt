@@ -1,7 +1,7 @@
 use Rattle.std.proofs.Common.{◌≡◌, ◌∙◌, [], IfSome, Err, ap, sym, subst}
 use Rattle.std.proofs.lemmas.Result.{err_from_is_err_and}
-use Rattle.store_lines.specs.Lines.{last_of, several}
-use Rattle.store_lines.specs.Stop.{left_in}
+use Rattle.dir_store.specs.Lines.{last_of, several}
+use Rattle.dir_store.specs.LineStop.{left_in}
 use Rattle.dir_store.proofs.LoopLemmas.{goes-on, stops, is-done}
 use Rattle.dir_store.proofs.entry.read_several.Goals as goal
 

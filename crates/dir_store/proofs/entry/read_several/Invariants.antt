@@ -1,5 +1,5 @@
 use Rattle.std.proofs.Common.{◌≡◌, ◌-◌, []}
-use Rattle.store_lines.specs.Lines.{several}
+use Rattle.dir_store.specs.Lines.{several}
 use Rattle.dir_store.proofs.entry.read_several.Given as goal
 
 abbrev pub invariant-loop : goal.invariant-loop

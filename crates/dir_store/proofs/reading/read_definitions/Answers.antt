@@ -4,7 +4,7 @@ use Rattle.edi_tables.specs.Ascending.{IsAscendingBy}
 use Rattle.edi_tables.specs.declared.element.ElementDef.{ElementDef}
 use Rattle.edi_tables.specs.declared.element.CompositeDef.{CompositeDef}
 use Rattle.edi_tables.specs.declared.segment.SegmentDef.{SegmentDef}
-use Rattle.dir_parts.specs.Compile.{element_name, composite_name, segment_name}
+use Rattle.dir_compile.specs.Compile.{element_name, composite_name, segment_name}
 use Rattle.dir_store.specs.Store.{section_at, composite_at, segment_at}
 use Rattle.dir_store.proofs.KnownLemmas.{elements-order, composites-order, segments-order, none-order}
 use Rattle.dir_store.proofs.reading.read_definitions.Goals as goal

@@ -1,6 +1,6 @@
 use Rattle.std.proofs.Common.{◌≡◌, Ok, Err, IfSome, length, refl, ap, sym, ◌∙◌, subst}
 use Rattle.dir_store.specs.Stop.{fault_in}
-use Rattle.store_lines.specs.Stop.{left_in}
+use Rattle.dir_store.specs.LineStop.{left_in}
 use Rattle.dir_store.specs.Spelling.{store_text}
 use Rattle.dir_store.specs.Store.{store_of}
 use Rattle.dir_store.proofs.OrderLemmas.{compiled-same}

@@ -1,6 +1,6 @@
 use Rattle.std.proofs.Common.{refl, inl}
-use Rattle.script_answers.specs.Held.{held_of}
-use Rattle.form_outcomes.specs.Inputs.{inputs_of}
+use Rattle.run_outcome.specs.Held.{held_of}
+use Rattle.edicheck_core.specs.Inputs.{inputs_of}
 use Rattle.edicheck_core.proofs.EditLemmas.{edited_opened}
 use Rattle.edicheck_core.proofs.edit.edit_text.Goals as goal
 

@@ -1,5 +1,5 @@
-use Rattle.word_forms.specs.Form.{form_of}
-use Rattle.form_outcomes.specs.Inputs.{inputs_of}
+use Rattle.edicheck_core.specs.Form.{form_of}
+use Rattle.edicheck_core.specs.Inputs.{inputs_of}
 use Rattle.edicheck_core.proofs.EditLemmas.{told_words}
 use Rattle.edicheck_core.proofs.program.run.Goals as goal
 

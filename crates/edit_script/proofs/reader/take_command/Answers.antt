@@ -1,9 +1,9 @@
 use Rattle.std.proofs.lemmas.Result.{err_from_is_err_and}
-use Rattle.script_words.specs.declared.name.Name.TheVariants.{Replace, Contrl}
+use Rattle.edit_script.specs.declared.name.Name.TheVariants.{Replace, Contrl}
 use Rattle.edit_script.specs.Command.{IsTextOf}
 use Rattle.edit_script.specs.Rest.{IsRestText}
-use Rattle.script_words.specs.Texts.{IsNameText}
-use Rattle.script_words.proofs.ChainLemmas.{reads_first, reads_rest}
+use Rattle.edit_script.specs.Texts.{IsNameText}
+use Rattle.edit_script.proofs.ChainLemmas.{reads_first, reads_rest}
 use Rattle.edit_script.proofs.GrammarLemmas.{command_chain}
 use Rattle.edit_script.proofs.reader.take_command.Goals as goal
 

@@ -1,8 +1,8 @@
 use Rattle.std.proofs.lemmas.Result.{err_from_is_err_and}
-use Rattle.script_words.specs.declared.name.Name.TheVariants.{Replace}
+use Rattle.edit_script.specs.declared.name.Name.TheVariants.{Replace}
 use Rattle.edit_script.specs.Rest.{IsRestText}
-use Rattle.script_words.specs.Texts.{IsNumberText, IsPutText}
-use Rattle.script_words.proofs.ChainLemmas.{reads_first, reads_next, reads_next_halt}
+use Rattle.edit_script.specs.Texts.{IsNumberText, IsPutText}
+use Rattle.edit_script.proofs.ChainLemmas.{reads_first, reads_next, reads_next_halt}
 use Rattle.edit_script.proofs.GrammarLemmas.{IsCutText, cut_chain, replace_chain}
 use Rattle.edit_script.proofs.reader.take_replace.Goals as goal
 

@@ -1,5 +1,5 @@
 use Rattle.std.proofs.Common.{◌∙◌}
-use Rattle.value_lexer.specs.Value.{octets_of}
+use Rattle.seg_lexer.specs.Value.{octets_of}
 use Rattle.element_check.specs.Streams.{values_left}
 use Rattle.element_check.proofs.ErrorsLemmas.{both_told, first_full, second_full, on_err, on_err_then, on_ok_then}
 use Rattle.element_check.proofs.StreamLemmas.{alone-next, next_value}

@@ -1,5 +1,5 @@
 use Rattle.std.proofs.Common.{◌++◌, List, ap, ◌∙◌, arith}
-use Rattle.value_lexer.specs.Value.{octets_of}
+use Rattle.seg_lexer.specs.Value.{octets_of}
 use Rattle.element_check.specs.Streams.{values_left}
 use Rattle.element_check.specs.declared.error.LocalError.{LocalError}
 use Rattle.element_check.proofs.ErrorsLemmas.{full_step, next_step, last_full, on_err, on_err_then, on_ok_then}

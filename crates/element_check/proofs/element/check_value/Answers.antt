@@ -1,6 +1,6 @@
 use Rattle.std.proofs.Common.{◌≡◌, ◌+◌, ◌++◌, ◌<◌, List, length, ap, ◌∙◌, subst}
 use Rattle.std.specs.Option.{option_copied}
-use Rattle.value_lexer.specs.Value.{octets_of}
+use Rattle.seg_lexer.specs.Value.{octets_of}
 use Rattle.element_check.specs.Rules.{SegmentRules}
 use Rattle.element_check.specs.Streams.{part_errors, told_errors}
 use Rattle.element_check.specs.declared.error.LocalError.{LocalError}

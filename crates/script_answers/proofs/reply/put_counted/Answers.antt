@@ -1,5 +1,5 @@
 use Rattle.std.proofs.Common.{◌++◌, true, length, decimal}
-use Rattle.script_answers.proofs.PutLemmas.{counted_put, counted_room, put_at}
+use Rattle.run_outcome.proofs.PutLemmas.{counted_put, counted_room, put_at}
 use Rattle.script_answers.proofs.reply.put_counted.Goals as goal
 
 pub returns-then-put_numbered-clause-put : goal.returns-then-put_numbered-clause-put

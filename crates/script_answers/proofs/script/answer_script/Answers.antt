@@ -1,8 +1,8 @@
 use Rattle.std.proofs.Common.{◌≡◌, ◌∙◌, ap, sym, true, false, Err, arith}
 use Rattle.std.proofs.lemmas.Bool.{false≢true}
 use Rattle.edit_script.specs.declared.command.Command.TheVariants.{End}
-use Rattle.script_answers.specs.Held.{held_of}
-use Rattle.script_answers.proofs.PutLemmas.{risen_later}
+use Rattle.run_outcome.specs.Held.{held_of}
+use Rattle.run_outcome.proofs.PutLemmas.{risen_later}
 use Rattle.script_answers.proofs.EndedLemmas.{left_more, left_refused, stop_caused}
 use Rattle.script_answers.proofs.RunLemmas.{answered_at, progress_more, run_cut, run_done, run_stopped}
 use Rattle.script_answers.proofs.script.answer_script.Goals as goal

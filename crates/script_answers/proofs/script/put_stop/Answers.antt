@@ -1,8 +1,8 @@
 use Rattle.std.proofs.Common.{ℕ, List}
 use Rattle.std.specs.Prelude.{codes}
-use Rattle.script_words.specs.declared.stop.ScriptStop.TheVariants.{BadLine, CutShort, TooLong, Fault, Memory}
-use Rattle.script_answers.specs.Put.{IsPutOut}
-use Rattle.script_answers.proofs.PutLemmas.{TakesAll}
+use Rattle.edit_script.specs.declared.stop.ScriptStop.TheVariants.{BadLine, CutShort, TooLong, Fault, Memory}
+use Rattle.run_outcome.specs.Put.{IsPutOut}
+use Rattle.run_outcome.proofs.PutLemmas.{TakesAll}
 use Rattle.script_answers.proofs.RunLemmas.{numbered_at, stop_at}
 use Rattle.script_answers.proofs.script.put_stop.Goals as goal
 

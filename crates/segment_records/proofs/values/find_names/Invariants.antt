@@ -2,7 +2,7 @@ use Rattle.std.proofs.Common.{◌≡◌}
 use Rattle.std.specs.Option.{option_map, option_or}
 use Rattle.seg_lexer.specs.Fields.{octets_at}
 use Rattle.seg_lexer.specs.Left.{components_left}
-use Rattle.value_lexer.specs.Value.{octets_of}
+use Rattle.seg_lexer.specs.Value.{octets_of}
 use Rattle.segment_records.proofs.values.find_names.Given as goal
 
 -- what was found so far, or else what is left, is what there was

@@ -1,6 +1,6 @@
 use Rattle.std.proofs.Common.{◌≡◌, ◌+◌, ◌-◌, ◌++◌, ◌≤◌, drop, length}
 use Rattle.seg_lexer.specs.Segments.{IsBoundary}
-use Rattle.segment_check.specs.Clean.{AreClean}
+use Rattle.clean_segments.specs.Clean.{AreClean}
 use Rattle.segment_records.specs.Records.{IsModeOf, records_from}
 use Rattle.segment_walk.proofs.LastMode.{last_mode}
 use Rattle.segment_walk.proofs.Rests.{rest_count}

@@ -3,7 +3,7 @@ use Rattle.edi_tables.specs.Collisions.{collisions_of}
 use Rattle.edi_tables.specs.Rows.{nodes_of, table_faults}
 use Rattle.service_tables.specs.ServiceTables.{contrl_table_rows}
 use Rattle.dir_compile.specs.Directory.{tables_of}
-use Rattle.dir_parts.proofs.Groups.{fault-free, free-twice}
+use Rattle.dir_compile.proofs.Groups.{fault-free, free-twice}
 use Rattle.dir_compile.proofs.Making.{tables-free}
 use Rattle.dir_compile.proofs.directory.Directory.of.Goals as goal
 

@@ -1,7 +1,7 @@
 use Rattle.std.proofs.Common.{◌∙◌, sym, ap, position}
 use Rattle.std.specs.Str.{bytes_eq}
-use Rattle.dir_parts.specs.Compile.{message_name}
-use Rattle.dir_parts.proofs.Formed.{six-messages}
+use Rattle.dir_compile.specs.Compile.{message_name}
+use Rattle.dir_compile.proofs.Formed.{six-messages}
 use Rattle.dir_compile.proofs.TableNames.{message-place, message-nowhere}
 use Rattle.dir_compile.proofs.directory.Directory.place_of_message.Goals as goal
 

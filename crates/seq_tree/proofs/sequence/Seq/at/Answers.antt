@@ -1,5 +1,5 @@
 use Rattle.std.proofs.Common.{arith}
-use Rattle.shared_tree.proofs.Heights.{visits_fit}
+use Rattle.seq_tree.proofs.Heights.{visits_fit}
 use Rattle.seq_tree.proofs.sequence.Seq.at.Goals as goal
 
 pub returns-clause-cost : goal.returns-clause-cost

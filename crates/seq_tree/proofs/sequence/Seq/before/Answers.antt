@@ -1,5 +1,5 @@
 use Rattle.std.proofs.Common.{arith}
-use Rattle.shared_tree.proofs.Heights.{visits_fit}
+use Rattle.seq_tree.proofs.Heights.{visits_fit}
 use Rattle.seq_tree.proofs.sequence.Seq.before.Goals as goal
 
 pub returns-in-Some-clause-cost : goal.returns-in-Some-clause-cost

@@ -2,7 +2,7 @@ use Rattle.std.proofs.Common.{◌∙◌, length, sym, ap, subst, arith}
 use Rattle.std.specs.Prelude.{All}
 use Rattle.dir_compile.specs.Directory.{IsDirectory}
 use Rattle.text_reading.specs.Reading.{Reading}
-use Rattle.segment_walk.specs.Seen.{Follows, LiesIn, seen_in}
+use Rattle.segment_walk.specs.WalkedSegments.{Follows, LiesIn, seen_in}
 use Rattle.segment_walk.proofs.Following.{few_seen, follows_all, lies_all}
 use Rattle.text_reading.proofs.Readings.{body_within, segments_are, stretches}
 use Rattle.text_reading.proofs.kept.KeptText.segments.Goals as goal

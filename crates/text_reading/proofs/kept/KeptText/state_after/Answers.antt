@@ -1,6 +1,6 @@
 use Rattle.std.proofs.Common.{◌≡◌, ◌+◌, ◌-◌, ◌≤◌, [], ◌∷◌, length, drop, sym, ap, ◌∙◌, arith, length-drop}
 use Rattle.segment_records.specs.Messages.{mode_after}
-use Rattle.segment_records.specs.Segments.{segments_in}
+use Rattle.segment_records.specs.Segments.{segments_of_text}
 use Rattle.segment_records.proofs.Held.{mode_first}
 use Rattle.segment_walk.specs.Count.{segment_count_of}
 use Rattle.text_reading.specs.Reading.{Reading}
@@ -11,8 +11,8 @@ use Rattle.text_reading.proofs.kept.KeptText.state_after.Goals as goal
 pub returns-then-k-eq0 : goal.returns-then-k-eq0
 returns-then-k-eq0 c =
     let r : Reading = c.args.self.now in
-    c.self.invariant.outside ∙ sym (mode_first r.directory (segments_in r.text))
-    ∙ ap (mode_after r.directory (segments_in r.text)) (sym c.if-k-eq0.true)
+    c.self.invariant.outside ∙ sym (mode_first r.directory (segments_of_text r.text))
+    ∙ ap (mode_after r.directory (segments_of_text r.text)) (sym c.if-k-eq0.true)
 
 pub iter_from-requires : goal.iter_from-requires
 iter_from-requires c =
@@ -39,5 +39,5 @@ returns c =
     let place : k + 1 ≡ c.args.k = omega (arith, c.if-k-eq0.false) in
     c.mode.ensures
     ∙ record_mode c.self.inside c.self.invariant k kept (first_left c.self.inside.records (kept ∷ c.next.new.self) k left)
-    ∙ ap (λ (r : Reading). mode_after r.directory (segments_in r.text) (k + 1)) c.self.view_is
-    ∙ ap (mode_after r.directory (segments_in r.text)) place
+    ∙ ap (λ (r : Reading). mode_after r.directory (segments_of_text r.text) (k + 1)) c.self.view_is
+    ∙ ap (mode_after r.directory (segments_of_text r.text)) place

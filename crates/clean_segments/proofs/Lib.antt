@@ -1,0 +1,3 @@
+mod CleanLemmas
+mod LookLemmas
+mod PlainLemmas

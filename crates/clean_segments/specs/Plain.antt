@@ -1,0 +1,9 @@
+-- For bodies and their invariants: the components that are left of a segment that has no release character.
+use Rattle.std.specs.Prelude.{List}
+use Rattle.seg_lexer.specs.Fields.{Component}
+use Rattle.clean_segments.specs.Start.{plain_rest}
+use Rattle.clean_segments.specs.declared.fields.PlainFields.{PlainFields}
+
+-- the components that are left, in order
+unfoldable pub plain_left : PlainFields → List Component
+plain_left f = plain_rest f.separators f.octets.now f.next

@@ -1,0 +1,177 @@
+//! Segments in which nothing is wrong.
+ghost use Rattle.std.specs.Prelude.{◌≡◌, ◌<◌, ◌≤◌, List, ℕ, Some, length, set, slice_range, IfOk, IfSome, IsTrue};
+ghost use Rattle.std.specs.Option.{option_map};
+ghost use Rattle.dir_compile.specs.declared.parts.Parts.{Parts};
+ghost use Rattle.seg_lexer.specs.Fields.{components_at};
+ghost use Rattle.seg_lexer.specs.Service.{IsUsable};
+ghost use Rattle.seg_lexer.specs.Tag.{tag_of};
+ghost use Rattle.seg_lexer.specs.declared.context.Context.{Context};
+ghost use Rattle.element_check.specs.Local.{local_errors_of};
+ghost use Rattle.clean_segments.specs.Clean.{AreClean};
+ghost use Rattle.edi_octets.specs.declared.octets.TheConstants.{LONGEST_TEXT};
+
+use crate::look::clean_tag;
+use dir_compile::Directory;
+use edi_octets::Octets;
+use edi_tables::Tag;
+use element_check::{LocalError, check_components};
+use seg_lexer::{Context, fields};
+use smallvec::SmallVec;
+use std::alloc::{AllocError, Global};
+use std::marker::Model;
+
+/// How many segments are remembered at most.
+const PLACES: usize = 1_024;
+
+/// A segment in which nothing is wrong by itself: its first octet, the place of its terminator, and its tag.
+#[derive(Clone, Copy, Debug)]
+struct Clean {
+    start: usize,
+    end: usize,
+    tag: Tag,
+}
+
+/// Segments of one text in which nothing is wrong by themselves, by one directory and one context.
+///
+/// What is wrong with a segment by itself depends on its octets alone. So a segment that is spelled like one of these has no
+/// error either, and isn't checked anew. Most texts have many that are spelled alike.
+#[derive(Drop, Debug)]
+pub struct CleanSegments {
+    places: Vec<Option<Clean>>,
+}
+
+impl Model for CleanSegments {
+    ghost use Rattle.std.specs.Prelude.{◌≡◌, List, Option, length};
+    ghost use Rattle.clean_segments.specs.declared.clean.Clean.{Clean};
+
+    ghost Value = { List (Option Clean) };
+
+    ghost view = { λ c. c.places.items };
+
+    ghost invariant = { λ c. length c.places.items ≡ 1024 };
+}
+
+impl CleanSegments {
+    /// None yet.
+    pub fn none(alloc: Global) -> Result<CleanSegments, AllocError>
+        ensures { IfOk result
+            (λ clean. (directory : Parts) (context : Context) (text : List ℕ)
+            → AreClean directory context text clean) }
+    {
+        Ok(CleanSegments {
+            places: Vec::from_elem(alloc, None, PLACES)?,
+        })
+    }
+
+    /// The tag of the segment `start..end` of a text, and its local errors, by a directory and the context of the text, in
+    /// order of element, component and kind. Only want of memory is an error.
+    ///
+    /// Where a first look shows that nothing is wrong with it, it is remembered, in the place of one that is spelled otherwise.
+    pub fn check<O: Octets>(
+        &mut self,
+        alloc: Global,
+        directory: &Directory,
+        context: &Context,
+        text: &O,
+        start: usize,
+        end: usize,
+    ) -> Result<(Option<Tag>, SmallVec<LocalError, 4>), AllocError>
+        requires usable { IsUsable context.now.service (O.octets text.now) }
+        requires short { length (O.octets text.now) ≤ LONGEST_TEXT }
+        requires ordered { start ≤ end }
+        requires within { end ≤ length (O.octets text.now) }
+        requires clean { AreClean directory.now context.now (O.octets text.now) self.old }
+        ensures tag { IfOk result (λ found. option_map (λ t. t.octets) found.0
+            ≡ tag_of (components_at context.now.service (O.octets text.now) start end)) }
+        ensures errors { IfOk result (λ found. found.1.items
+            ≡ local_errors_of directory.now context.now
+            (components_at context.now.service (O.octets text.now) start end)) }
+        ensures clean { AreClean directory.now context.now (O.octets text.now) self.new }
+    {
+        let Some(octets) = spelled(text, start, end) else {
+            return check_alone(alloc, directory, context, text, start, end);
+        };
+        let place = slot_of(octets);
+        if let Some(clean) = self.places[place] {
+            if is_spelled(text, clean.start, clean.end, octets) {
+                return Ok((Some(clean.tag), SmallVec::new(alloc)));
+            }
+        }
+        if let Some(tag) = clean_tag(directory, context, octets) {
+            self.put(place, Clean { start, end, tag });
+            return Ok((Some(tag), SmallVec::new(alloc)));
+        }
+        check_alone(alloc, directory, context, text, start, end)
+    }
+
+    // Remembers a segment at a place.
+    fn put(&mut self, place: usize, clean: Clean)
+        requires { place < 1024 }
+        ensures { self.new ≡ set self.old place (Some clean) }
+    {
+        self.places[place] = Some(clean);
+    }
+}
+
+// The tag and the local errors of a segment, whatever is remembered.
+fn check_alone<O: Octets>(
+    alloc: Global,
+    directory: &Directory,
+    context: &Context,
+    text: &O,
+    start: usize,
+    end: usize,
+) -> Result<(Option<Tag>, SmallVec<LocalError, 4>), AllocError>
+    requires usable { IsUsable context.now.service (O.octets text.now) }
+    requires short { length (O.octets text.now) ≤ LONGEST_TEXT }
+    requires ordered { start ≤ end }
+    requires within { end ≤ length (O.octets text.now) }
+    ensures tag { IfOk result (λ found. option_map (λ t. t.octets) found.0
+        ≡ tag_of (components_at context.now.service (O.octets text.now) start end)) }
+    ensures errors { IfOk result (λ found. found.1.items
+        ≡ local_errors_of directory.now context.now
+        (components_at context.now.service (O.octets text.now) start end)) }
+{
+    let components = fields(text, &context.service, start, end);
+    check_components(alloc, directory, context, components)
+}
+
+// Whether a stretch of a text is lent in one part and has these octets.
+fn is_spelled<O: Octets>(text: &O, start: usize, end: usize, octets: &[u8]) -> bool
+    requires ordered { start ≤ end }
+    requires within { end ≤ length (O.octets text.now) }
+    ensures { IsTrue result → slice_range (O.octets text.now) start end ≡ octets.now }
+{
+    match spelled(text, start, end) {
+        Some(other) => other == octets,
+        None => false,
+    }
+}
+
+// The octets of a stretch of a text, where the text lends them in one part.
+fn spelled<O: Octets>(text: &O, start: usize, end: usize) -> Option<&[u8]>
+    requires ordered { start ≤ end }
+    requires within { end ≤ length (O.octets text.now) }
+    ensures { IfSome result
+        (λ octets. octets.now ≡ slice_range (O.octets text.now) start end) }
+{
+    if start >= end {
+        return None;
+    }
+    let part = text.slice_at(start);
+    if part.len() < end - start {
+        return None;
+    }
+    Some(&part[..end - start])
+}
+
+// The place where a segment of these octets is remembered.
+fn slot_of(octets: &[u8]) -> usize
+    ensures { result < 1024 }
+{
+    let mut sum = 0_u32;
+    for octet in octets {
+        sum = sum.wrapping_mul(9).wrapping_add(u32::from(*octet));
+    }
+    (sum.wrapping_mul(0x9E37_79B1) >> 16) as usize % PLACES
+}

@@ -1,0 +1,183 @@
+//! The components of a segment that lies in one slice and has no release character.
+ghost use Rattle.std.specs.Prelude.{Some, [], ◌≡◌, ◌∷◌, ◌+◌, ◌<◌, ◌≤◌, ◌^◌, false, true, length, slice_index, IfSome, IsTrue};
+ghost use Rattle.std.specs.Iterator.{YieldsFirstBy};
+ghost use Rattle.std.specs.List.{list_any};
+ghost use Rattle.std.specs.Option.{ForSome};
+ghost use Rattle.edi_tables.specs.Tag.{is_tag_of};
+ghost use Rattle.memchr.specs.Find.{IsFirst};
+ghost use Rattle.seg_lexer.specs.Fields.{components_of};
+ghost use Rattle.seg_lexer.specs.Released.{is_release as is_release_of};
+ghost use Rattle.element_check.specs.Streams.{after_front, front_values};
+ghost use Rattle.clean_segments.specs.Start.{IsSeparator, IsStart};
+ghost use Rattle.edi_octets.specs.declared.octets.TheConstants.{LONGEST_TEXT};
+
+use edi_tables::{Tag, is_tag};
+use seg_lexer::{Separators, has_release};
+
+/// Where a component begins, counted from the segment's first octet, and its numbers.
+#[derive(Clone, Copy, Debug)]
+struct Start {
+    at: usize,
+    element: u32,
+    component: u32,
+}
+
+/// The components that are left of a segment that has no release character, in order, empty ones too.
+#[derive(Clone, Copy, Debug)]
+pub(crate) struct PlainFields<'a> {
+    octets: &'a [u8],
+    separators: Separators,
+    next: Option<Start>,
+    ghost plain: { list_any (is_release_of separators.release) octets.now ≡ false },
+    ghost short: { length octets.now ≤ LONGEST_TEXT },
+    ghost here: { ForSome next (IsStart octets.now) },
+}
+
+impl<'a> PlainFields<'a> {
+    ghost use Rattle.clean_segments.specs.Plain.{plain_left};
+
+    /// The components of the segment of these octets, if none of them is the release character.
+    #[tactic(auto, unfolding(crate::specs::Plain::plain_left))]
+    pub(crate) fn of(octets: &'a [u8], separators: Separators) -> Option<PlainFields<'a>>
+        requires short { length octets.now ≤ LONGEST_TEXT }
+        ensures { IfSome result
+            (λ fields. plain_left fields ≡ components_of separators octets.now) }
+    {
+        if has_release(separators.release, octets) {
+            return None;
+        }
+        Some(PlainFields {
+            octets,
+            separators,
+            next: Some(Start {
+                at: 0,
+                element: 0,
+                component: 1,
+            }),
+        })
+    }
+
+    /// Whether none is left.
+    #[tactic(auto, unfolding(crate::specs::Plain::plain_left))]
+    pub(crate) fn is_at_end(&self) -> bool
+        ensures { IsTrue result → plain_left self.now ≡ [] }
+    {
+        self.next.is_none()
+    }
+
+    /// Whether the next component, if there is one, belongs to another element.
+    #[tactic(auto, unfolding(crate::specs::Plain::plain_left))]
+    pub(crate) fn is_past(&self, element: u32) -> bool
+        ensures { IsTrue result → front_values element (plain_left self.now) ≡ [] }
+    {
+        match self.next {
+            Some(start) => start.element != element,
+            None => true,
+        }
+    }
+
+    /// Takes the value of the next component, if it belongs to an element.
+    #[inline(always)]
+    pub(crate) fn take(&mut self, element: u32) -> Option<&'a [u8]>
+        ensures value { YieldsFirstBy (λ octets. octets.now)
+            (λ fields. front_values element (plain_left fields)) self.old result self.new }
+        ensures after { after_front element (plain_left self.new)
+            ≡ after_front element (plain_left self.old) }
+    {
+        let start = self.next?;
+        if start.element != element {
+            return None;
+        }
+        Some(self.take_from(start))
+    }
+
+    // Takes the value of the next component, which begins there.
+    #[inline(always)]
+    #[tactic(auto, unfolding(crate::specs::Plain::plain_left))]
+    fn take_from(&mut self, start: Start) -> &'a [u8]
+        requires { self.old.next ≡ Some start }
+        ensures { plain_left self.old
+            ≡ record { element = start.element; component = start.component; octets = result.now }
+            ∷ plain_left self.new }
+    {
+        let octets = self.octets;
+        match self.find_separator(start.at) {
+            None => {
+                self.next = None;
+                &octets[start.at..]
+            }
+            Some(end) => {
+                self.next = Some(self.past(start, end));
+                &octets[start.at..end]
+            }
+        }
+    }
+
+    // The first place from `from` on that has a separator. Components are short: each octet is looked at.
+    #[inline(always)]
+    fn find_separator(&self, from: usize) -> Option<usize>
+        requires { from ≤ length self.now.octets.now }
+        ensures { IsFirst (IsSeparator self.now.separators self.now.octets.now)
+            from (length self.now.octets.now) result }
+    {
+        let mut at = from;
+        while at < self.octets.len() {
+            let octet = self.octets[at];
+            if octet == self.separators.element || octet == self.separators.component {
+                return Some(at);
+            }
+            at += 1;
+        }
+        None
+    }
+
+    // Where the component begins after the separator that ends one.
+    #[inline(always)]
+    fn past(&self, start: Start, end: usize) -> Start
+        requires within { end < length self.now.octets.now }
+        requires element { start.element + 1 < 2 ^ 32 }
+        requires component { start.component + 1 < 2 ^ 32 }
+        ensures element { slice_index self.now.octets.now end ≡ self.now.separators.element
+            → result ≡ record { at = end + 1; element = start.element + 1; component = 1 } }
+        ensures component { (slice_index self.now.octets.now end ≡ self.now.separators.element → ⊥)
+            → result
+            ≡ record { at = end + 1; element = start.element; component = start.component + 1 } }
+    {
+        if self.octets[end] == self.separators.element {
+            Start {
+                at: end + 1,
+                element: start.element + 1,
+                component: 1,
+            }
+        } else {
+            Start {
+                at: end + 1,
+                element: start.element,
+                component: start.component + 1,
+            }
+        }
+    }
+
+    /// Takes the tag, where the tag field is one component that is a tag.
+    pub(crate) fn take_tag(&mut self) -> Option<Tag>
+        ensures field { IfSome result (λ tag.
+            front_values 0 (plain_left self.old) ≡ tag.octets ∷ []) }
+        ensures tag { IfSome result (λ tag. is_tag_of tag.octets ≡ true) }
+        ensures after { IfSome result (λ tag.
+            plain_left self.new ≡ after_front 0 (plain_left self.old)) }
+    {
+        let [first, second, third] = self.take(0)? else {
+            return None;
+        };
+        let tag = Tag {
+            octets: [*first, *second, *third],
+        };
+        if !is_tag(&tag.octets) {
+            return None;
+        }
+        match self.take(0) {
+            None => Some(tag),
+            Some(_) => None,
+        }
+    }
+}

@@ -1,0 +1,10 @@
+//! The local errors of the segments of one text. Most have none: a look at the octets shows it, and a segment that is spelled
+//! like an earlier one without an error isn't checked again.
+#![tactic(auto)]
+
+mod clean;
+mod fields;
+mod look;
+
+pub use clean::CleanSegments;
+pub use look::clean_tag;

@@ -1,9 +1,0 @@
-use Rattle.std.proofs.Common.{sym, ◌∙◌, ap}
-use Rattle.contrl_segments.specs.Written.{is_empty_value}
-use Rattle.contrl_segments.specs.Lent.{value_lent}
-use Rattle.contrl_segments.specs.declared.segment.Value.{Value}
-use Rattle.contrl_segments.proofs.DecimalLemmas.{decimal-some}
-use Rattle.contrl_segments.proofs.segment.Value.is_empty.Goals as goal
-
-pub returns-in-Number : goal.returns-in-Number
-returns-in-Number c = sym (ap (λ (v : Value). is_empty_value (value_lent v)) c.in-Number.is ∙ decimal-some c.in-Number._number)

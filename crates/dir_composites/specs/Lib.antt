@@ -1,2 +1,0 @@
-pub mod Composites
-pub mod Parts

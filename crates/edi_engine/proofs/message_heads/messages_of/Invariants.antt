@@ -1,0 +1,15 @@
+use Rattle.std.proofs.Common.{◌≡◌, ◌+◌, ◌≤◌, ◌++◌, None, length}
+use Rattle.std.specs.Prelude.{All}
+use Rattle.segment_walk.specs.WalkedSegments.{LiesIn}
+use Rattle.segment_walk.specs.Spans.{IsNumbered, grouped, heads_from, message_spans}
+use Rattle.edi_engine.proofs.message_heads.messages_of.Given as goal
+
+-- the messages of the segments to come are left to be put, and the one that is open
+abbrev pub invariant-loop-seen : goal.invariant-loop-seen
+invariant-loop-seen l = record {
+  left : l.messages.items ++ heads_from (message_spans l.service l.text) l.count l.current (grouped l.begun l.group l.seen-iterator)
+      ≡ heads_from (message_spans l.service l.text) l.count None (grouped 0 None l.initial.seen-iterator);
+  inside : All (LiesIn l.text) l.seen-iterator;
+  numbered : All IsNumbered l.seen-iterator;
+  few : l.begun + length l.seen-iterator ≤ 4194304;
+}

@@ -1,0 +1,137 @@
+//! The segments of a text as the rules on envelopes see them.
+ghost use Rattle.std.specs.Prelude.{◌≡◌, ◌+◌, ◌≤◌, length, IfOk};
+ghost use Rattle.seg_lexer.specs.Left.{components_left};
+ghost use Rattle.seg_lexer.specs.Service.{IsUsable};
+ghost use Rattle.segment_walk.specs.Heads.{count_in, name_in, reference_in, heads_of, marks_of};
+ghost use Rattle.segment_walk.specs.Look.{seen_of};
+ghost use Rattle.segment_walk.specs.Told.{head_seen};
+ghost use Rattle.segment_records.specs.Segments.{segments_of_text};
+ghost use Rattle.edi_octets.specs.declared.octets.TheConstants.{LONGEST_TEXT};
+
+use edi_octets::Octets;
+use edi_tables::Chunk;
+use envelope_check::{Head, HeadKind, SegmentMark};
+use seg_lexer::{Fields, Service};
+use segment_records::{copy_two, copy_value};
+use segment_walk::WalkedSegment;
+use std::alloc::{AllocError, Global};
+use text_reading::KeptText;
+
+/// A segment as a head of this kind, with the values that its kind gives. They are read from its text, by the service
+/// characters of the text. Only want of memory is an error.
+pub(crate) fn read_head<O: Octets>(
+    alloc: Global,
+    text: &O,
+    service: &Service,
+    seen: &WalkedSegment<'_>,
+    kind: HeadKind,
+) -> Result<Head, AllocError>
+    requires usable { IsUsable service.now (O.octets text.now) }
+    requires short { length (O.octets text.now) ≤ LONGEST_TEXT }
+    requires within { seen.now.from + seen.now.record.now.octets ≤ length (O.octets text.now) }
+    ensures { IfOk result (λ head. head
+        ≡ head_seen service.now (O.octets text.now) (seen_of seen.now) kind) }
+{
+    let components = seen.components(text, service);
+    let Given {
+        reference,
+        count,
+        name,
+    } = copy_given(alloc, components, kind)?;
+    Ok(Head {
+        segment: seen.number,
+        start: seen.start(),
+        kind,
+        reference,
+        count,
+        name,
+        // A UNH is at an entry where its table was found.
+        tabled: matches!(kind, HeadKind::Unh) && seen.record.entry().is_some(),
+    })
+}
+
+// The values that a segment gives by its kind; no octets for one that its kind doesn't give.
+struct Given {
+    reference: Chunk,
+    count: Chunk,
+    name: Chunk,
+}
+
+// They are copied in one way through its components.
+fn copy_given<O: Octets>(
+    alloc: Global,
+    components: Fields<'_, O>,
+    kind: HeadKind,
+) -> Result<Given, AllocError>
+    ensures reference { IfOk result (λ given. given.reference
+        ≡ reference_in (components_left components.entry) kind) }
+    ensures count { IfOk result (λ given. given.count
+        ≡ count_in (components_left components.entry) kind) }
+    ensures name { IfOk result (λ given. given.name
+        ≡ name_in (components_left components.entry) kind) }
+{
+    match kind {
+        HeadKind::Unb => Ok(Given {
+            reference: copy_value(alloc, components, 5, 1)?,
+            count: Chunk::empty(alloc),
+            name: Chunk::empty(alloc),
+        }),
+        HeadKind::Ung => {
+            let (name, reference) = copy_two(alloc, components, (1, 1), (5, 1))?;
+            Ok(Given {
+                reference,
+                count: Chunk::empty(alloc),
+                name,
+            })
+        },
+        HeadKind::Unh => {
+            let (reference, name) = copy_two(alloc, components, (1, 1), (2, 1))?;
+            Ok(Given {
+                reference,
+                count: Chunk::empty(alloc),
+                name,
+            })
+        },
+        HeadKind::Unt | HeadKind::Une | HeadKind::Unz => {
+            let (count, reference) = copy_two(alloc, components, (1, 1), (2, 1))?;
+            Ok(Given {
+                reference,
+                count,
+                name: Chunk::empty(alloc),
+            })
+        },
+    }
+}
+
+/// What the rules on envelopes ask of a text: the segments that open or close one, in order, and the first octet and
+/// the tag of each segment.
+#[derive(Drop)]
+pub(crate) struct Envelopes {
+    pub(crate) heads: Vec<Head>,
+    pub(crate) marks: Vec<SegmentMark>,
+}
+
+// Its heads and marks, in one walk over its segments. The values of the heads are read from the text.
+pub(crate) fn envelopes_of(kept: &KeptText<'_>, alloc: Global) -> Result<Envelopes, AllocError>
+    ensures heads { IfOk result (λ envelopes. envelopes.heads.items
+        ≡ heads_of kept.now.directory (segments_of_text kept.now.text)) }
+    ensures marks { IfOk result
+        (λ envelopes. envelopes.marks.items ≡ marks_of (segments_of_text kept.now.text)) }
+{
+    let text = kept.whole();
+    let service = kept.service();
+    let mut heads = Vec::new(alloc);
+    let mut marks = Vec::with_capacity(alloc, kept.segment_count() as usize)?;
+    for seen in kept.segments() {
+        let tag = seen.record.tag();
+        marks.push(SegmentMark {
+            start: seen.start(),
+            tag,
+        })?;
+        if let Some(kind) = HeadKind::of(tag) {
+            let head = read_head(alloc, &text, service, &seen, kind)?;
+            heads.push(head)?;
+        }
+    }
+    Ok(Envelopes { heads, marks })
+}

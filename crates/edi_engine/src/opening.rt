@@ -1,0 +1,178 @@
+//! How an interchange is opened: what its UNB tells, and what is wrong before the first segment, in the opening, and after the
+//! last segment.
+ghost use Rattle.std.specs.Prelude.{◌≡◌, ◌+◌, ◌++◌, ◌≤◌, [], length, map, unwrap_or, IfOk, OnOk, slice_get};
+ghost use Rattle.std.specs.List.{list_any};
+ghost use Rattle.std.specs.Option.{option_map};
+ghost use Rattle.std.specs.Str.{bytes_eq};
+ghost use Rattle.seg_lexer.specs.Left.{components_left};
+ghost use Rattle.seg_lexer.specs.Service.{IsUsable, service_of};
+ghost use Rattle.seg_lexer.specs.Value.{octets_of};
+ghost use Rattle.segment_walk.specs.Errors.{is_unknown as is_unknown_of};
+ghost use Rattle.segment_walk.specs.Line.{opening_seen};
+ghost use Rattle.segment_walk.specs.Look.{seen_of};
+ghost use Rattle.segment_walk.specs.Openers.{interchange_party_in, opening_by};
+ghost use Rattle.segment_walk.specs.Told.{components_seen};
+ghost use Rattle.seg_lexer.specs.Segments.{tail_of};
+ghost use Rattle.segment_records.specs.Segments.{segments_of_text};
+ghost use Rattle.segment_walk.specs.Count.{segment_count_of};
+ghost use Rattle.text_reading.specs.Errors.{advice_lines, syntax_lines, tail_lines};
+ghost use Rattle.edi_octets.specs.declared.octets.TheConstants.{LONGEST_TEXT};
+
+use crate::parties::copy_party;
+use crate::tail::find_tail;
+use contrl_segments::{Opening, Party};
+use edi_octets::Octets;
+use error_ledger::{ErrorLine, Kind};
+use seg_lexer::{Context, Fields, Service, Value};
+use segment_records::{copy_value, is_named};
+use segment_walk::{WalkedSegment, error_with};
+use std::alloc::{AllocError, Global};
+use std::marker::Brand;
+use std::sync::ledger::Blank;
+use text_reading::KeptText;
+
+// The levels and the versions of the syntax.
+const LEVELS: [&[u8]; 6] = [b"UNOA", b"UNOB", b"UNOC", b"UNOD", b"UNOE", b"UNOF"];
+
+const VERSIONS: [&[u8]; 3] = [b"1", b"2", b"3"];
+
+/// What a UNB tells: it is bad where it has a local error; else it gives the level and the version of the context, and the
+/// parties and the reference that are read from its text. Only want of memory is an error.
+pub(crate) fn read_opening<O: Octets>(
+    alloc: Global,
+    text: &O,
+    context: &Context,
+    first: &WalkedSegment<'_>,
+) -> Result<Opening, AllocError>
+    requires usable { IsUsable context.now.service (O.octets text.now) }
+    requires short { length (O.octets text.now) ≤ LONGEST_TEXT }
+    requires within { first.now.from + first.now.record.now.octets ≤ length (O.octets text.now) }
+    ensures { IfOk result (λ opening. opening ≡ opening_by context.now
+        (components_seen context.now.service (O.octets text.now) (seen_of first.now))
+        first.now.record.now.local) }
+{
+    if !first.record.local().is_empty() {
+        return Ok(Opening::BadUnb);
+    }
+    let components = first.components(text, &context.service);
+    let sender = copy_routed(alloc, components, 2)?;
+    let recipient = copy_routed(alloc, components, 3)?;
+    let reference = copy_value(alloc, components, 5, 1)?;
+    Ok(Opening::Good {
+        level: context.level,
+        version: context.version,
+        sender,
+        recipient,
+        reference,
+    })
+}
+
+// A party of an interchange, in an element of its UNB.
+fn copy_routed<O: Octets>(
+    alloc: Global,
+    components: Fields<'_, O>,
+    element: u32,
+) -> Result<Party, AllocError>
+    ensures { IfOk result (λ party. party
+        ≡ interchange_party_in (components_left components.entry) element) }
+{
+    let route = copy_value(alloc, components, element, 3)?;
+    copy_party(alloc, components, element, route)
+}
+
+/// Puts that a UNB names a level or a version of the syntax that there isn't. They are read from its text, by the service
+/// characters of the text. Only want of memory is an error.
+pub(crate) fn put_opening<O: Octets>(
+    text: &O,
+    service: &Service,
+    first: &WalkedSegment<'_>,
+    list: &mut Vec<ErrorLine>,
+) -> Result<(), AllocError>
+    requires usable { IsUsable service.now (O.octets text.now) }
+    requires short { length (O.octets text.now) ≤ LONGEST_TEXT }
+    requires within { first.now.from + first.now.record.now.octets ≤ length (O.octets text.now) }
+    ensures { OnOk result (list.new.items
+        ≡ list.old.items ++ opening_seen service.now (O.octets text.now) (seen_of first.now)) }
+{
+    let components = first.components(text, service);
+    if is_unknown(components.value_at(1, 1), &LEVELS) {
+        list.push(first.error(1, 1, Kind::Syntax))?;
+    }
+    if is_unknown(components.value_at(1, 2), &VERSIONS) {
+        list.push(first.error(1, 2, Kind::Syntax))?;
+    }
+    Ok(())
+}
+
+// Whether a value is filled, and none of these.
+fn is_unknown<O: Octets>(value: Option<Value<'_, O>>, known: &[&[u8]]) -> bool
+    ensures { result ≡ is_unknown_of (unwrap_or (option_map octets_of value.entry) [])
+        (map (λ name. name.now) known.now) }
+{
+    match value {
+        Some(value) => !value.is_empty() && !is_among(&value, known),
+        None => false,
+    }
+}
+
+// Whether a value is one of these.
+fn is_among<O: Octets>(value: &Value<'_, O>, known: &[&[u8]]) -> bool
+    ensures { result
+        ≡ list_any (bytes_eq (octets_of value.now)) (map (λ name. name.now) known.now) }
+{
+    for name in known {
+        if is_name(value, name) {
+            return true;
+        }
+    }
+    false
+}
+
+fn is_name<O: Octets>(value: &Value<'_, O>, name: &[u8]) -> bool
+    ensures { result ≡ bytes_eq (octets_of value.now) name.now }
+{
+    value.is(name)
+}
+
+// Puts that the service string advice can't be used.
+pub(crate) fn put_advice(kept: &KeptText<'_>, list: &mut Vec<ErrorLine>) -> Result<(), AllocError>
+    ensures { OnOk result (list.new.items
+        ≡ list.old.items ++ advice_lines (service_of kept.now.text).sound) }
+{
+    if !kept.service().sound {
+        list.push(error_with(0, 0, None, 0, 0, Kind::BadUna))?;
+    }
+    Ok(())
+}
+
+// Puts that something is left after the last segment.
+pub(crate) fn put_tail(kept: &KeptText<'_>, list: &mut Vec<ErrorLine>) -> Result<(), AllocError>
+    ensures { OnOk result (list.new.items ≡ list.old.items
+        ++ tail_lines (segment_count_of kept.now.text)
+        (tail_of (service_of kept.now.text) kept.now.text)) }
+{
+    let tail = find_tail::<_, Brand>(
+        &kept.whole(),
+        kept.service(),
+        kept.last_boundary(),
+        Blank::new(1),
+    );
+    if let Some(start) = tail {
+        let number = kept.segment_count() + 1;
+        list.push(error_with(number, start, None, 0, 0, Kind::Tail))?;
+    }
+    Ok(())
+}
+
+// Puts that the first segment, where it is UNB, names a level or a version of the syntax that there isn't.
+pub(crate) fn put_syntax(kept: &KeptText<'_>, list: &mut Vec<ErrorLine>) -> Result<(), AllocError>
+    ensures { OnOk result (list.new.items
+        ≡ list.old.items ++ syntax_lines (slice_get (segments_of_text kept.now.text) 0)) }
+{
+    match kept.segments().next() {
+        Some(first) if is_named(b"UNB", first.record.tag()) => {
+            put_opening(&kept.whole(), kept.service(), &first, list)
+        }
+        _ => Ok(()),
+    }
+}

@@ -1,0 +1,10 @@
+use Rattle.std.proofs.Common.{not, sym, ap, ◌∙◌}
+use Rattle.std.specs.Str.{bytes_eq}
+use Rattle.edi_octets.proofs.EarlierNameLemmas.{list_any-map}
+use Rattle.edi_octets.proofs.earlier_names.EarlierNames.add.Goals as goal
+
+pub returns-clause-new : goal.returns-clause-new
+returns-clause-new c =
+    let new = c.in_ok-insert.ensures.added ∙ ap not (sym (list_any-map (bytes_eq c.args.word.now) (λ word. word.now) c.self.inside.words.keys)) in
+    let view = c.self.view_is in
+    cc

@@ -1,0 +1,10 @@
+use Rattle.std.proofs.Common.{◌∷◌, List, ℕ, sym, ap, ◌∙◌}
+use Rattle.edi_octets.specs.Words.{two_of}
+use Rattle.edi_octets.proofs.WordLemmas.{two-more}
+use Rattle.edi_octets.proofs.words.two_words.Goals as goal
+
+pub returns-in-Some : goal.returns-in-Some
+returns-in-Some c =
+    let first = rw c.in_ok-rest.was at c.cut_word.ensures in
+    let second = rw c.in-Some.is at c.cut_word-2.ensures in
+    sym (ap two_of (first ∙ ap (λ (ws : List (List ℕ)). c.cut_word.result.0.now ∷ ws) second) ∙ two-more c.cut_word.result.0.now c.cut_word-2.result.0.now c.in-Some.field-0.now)

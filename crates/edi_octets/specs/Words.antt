@@ -1,0 +1,26 @@
+-- The words of a line.
+use Rattle.std.specs.Prelude.{List, [], ◌∷◌, Option, Some, None}
+use Rattle.edi_tables.specs.Octets.{Octets}
+use Rattle.edi_octets.specs.Lines.{pieces_in}
+
+-- the words of a line are separated by exactly one space: exactly two of them, three, and four
+abbrev pub two_of : List Octets → Option (Octets × Octets)
+two_of (a ∷ b ∷ []) = Some (a, b)
+two_of words = None
+
+abbrev pub three_of : List Octets → Option (Octets × Octets × Octets)
+three_of (a ∷ b ∷ c ∷ []) = Some (a, b, c)
+three_of words = None
+
+abbrev pub four_of : List Octets → Option (Octets × Octets × Octets × Octets)
+four_of (a ∷ b ∷ c ∷ d ∷ []) = Some (a, b, c, d)
+four_of words = None
+
+abbrev pub two_in : Octets → Option (Octets × Octets)
+two_in line = two_of (pieces_in line)
+
+abbrev pub three_in : Octets → Option (Octets × Octets × Octets)
+three_in line = three_of (pieces_in line)
+
+abbrev pub four_in : Octets → Option (Octets × Octets × Octets × Octets)
+four_in line = four_of (pieces_in line)

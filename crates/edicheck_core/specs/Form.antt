@@ -1,0 +1,114 @@
+-- The forms of words.
+use Rattle.std.specs.Prelude.{ℕ, Bool, true, false, ◌&&◌, nat_le, List, [], ◌∷◌, Option, Some, None, codes, if◌then◌else◌}
+use Rattle.std.specs.Str.{bytes_eq}
+use Rattle.std.specs.Option.{option_and_then, option_map}
+use Rattle.edi_tables.specs.Octets.{Octets}
+use Rattle.edi_octets.specs.Decimal.{decimal_in}
+use Rattle.edi_octets.specs.Name.{is_name_of}
+use Rattle.contrl_segments.specs.Stamp.{is_reference_of, stamp_in}
+use Rattle.contrl_segments.specs.declared.stamp.Stamp.{Stamp}
+use Rattle.listing_printer.specs.declared.text.Detail.{Detail}
+use Rattle.listing_printer.specs.declared.text.Detail.TheVariants.{Segments, Values}
+use Rattle.edicheck_core.specs.declared.words.Form.{Form}
+use Rattle.edicheck_core.specs.declared.words.Form.TheVariants as form
+use Rattle.edicheck_core.specs.declared.words.Question as asked
+use Rattle.edicheck_core.specs.declared.words.Question.TheVariants as question
+
+-- what is asked of a text: its errors and its tree, or its acknowledgement, made at a time, with a reference of its own
+pub data Question : Type 0 where
+  Errors : Question
+  Answer : (stamp : Stamp) → (reference : Octets) → Question
+
+-- what words ask for: help, the version, a text in some detail, the tables of the directory of a manifest, its store,
+-- something of a text by that directory, the edits of one, or a drill of so many messages and edits for a number
+pub data Asked : Type 0 where
+  Help : Asked
+  Version : Asked
+  Text : (detail : Detail) → Asked
+  Tables : (manifest : Octets) → Asked
+  Compile : (manifest : Octets) → Asked
+  About : (question : Question) → (manifest : Octets) → (text : Octets) → Asked
+  Edit : (manifest : Octets) → (text : Octets) → Asked
+  Drill : (messages : ℕ) → (edits : ℕ) → (number : ℕ) → Asked
+
+abbrev pub question_shown : asked.Question → Question
+question_shown question.Errors = Errors
+question_shown (question.Answer stamp reference) = Answer stamp reference.now
+
+abbrev pub form_shown : Form → Asked
+form_shown form.Help = Help
+form_shown form.Version = Version
+form_shown (form.Text detail) = Text detail
+form_shown (form.Tables manifest) = Tables manifest.now
+form_shown (form.Compile manifest) = Compile manifest.now
+form_shown (form.About question manifest text) = About (question_shown question) manifest.now text.now
+form_shown (form.Edit manifest text) = Edit manifest.now text.now
+form_shown (form.Drill messages edits number) = Drill messages edits number
+
+-- `--help`, `--version`, `segments` or `values`
+abbrev pub lone_word : Octets → Option Asked
+lone_word word =
+    if bytes_eq word (codes "--help") then Some Help
+    else (if bytes_eq word (codes "--version") then Some Version
+    else (if bytes_eq word (codes "segments") then Some (Text Segments)
+    else (if bytes_eq word (codes "values") then Some (Text Values) else None)))
+
+-- `tables` or `compile`, and the name of a manifest
+abbrev pub with_manifest : Octets → Octets → Option Asked
+with_manifest word manifest =
+    if bytes_eq word (codes "tables") && is_name_of manifest then Some (Tables manifest)
+    else (if bytes_eq word (codes "compile") && is_name_of manifest then Some (Compile manifest) else None)
+
+-- `check` or `edit`, and the names of a manifest and of a text
+abbrev pub with_text : Octets → Octets → Octets → Option Asked
+with_text word manifest text =
+    if is_name_of manifest && is_name_of text
+    then (if bytes_eq word (codes "check") then Some (About Errors manifest text)
+    else (if bytes_eq word (codes "edit") then Some (Edit manifest text) else None))
+    else None
+
+-- a number of 1 to 19 digits, from the least to the most
+abbrev pub number_in : ℕ → ℕ → Octets → Option ℕ
+number_in least most word =
+    option_and_then (λ n. if nat_le least n && nat_le n most then Some n else None) (decimal_in word)
+
+-- `drill`, how many messages and how many edits, and the number that these are made from
+abbrev pub with_numbers : Octets → Octets → Octets → Octets → Option Asked
+with_numbers word messages edits number =
+    if bytes_eq word (codes "drill")
+    then option_and_then (λ n. option_and_then (λ k. option_map (Drill n k)
+    (number_in 0 999999999 number)) (number_in 0 1000 edits)) (number_in 1 1000 messages)
+    else None
+
+-- `contrl`, the names of a manifest and of a text, a stamp and a reference
+abbrev pub with_stamp : Octets → Octets → Octets → Octets → Octets → Option Asked
+with_stamp word manifest text stamp reference =
+    if bytes_eq word (codes "contrl") && is_name_of manifest && is_name_of text && is_reference_of reference
+    then option_map (λ stamp. About (Answer stamp reference) manifest text) (stamp_in stamp)
+    else None
+
+-- what words ask for, if they are of a form
+abbrev pub form_of : List Octets → Option Asked
+form_of (word ∷ []) = lone_word word
+form_of (word ∷ manifest ∷ []) = with_manifest word manifest
+form_of (word ∷ manifest ∷ text ∷ []) = with_text word manifest text
+form_of (word ∷ messages ∷ edits ∷ number ∷ []) = with_numbers word messages edits number
+form_of (word ∷ manifest ∷ text ∷ stamp ∷ reference ∷ []) = with_stamp word manifest text stamp reference
+form_of words = None
+
+-- what a run takes for what words ask for: the input, the shelf, memory
+pub record Needs : Type 0 where
+  pub input : Bool
+  pub shelf : Bool
+  pub memory : Bool
+
+abbrev pub needs_of : Option Asked → Needs
+needs_of None = record { input = false; shelf = false; memory = false }
+needs_of (Some Help) = record { input = false; shelf = false; memory = false }
+needs_of (Some Version) = record { input = false; shelf = false; memory = false }
+needs_of (Some (Text detail)) = record { input = true; shelf = false; memory = true }
+needs_of (Some (Tables manifest)) = record { input = false; shelf = true; memory = true }
+needs_of (Some (Compile manifest)) = record { input = false; shelf = true; memory = true }
+needs_of (Some (About question manifest text)) = record { input = false; shelf = true; memory = true }
+needs_of (Some (Edit manifest text)) = record { input = true; shelf = true; memory = true }
+needs_of (Some (Drill messages edits number)) = record { input = false; shelf = false; memory = true }

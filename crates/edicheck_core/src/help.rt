@@ -1,0 +1,31 @@
+//! Texts for people.
+
+/// What `--help` prints.
+pub(crate) const HELP: &[u8] = b"edicheck checks UN/EDIFACT interchanges and directories.
+
+edicheck check MANIFEST TEXT               print the errors of a text, and where its segments are
+edicheck contrl MANIFEST TEXT STAMP REF    print its acknowledgement, a CONTRL message
+edicheck edit MANIFEST TEXT < SCRIPT       answer a script of edits of a text and questions about it
+edicheck segments < TEXT                   print the segments of a text
+edicheck values < TEXT                     print its segments with their values
+edicheck tables MANIFEST                   print the segment tables of a directory, and where they are ambiguous
+edicheck compile MANIFEST                  print a directory as one file, a store, which MANIFEST may name
+edicheck drill N K X                       make N messages from the number X, edit them K times, and count errors
+edicheck --help                            print this help
+edicheck --version                         print the version
+
+MANIFEST, and TEXT after it, are names of files in the folder that edicheck runs in. STAMP is the time
+YYMMDD:HHMM, and REF a reference of 1 to 14 capital letters and digits. N is from 1 to 1000, K up to
+1000, and X up to 999999999. Output ends with a line 'fault ..' where something is refused.
+
+exit status: 0 done, 1 a text has errors or can't be acknowledged, 2 words of no form, 3 bad directory,
+4 read fault, 5 write fault, 6 bad script, 7 too large, 8 out of memory, 9 no such file
+
+example: edicheck check m order.edi
+";
+
+/// What `--version` prints: the version of the crate `edicheck`, and of the toolchain that it is proved with, which that
+/// toolchain tells of itself.
+pub(crate) const VERSION: &[u8] = b"edicheck 0.1.0
+rattle-kit-13f logic dac8208d650f15bf
+";

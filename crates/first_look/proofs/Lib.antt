@@ -1,2 +1,0 @@
-mod LookLemmas
-mod PlainLemmas

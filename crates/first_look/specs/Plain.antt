@@ -1,9 +1,0 @@
--- For bodies and their invariants: the components that are left of a segment that has no release character.
-use Rattle.std.specs.Prelude.{List}
-use Rattle.seg_lexer.specs.Fields.{Component}
-use Rattle.first_look.specs.Start.{plain_rest}
-use Rattle.first_look.specs.declared.fields.PlainFields.{PlainFields}
-
--- the components that are left, in order
-unfoldable pub plain_left : PlainFields → List Component
-plain_left f = plain_rest f.separators f.octets.now f.next

@@ -1,4 +1,0 @@
-pub mod Due
-pub mod Inputs
-pub mod Made
-pub mod Plain

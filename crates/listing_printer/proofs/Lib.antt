@@ -1,0 +1,4 @@
+mod LinesLemmas
+mod TableLemmas
+mod ValuesLemmas
+mod WorkedTables

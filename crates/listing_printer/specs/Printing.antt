@@ -1,0 +1,86 @@
+-- The printed forms of a text's segments and values.
+use Rattle.std.specs.Prelude.{ℕ, ◌+◌, ◌-◌, ◌/◌, ◌%◌, Bool, false, not, ◌&&◌, ◌==◌, nat_le, List, [], ◌∷◌, ◌++◌, length, Option, Some, None, codes, decimal, if◌then◌else◌}
+use Rattle.std.specs.List.{flat_map}
+use Rattle.std.specs.Fmt.{digit_glyph}
+use Rattle.edi_tables.specs.Octets.{Octets}
+use Rattle.edi_tables.specs.Filled.{is_filled}
+use Rattle.edi_octets.specs.Decimal.{count_line}
+use Rattle.seg_lexer.specs.declared.service.Service.{Service}
+use Rattle.seg_lexer.specs.Service.{service_of}
+use Rattle.seg_lexer.specs.Segments.{segments_of, tail_of}
+use Rattle.seg_lexer.specs.Fields.{Component, components_of, separators_of}
+use Rattle.seg_lexer.specs.Stretch.{Stretch, octets_in}
+use Rattle.seg_lexer.specs.Tag.{tag_of}
+use Rattle.listing_printer.specs.declared.text.Detail.{Detail}
+use Rattle.listing_printer.specs.declared.text.Detail.TheVariants.{Segments, Values}
+
+-- a segment's tag, or `---` where it has none
+abbrev pub tag_shown : Option Octets → Octets
+tag_shown None = codes "---"
+tag_shown (Some tag) = tag
+
+-- a shown octet: itself from 32 to 126, except the backslash;
+-- any other is a backslash and two lower-case hexadecimal digits
+abbrev pub octet_shown : ℕ → Octets
+octet_shown x =
+    if nat_le 32 x && nat_le x 126 && not (x == 92) then x ∷ []
+    else 92 ∷ digit_glyph false (x / 16) ∷ digit_glyph false (x % 16) ∷ []
+
+-- the line of a component: two spaces, its element, its number and its value
+unfoldable pub value_line : Component → Octets
+value_line e =
+    codes "  " ++ decimal e.element ++ codes " " ++ decimal e.component ++ codes " "
+    ++ flat_map octet_shown e.octets ++ 10 ∷ []
+
+-- components that are printed: those that aren't empty, the tag field left out
+abbrev pub is_printed : Component → Bool
+is_printed e = not (e.element == 0) && is_filled e.octets
+
+-- the line of a component, if it is printed
+abbrev pub component_line : Component → Octets
+component_line e = if is_printed e then value_line e else []
+
+-- the lines of a segment's values
+unfoldable pub value_lines : List Component → Octets
+value_lines components = flat_map component_line components
+
+-- all that a segment says
+abbrev pub segment_components : Service → Octets → Stretch → List Component
+segment_components service text p = components_of (separators_of service) (octets_in text p)
+
+-- the first part of the line of segment k: its number, its first octet, its terminator's place
+abbrev pub places_shown : ℕ → Stretch → Octets
+places_shown k p = decimal k ++ codes " " ++ decimal p.from ++ codes " " ++ decimal p.to ++ codes " "
+
+-- the last part: its tag
+abbrev pub tag_end : Option Octets → Octets
+tag_end tag = tag_shown tag ++ 10 ∷ []
+
+-- the line of segment k
+abbrev pub segment_line : ℕ → Stretch → Option Octets → Octets
+segment_line k p tag = places_shown k p ++ tag_end tag
+
+-- what is printed of segment k: its line, and with `values` its values
+unfoldable pub segment_lines : Detail → Service → Octets → ℕ → Stretch → Octets
+segment_lines Segments service text k p = segment_line k p (tag_of (segment_components service text p))
+segment_lines Values service text k p =
+    segment_line k p (tag_of (segment_components service text p)) ++ value_lines (segment_components service text p)
+
+-- what is printed of segments, numbered from k
+abbrev pub segments_from : Detail → Service → Octets → ℕ → List Stretch → Octets
+segments_from detail service text k [] = []
+segments_from detail service text k (p ∷ ps) =
+    segment_lines detail service text k p ++ segments_from detail service text (k + 1) ps
+
+-- the line of a tail: its first octet and its length
+abbrev pub tail_line : Octets → Option ℕ → Octets
+tail_line text None = []
+tail_line text (Some start) = codes "tail " ++ decimal start ++ codes " " ++ decimal (length text - start) ++ 10 ∷ []
+
+-- the printed form of a text: how many segments it has, each of them, and its tail
+unfoldable pub printed_text : Detail → Octets → Octets
+printed_text detail text =
+    let service = service_of text in
+    count_line (codes "segments") (length (segments_of service text))
+    ++ segments_from detail service text 1 (segments_of service text)
+    ++ tail_line text (tail_of service text)

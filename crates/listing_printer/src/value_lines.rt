@@ -1,0 +1,92 @@
+//! The printed lines of values.
+ghost use Rattle.std.specs.Prelude.{◌≡◌, ◌++◌, ◌<◌, OnOk, false};
+ghost use Rattle.std.specs.List.{flat_map};
+ghost use Rattle.std.specs.Fmt.{digit_glyph};
+ghost use Rattle.seg_lexer.specs.Fields.{unplaced};
+ghost use Rattle.seg_lexer.specs.Left.{components_left, placed_in};
+ghost use Rattle.seg_lexer.specs.Tag.{tag_of};
+ghost use Rattle.seg_lexer.specs.Value.{octets_of};
+ghost use Rattle.listing_printer.specs.Printing.{component_line, octet_shown, tag_end, value_line, value_lines};
+
+use crate::segment_line::put_tag;
+use edi_octets::{Octets, put_decimal};
+use edi_tables::Chunk;
+use seg_lexer::{Component, Fields, Value};
+use std::alloc::AllocError;
+
+/// The last part of a segment's line, which is its tag, and the lines of its values. Each component is lexed once.
+pub fn put_tag_and_values<O: Octets>(
+    lines: &mut Chunk,
+    components: Fields<'_, O>,
+) -> Result<(), AllocError>
+    ensures { let components = components_left components.entry in
+        OnOk result (lines.new
+        ≡ lines.old ++ tag_end (tag_of components) ++ value_lines components) }
+{
+    let mut components = components;
+    put_tag(lines, components.take_tag())?;
+    for component in components {
+        put_component(lines, &component)?;
+    }
+    Ok(())
+}
+
+// The line of a component after the tag field, if it is printed.
+fn put_component<O: Octets>(
+    lines: &mut Chunk,
+    component: &Component<'_, O>,
+) -> Result<(), AllocError>
+    requires { 0 < component.now.element }
+    ensures { OnOk result (lines.new
+        ≡ lines.old ++ component_line (unplaced (placed_in component.now))) }
+{
+    if component.value.is_empty() {
+        return Ok(());
+    }
+    put_value(lines, component)
+}
+
+#[tactic(auto, unfolding(crate::specs::Printing::value_line))]
+fn put_value<O: Octets>(lines: &mut Chunk, component: &Component<'_, O>) -> Result<(), AllocError>
+    ensures { OnOk result (lines.new
+        ≡ lines.old ++ value_line (unplaced (placed_in component.now))) }
+{
+    lines.add(b"  ")?;
+    put_decimal(lines, u64::from(component.element))?;
+    lines.add(b" ")?;
+    put_decimal(lines, u64::from(component.component))?;
+    lines.add(b" ")?;
+    put_octets(lines, &component.value)?;
+    lines.add(b"\n")
+}
+
+// The octets of a value, as they are shown.
+fn put_octets<O: Octets>(lines: &mut Chunk, value: &Value<'_, O>) -> Result<(), AllocError>
+    ensures { OnOk result (lines.new
+        ≡ lines.old ++ flat_map octet_shown (octets_of value.now)) }
+{
+    for octet in value.octets() {
+        put_shown(lines, octet)?;
+    }
+    Ok(())
+}
+
+// An octet as it is shown: itself from 32 to 126 except the backslash, any other is a backslash and two hexadecimal
+// digits.
+fn put_shown(lines: &mut Chunk, octet: u8) -> Result<(), AllocError>
+    ensures { OnOk result (lines.new ≡ lines.old ++ octet_shown octet) }
+{
+    if (32..=126).contains(&octet) && octet != b'\\' {
+        lines.add(&[octet])
+    } else {
+        lines.add(&[b'\\', hex_digit(octet / 16), hex_digit(octet % 16)])
+    }
+}
+
+// The lower-case hexadecimal digit of a number below 16.
+fn hex_digit(n: u8) -> u8
+    requires { n < 16 }
+    ensures { result ≡ digit_glyph false n }
+{
+    if n < 10 { b'0' + n } else { b'a' + (n - 10) }
+}

@@ -1,3 +1,0 @@
-mod OpeningLemmas
-mod ScriptLemmas
-mod Worked

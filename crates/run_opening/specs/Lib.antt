@@ -1,4 +1,0 @@
-pub mod Begun
-pub mod Opening
-pub mod Output
-pub mod Refusal

@@ -1,0 +1,3 @@
+mod OpeningLemmas
+pub mod PutLemmas
+mod Worked

@@ -1,0 +1,9 @@
+pub mod Begun
+pub mod Finish
+pub mod Held
+pub mod Opening
+pub mod Outcome
+pub mod Output
+pub mod Put
+pub mod Refusal
+pub mod Status

@@ -1,4 +1,0 @@
-pub mod Beginnings
-pub mod Reading
-pub mod Stop
-pub mod Texts

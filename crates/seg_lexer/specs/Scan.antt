@@ -1,0 +1,35 @@
+-- For bodies and their invariants: what a scan looks for, and what it carries from one part of a text to the next.
+use Rattle.std.specs.Prelude.{ℕ, Bool, true, not, ◌&&◌, ◌||◌, ◌==◌, ◌≡◌, [], ◌∷◌, slice_index, take, Option}
+use Rattle.edi_tables.specs.Octets.{Octets}
+use Rattle.seg_lexer.specs.Released.{is_release, is_released}
+use Rattle.seg_lexer.specs.declared.scan.Sought.{Sought}
+use Rattle.seg_lexer.specs.declared.scan.Sought.TheVariants.{One, Two}
+
+-- an octet is one of those that are sought
+abbrev pub is_sought : Sought → ℕ → Bool
+is_sought (One a) x = x == a
+is_sought (Two a b) x = x == a || x == b
+
+-- the octet at place i is sought, and no octet from place a on releases it
+abbrev pub is_free : Option ℕ → Sought → Octets → ℕ → ℕ → Bool
+is_free release sought xs a i = is_sought sought (slice_index xs i) && not (is_released release xs a i)
+
+abbrev pub IsFree : Option ℕ → Sought → Octets → ℕ → ℕ → Type 0
+IsFree release sought xs a i = is_free release sought xs a i ≡ true
+
+-- the octet after x is released, where x itself is (b) or isn't
+abbrev pub releases : Option ℕ → Bool → ℕ → Bool
+releases release b x = is_release release x && not b
+
+-- the octet after these is released, where the first of them is (b) or isn't
+abbrev pub released_after : Option ℕ → Bool → Octets → Bool
+released_after release b [] = b
+released_after release b (x ∷ xs) = released_after release (releases release b x) xs
+
+-- place k of a part is sought, and isn't released where the part's first octet is (b) or isn't
+abbrev pub is_free_in : Option ℕ → Sought → Bool → Octets → ℕ → Bool
+is_free_in release sought b part k =
+    is_sought sought (slice_index part k) && not (released_after release b (take k part))
+
+abbrev pub IsFreeIn : Option ℕ → Sought → Bool → Octets → ℕ → Type 0
+IsFreeIn release sought b part k = is_free_in release sought b part k ≡ true

@@ -1,0 +1,5 @@
+use Rattle.std.proofs.Common.{◌≡◌, ◌+◌, take, sum_by}
+use Rattle.seq_tree.proofs.run.locate_in.Given as goal
+
+abbrev pub invariant-loop-place : goal.invariant-loop-place
+invariant-loop-place g l = sum_by g.T.Measured.measure (take l.place l.items) + l.offset ≡ l.bound

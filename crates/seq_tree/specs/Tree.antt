@@ -1,0 +1,23 @@
+use Rattle.std.specs.Prelude.{◌≡◌, ℕ, ◌+◌, ◌*◌, ◌^◌, ◌<◌, ◌≤◌, max, List, ◌++◌, length, sum_by}
+use Rattle.seq_tree.specs.declared.tree.Node.{Node}
+use Rattle.seq_tree.specs.declared.tree.Node.TheVariants.{Leaf, Fork}
+use Rattle.seq_tree.specs.Shape.{IsBalancedPair, FillsHeight}
+
+-- the items of a node from left to right, where a side is known by its items and its height
+abbrev pub items : {T : Type 0} → Node T → List T
+items (Leaf run) = run
+items (Fork sides) = sides.value.left.0 ++ sides.value.right.0
+
+-- n items that weigh w in all, fewer than 2 to the power 32, none above 4294967295, and enough for a tree of height h
+pub record Counts {T : Type 0} (measure : T → ℕ) (xs : List T) (h n w : ℕ) : Type 0 where
+  pub len : n ≡ length xs
+  pub fits : n < 2 ^ 32
+  pub total : w ≡ sum_by measure xs
+  pub bound : w ≤ 4294967295 * n
+  pub enough : FillsHeight h n
+
+-- a leaf has height 0; a fork is balanced, and a level above its higher side
+abbrev pub HasSides : {T : Type 0} → Node T → ℕ → Type 0
+HasSides (Leaf run) height = height ≡ 0
+HasSides (Fork sides) height =
+    (height ≡ max sides.value.left.1 sides.value.right.1 + 1) × IsBalancedPair sides.value.left.1 sides.value.right.1

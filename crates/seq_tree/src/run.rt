@@ -1,0 +1,107 @@
+//! Items that lie side by side in a list, which other runs share.
+
+ghost use Rattle.std.specs.Prelude.{◌≡◌, ◌+◌, ◌*◌, ◌^◌, ◌<◌, ◌≤◌, length, take, drop, sum_by, slice_get, slice_range, Some, IfOk};
+
+use crate::look::Located;
+use crate::measure::Measured;
+use std::alloc::AllocError;
+use std::marker::Model;
+use std::rc::Rc;
+
+/// One item or more, side by side in a list that is shared, seen as these items.
+#[derive(Drop)]
+pub(crate) struct Run<T: Measured> {
+    list: Rc<Vec<T>>,
+    from: u32,
+    to: u32,
+}
+
+impl<T: Measured> Model for Run<T> {
+    ghost use Rattle.std.specs.Prelude.{List, slice_range, length, ◌<◌, ◌≤◌};
+
+    ghost Value = { List T };
+
+    ghost view = { λ run. slice_range run.list.value.items run.from run.to };
+
+    ghost invariant = { λ run. (run.from < run.to) × (run.to ≤ length run.list.value.items) };
+}
+
+impl<T: Measured> Run<T> {
+    /// The items of this list from place `from` up to place `to`. It takes no memory: the error is that of an `Rc` whose
+    /// count is full.
+    pub fn of(list: &Rc<Vec<T>>, from: usize, to: usize) -> Result<Run<T>, AllocError>
+        requires some { from < to }
+        requires within { to ≤ length list.now.value.items }
+        requires fits { to < 2 ^ 32 }
+        ensures { IfOk result (λ run. run ≡ slice_range list.now.value.items from to) }
+    {
+        Ok(Run {
+            list: list.clone()?,
+            from: from as u32,
+            to: to as u32,
+        })
+    }
+
+    /// Its items.
+    pub fn items(&self) -> &[T]
+        ensures is { result.now ≡ self.now }
+        ensures some { 0 < length self.now }
+        ensures fits { length self.now < 2 ^ 32 }
+    {
+        &self.list.as_slice()[self.from as usize..self.to as usize]
+    }
+
+    /// The same items once more. It takes no memory.
+    pub(crate) fn share(&self) -> Result<Run<T>, AllocError>
+        ensures { IfOk result (λ run. run ≡ self.now) }
+    {
+        Run::of(&self.list, self.from as usize, self.to as usize)
+    }
+
+    /// The first `i` items, and the others. It takes no memory.
+    pub fn cut(&self, i: usize) -> Result<(Run<T>, Run<T>), AllocError>
+        requires some { 0 < i }
+        requires within { i < length self.now }
+        ensures { IfOk result (λ p. (p.0 ≡ take i self.now) × (p.1 ≡ drop i self.now)) }
+    {
+        let (from, to) = (self.from as usize, self.to as usize);
+        let front = Run::of(&self.list, from, from + i)?;
+        let back = Run::of(&self.list, from + i, to)?;
+        Ok((front, back))
+    }
+}
+
+/// What items weigh together.
+pub(crate) fn weigh<T: Measured>(items: &[T]) -> u64
+    requires { length items.now < 2 ^ 32 }
+    ensures is { result ≡ sum_by T.measure items.now }
+    ensures bound { result ≤ 4294967295 * length items.now }
+{
+    let mut total = 0;
+    for item in items {
+        total += u64::from(item.weight());
+    }
+    total
+}
+
+/// The first of these items up to which, itself included, they weigh more than `bound`.
+pub(crate) fn locate_in<T: Measured>(items: &[T], bound: u64) -> Located<'_, T>
+    requires below { bound < sum_by T.measure items.now }
+    ensures is { slice_get items.now result.place ≡ Some result.item.now }
+    ensures offset { sum_by T.measure (take result.place items.now) + result.offset ≡ bound }
+    ensures within { result.offset < T.measure result.item.now }
+{
+    let mut offset = bound;
+    for (place, item) in items.iter().enumerate() {
+        let weight = u64::from(item.weight());
+        if offset < weight {
+            return Located {
+                place,
+                offset,
+                item,
+            };
+        }
+        offset -= weight;
+    }
+    unreachable!();
+}

@@ -1,9 +1,0 @@
--- What a stop inside a store tells.
-use Rattle.std.specs.Prelude.{ℕ, Option, Some, None}
-use Rattle.store_lines.specs.declared.stop.Stop.{Stop}
-use Rattle.store_lines.specs.declared.stop.Stop.TheVariants.{Fault, Memory}
-
--- the place of the fault, told by how many octets there are from it on; want of memory tells none
-abbrev pub left_in : Stop → Option ℕ
-left_in (Fault left) = Some left
-left_in Memory = None

@@ -1,6 +1,0 @@
-use Rattle.std.proofs.Common.{◌≡◌, ◌++◌, drop}
-use Rattle.table_printer.specs.Tables.{node_lines_from}
-use Rattle.table_printer.proofs.tables.put_nodes.Given as goal
-
-abbrev pub invariant-loop-i : goal.invariant-loop-i
-invariant-loop-i l = l.out ++ node_lines_from l.i (drop l.i l.rows) ≡ l.fn.out ++ node_lines_from 0 l.rows

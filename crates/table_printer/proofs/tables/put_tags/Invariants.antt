@@ -1,6 +1,0 @@
-use Rattle.std.proofs.Common.{◌≡◌, ◌++◌, take}
-use Rattle.table_printer.specs.Tables.{tags_shown}
-use Rattle.table_printer.proofs.tables.put_tags.Given as goal
-
-abbrev pub invariant-loop-i : goal.invariant-loop-i
-invariant-loop-i l = l.out ≡ l.fn.out ++ tags_shown (take l.i l.tags)

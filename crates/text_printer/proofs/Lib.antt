@@ -1,2 +1,0 @@
-mod LinesLemmas
-mod ValuesLemmas

@@ -1,4 +1,0 @@
-use Rattle.text_report.proofs.opening.put_tail.Given as goal
-
-abbrev pub ghosts-find_tail : goal.ghosts-find_tail
-ghosts-find_tail a = record { name = a.blank.name; parts = a.blank.parts }

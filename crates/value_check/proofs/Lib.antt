@@ -1,4 +1,0 @@
-mod CodeLemmas
-mod NumberLemmas
-mod TallyLemmas
-mod WorkedValues

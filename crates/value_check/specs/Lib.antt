@@ -1,3 +1,0 @@
-pub mod Repertoire
-pub mod Tally
-pub mod Value

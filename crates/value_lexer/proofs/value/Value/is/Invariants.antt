@@ -1,7 +1,0 @@
-use Rattle.std.proofs.Common.{◌≡◌, ◌↔◌}
-use Rattle.value_lexer.specs.Value.{octets_of}
-use Rattle.value_lexer.proofs.value.Value.is.Given as goal
-
--- what is left of one equals what is left of the other exactly where they are equal
-abbrev pub invariant-loop-octet : goal.invariant-loop-octet
-invariant-loop-octet g l = (octets_of l.self ≡ l.other) ↔ (l.octet-iterator ≡ l.rest)

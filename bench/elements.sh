@@ -7,13 +7,13 @@
 set -eu
 top=$(cd "$(dirname "$0")/.." && pwd)
 . "$top/bench/program.sh"
-new_program element_check dir_load dir_compile edi_ports seg_lexer value_lexer step_counter edi_octets
+new_program element_check dir_load dir_compile edi_ports seg_lexer step_counter edi_octets
 crate=$work/repository/crates/bench
 mkdir -p "$crate/proofs/places/list_all" "$crate/proofs/places/list_places"
 cat >"$crate/src/places.rt" <<'P'
 //! Where the segments of a text are.
 ghost use Rattle.std.specs.Prelude.{◌≡◌, ◌<◌, ◌≤◌, length};
-ghost use Rattle.value_lexer.specs.declared.TheConstants.{LONGEST_TEXT};
+ghost use Rattle.edi_octets.specs.declared.octets.TheConstants.{LONGEST_TEXT};
 
 use edi_octets::Flat;
 use seg_lexer::{Lexed, next_segment, read_service};
@@ -88,7 +88,7 @@ cat >"$crate/src/main.rt" <<'P'
 
 ghost use Rattle.std.specs.Prelude.{◌≤◌, length};
 ghost use Rattle.seg_lexer.specs.Service.{IsUsable};
-ghost use Rattle.value_lexer.specs.declared.TheConstants.{LONGEST_TEXT};
+ghost use Rattle.edi_octets.specs.declared.octets.TheConstants.{LONGEST_TEXT};
 
 mod places;
 mod segments;
@@ -96,11 +96,11 @@ mod segments;
 use anyhow::{Result, ensure};
 use dir_compile::Directory;
 use dir_load::load;
-use edi_octets::Flat;
+use edi_octets::{Flat, LONGEST_TEXT};
 use edi_ports::FolderShelf;
 use element_check::check_segment;
 use places::{Place, list_all};
-use seg_lexer::{Context, LONGEST_TEXT, Level, fields, read_service};
+use seg_lexer::{Context, Level, fields, read_service};
 use segments::count_all;
 use std::alloc::Global;
 use std::rt::{Env, Files};

@@ -6,7 +6,7 @@
 set -eu
 top=$(cd "$(dirname "$0")/.." && pwd)
 . "$top/bench/program.sh"
-new_program piece_text seg_lexer value_lexer step_counter edi_octets
+new_program piece_text seg_lexer step_counter edi_octets
 cat >"$work/repository/crates/bench/src/main.rt" <<'P'
 //! Times readings and edits of the text in the file `text`: processor time of this thread, the least of several runs.
 //! Each line has a name, how often something was done, how many pieces there are, and nanoseconds.
@@ -15,9 +15,8 @@ cat >"$work/repository/crates/bench/src/main.rt" <<'P'
 mod segments;
 
 use anyhow::{Result, ensure};
-use edi_octets::{Flat, Octets};
+use edi_octets::{Flat, LONGEST_TEXT, Octets};
 use piece_text::Text;
-use seg_lexer::LONGEST_TEXT;
 use segments::count_all;
 use std::alloc::Global;
 use std::fs;

@@ -1,11 +1,11 @@
 # Read by the scripts of this folder that time calls of a library: only a program can make these, so a script writes one.
-# It stands in a repository of its own, beside a copy of the crates and of what was proved of them. `top` is set before.
+# It is in a repository of its own, beside a copy of the crates and of what was proved of them. `top` is set before.
 
 work=$(mktemp -d)
 trap 'rm -rf "$work"' EXIT
 program=$work/repository/crates/bench/out/bench
 
-# new_program LIBRARY ..: makes the repository, in which the crate `bench` stands on these libraries of this repository.
+# new_program LIBRARY ..: makes the repository, in which the crate `bench` uses these libraries of this repository.
 # It goes through the segments of a text; its main file is for the script to write.
 new_program() {
     for library in "$@"; do
@@ -30,7 +30,7 @@ new_program() {
     cat >"$crate/src/segments.rt" <<'P'
 //! The segments of a text, one after another.
 ghost use Rattle.std.specs.Prelude.{◌≡◌, ◌<◌, ◌≤◌, length};
-ghost use Rattle.value_lexer.specs.declared.TheConstants.{LONGEST_TEXT};
+ghost use Rattle.edi_octets.specs.declared.octets.TheConstants.{LONGEST_TEXT};
 
 use edi_octets::Octets;
 use seg_lexer::{Lexed, next_segment, read_service};

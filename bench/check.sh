@@ -1,11 +1,11 @@
 #!/bin/sh
 # Makes texts of 4 MiB and prints time and peak memory of `check` on them, by the directory of the examples; and of the checker
 # of by_hand.rs on three of them, where there is a rustc to build it.
-# usage: bench/check.sh   (the program is built first)
+# usage: bench/check.sh   (the program is built first, if need be)
 set -eu
 top=$(cd "$(dirname "$0")/.." && pwd)
-(cd "$top/crates/edicheck" && rt run </dev/null >/dev/null 2>&1) || true
-program=$top/crates/edicheck/out/edicheck
+. "$top/tests/build.sh"
+need_program || exit 1
 work=$(mktemp -d)
 trap 'rm -rf "$work"' EXIT
 cp "$top"/examples/directory/* "$work"

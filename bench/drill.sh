@@ -1,10 +1,10 @@
 #!/bin/sh
 # Prints time and peak memory of drills of 1,000 messages: with 10 edits, and with 1,000.
-# usage: bench/drill.sh   (the program is built first)
+# usage: bench/drill.sh   (the program is built first, if need be)
 set -eu
 top=$(cd "$(dirname "$0")/.." && pwd)
-(cd "$top/crates/edicheck" && rt run </dev/null >/dev/null 2>&1) || true
-program=$top/crates/edicheck/out/edicheck
+. "$top/tests/build.sh"
+need_program || exit 1
 for words in "1000 10 7" "1000 1000 7"; do
     python3 - "$program" $words <<'P'
 import resource, subprocess, sys, time

@@ -8,6 +8,8 @@ program=$work/repository/crates/bench/out/bench
 # new_program LIBRARY ..: makes the repository, in which the crate `bench` uses these libraries of this repository.
 # It goes through the segments of a text; its main file is for the script to write.
 new_program() {
+    echo "proving a program that makes these calls, and the crates that it stands on: a few minutes;" >&2
+    echo "up to 40 on four processors if these crates aren't proved yet" >&2
     for library in "$@"; do
         (cd "$top/crates/$library" && rt lib >"$work/log" 2>&1) || { cat "$work/log" >&2; exit 1; }
     done

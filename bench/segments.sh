@@ -1,10 +1,10 @@
 #!/bin/sh
 # Makes texts of 4 MiB and prints time and peak memory of the two commands on them.
-# usage: bench/segments.sh   (the program is built first)
+# usage: bench/segments.sh   (the program is built first, if need be)
 set -eu
 top=$(cd "$(dirname "$0")/.." && pwd)
-(cd "$top/crates/edicheck" && rt run </dev/null >/dev/null 2>&1) || true
-program=$top/crates/edicheck/out/edicheck
+. "$top/tests/build.sh"
+need_program || exit 1
 work=$(mktemp -d)
 trap 'rm -rf "$work"' EXIT
 python3 - "$work" <<'P'

@@ -1,11 +1,11 @@
 #!/bin/sh
 # Makes two directories and prints time and peak memory of `tables` on them, from their files and from their stores: one of
 # a usual size, and one whose segment table is as long as can be, with one tag on every row but the first and the last.
-# usage: bench/tables.sh   (the program is built first)
+# usage: bench/tables.sh   (the program is built first, if need be)
 set -eu
 top=$(cd "$(dirname "$0")/.." && pwd)
-(cd "$top/crates/edicheck" && rt run </dev/null >/dev/null 2>&1) || true
-program=$top/crates/edicheck/out/edicheck
+. "$top/tests/build.sh"
+need_program || exit 1
 work=$(mktemp -d)
 trap 'rm -rf "$work"' EXIT
 python3 - "$work" <<'P'

@@ -21,7 +21,7 @@ YYMMDD:HHMM, and REF a reference of 1 to 14 capital letters and digits. N is fro
 exit status: 0 done, 1 a text has errors or can't be acknowledged, 2 words of no form, 3 bad directory,
 4 read fault, 5 write fault, 6 bad script, 7 too large, 8 out of memory, 9 no such file
 
-example: edicheck check m order.edi
+example, in the folder examples/directory: edicheck check m order-with-errors.edi
 ";
 
 /// What `--version` prints: the version of the crate `edicheck`, and of the toolchain that it is proved with, which that

@@ -1,7 +1,7 @@
 //! The adapters over a fake of std that fails in mid-stream, and a folder's shelf over the system's files.
 use edi_ports::{FolderShelf, Opened, Put, Shelf, Sink, Source, StdSink, StdSource, Taken};
-use std::io::{ErrorKind, Read, Write};
 use std::io;
+use std::io::{ErrorKind, Read, Write};
 
 // Its number of calls so far.
 #[derive(Drop)]

@@ -1,5 +1,8 @@
 //! Reading and putting over objects in memory that move one octet per call and fail in mid-stream.
-use edi_ports::{MemShelf, MemSink, MemSource, NamedStop, ReadStop, ShelfFile, Source, Taken, Unread, put_all, read_all, read_named};
+use edi_ports::{
+    MemShelf, MemSink, MemSource, NamedStop, ReadStop, ShelfFile, Source, Taken, Unread, put_all,
+    read_all, read_named,
+};
 use edi_tables::Chunk;
 use std::alloc::{AllocError, Global};
 use std::test::Fail;

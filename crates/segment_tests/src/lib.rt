@@ -4,6 +4,6 @@
 #![tactic(auto)]
 
 #[cfg(test)]
-mod element_check_calls;
+mod clean_segments_calls;
 #[cfg(test)]
-mod first_look_calls;
+mod element_check_calls;

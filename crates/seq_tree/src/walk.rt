@@ -2,9 +2,9 @@
 
 ghost use Rattle.std.specs.Prelude.{◌≡◌, ◌+◌, ◌<◌, ◌≤◌, [], ◌++◌, length, drop, IfSome, IfNone};
 
-use arrayvec::ArrayVec;
 use crate::measure::Measured;
 use crate::tree::{Node, Tree};
+use arrayvec::ArrayVec;
 use std::marker::Model;
 
 /// Every tree is lower than this.

@@ -1,6 +1,6 @@
 //! Tables with and without collisions.
-use collision_check::{Collision, list_collisions};
 use crate::rows::{dates, segment, test_order};
+use collision_check::{Collision, list_collisions};
 use edi_tables::Table;
 use service_tables::contrl_rows;
 use std::process::Abort;

@@ -4,10 +4,10 @@
 #![tactic(auto)]
 
 #[cfg(test)]
+mod listing_printer_calls;
+#[cfg(test)]
 mod piece_text_calls;
 #[cfg(test)]
 mod seg_lexer_calls;
 #[cfg(test)]
 mod seq_tree_calls;
-#[cfg(test)]
-mod text_printer_calls;

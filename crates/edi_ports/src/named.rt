@@ -2,7 +2,7 @@
 ghost use Rattle.std.specs.Prelude.{◌≡◌, ◌≤◌, List, Some, length, IfOk, IsErrOf};
 ghost use Rattle.edi_tables.specs.First.{IsVerdict};
 ghost use Rattle.edi_ports.specs.declared.shelf.ShelfFile.{ShelfFile};
-ghost use Rattle.edi_ports.specs.Faults.{HasRisen};
+ghost use Rattle.edi_ports.specs.Faults.{IsFair};
 ghost use Rattle.edi_ports.specs.Named.{octets_named, unread_in};
 
 use crate::{Opened, ReadStop, Shelf, read_file};
@@ -53,11 +53,8 @@ pub fn read_named<S: Shelf>(
         → IsVerdict (λ octets. octets.items) unread_in result (octets_named limit files name.now) }
     ensures short { IfOk result (λ octets. length octets.items ≤ limit) }
     ensures files { S.files shelf.new ≡ S.files shelf.old }
-    ensures counted { S.faults shelf.old ≤ S.faults shelf.new }
-    ensures cause { IsErrOf result NamedStop.Fault
-        → HasRisen (S.faults shelf.old) (S.faults shelf.new) }
-    ensures steady { S.is_steady shelf.old
-        → (IsErrOf result NamedStop.Fault → ⊥) × S.is_steady shelf.new }
+    ensures fair { IsFair S.faults S.is_steady shelf.old shelf.new
+        (IsErrOf result NamedStop.Fault) }
 {
     match shelf.open(name) {
         Opened::Open => Ok(read_file(alloc, shelf, limit)?),

@@ -1,6 +1,6 @@
 //! Reading a source, or an open file, to its end.
-ghost use Rattle.std.specs.Prelude.{◌≡◌, ◌<◌, ◌≤◌, true, length, IsErrOf};
-ghost use Rattle.edi_ports.specs.Faults.{HasRisen};
+ghost use Rattle.std.specs.Prelude.{◌≡◌, ◌≤◌, true, length, IsErrOf};
+ghost use Rattle.edi_ports.specs.Faults.{IsFair};
 ghost use Rattle.edi_ports.specs.Read.{IsReadAll, IsGathering};
 
 use crate::{Shelf, Source, Taken};
@@ -36,11 +36,7 @@ impl From<AllocError> for ReadStop {
 /// `TooLong` exactly where more than `limit` octets were taken. Octets that were taken before a stop are gone.
 pub fn read_all<I: Source>(alloc: Global, input: &mut I, limit: usize) -> Result<Vec<u8>, ReadStop>
     ensures reads { IsReadAll (I.rest input.old) (I.rest input.new) limit result }
-    ensures counted { I.faults input.old ≤ I.faults input.new }
-    ensures cause { IsErrOf result ReadStop.Fault
-        → HasRisen (I.faults input.old) (I.faults input.new) }
-    ensures steady { I.is_steady input.old
-        → (IsErrOf result ReadStop.Fault → ⊥) × I.is_steady input.new }
+    ensures fair { IsFair I.faults I.is_steady input.old input.new (IsErrOf result ReadStop.Fault) }
 {
     let mut rest = Vec::new(alloc);
     let mut buffer = [0u8; BUFFER];
@@ -58,11 +54,7 @@ pub fn read_file<S: Shelf>(alloc: Global, shelf: &mut S, limit: usize) -> Result
     requires { S.is_open shelf.old ≡ true }
     ensures reads { IsReadAll (S.rest shelf.old) (S.rest shelf.new) limit result }
     ensures files { S.files shelf.new ≡ S.files shelf.old }
-    ensures counted { S.faults shelf.old ≤ S.faults shelf.new }
-    ensures cause { IsErrOf result ReadStop.Fault
-        → HasRisen (S.faults shelf.old) (S.faults shelf.new) }
-    ensures steady { S.is_steady shelf.old
-        → (IsErrOf result ReadStop.Fault → ⊥) × S.is_steady shelf.new }
+    ensures fair { IsFair S.faults S.is_steady shelf.old shelf.new (IsErrOf result ReadStop.Fault) }
 {
     let mut octets = Vec::new(alloc);
     let mut buffer = [0u8; BUFFER];

@@ -25,17 +25,18 @@ pub struct Collision {
 }
 
 /// The collisions of a table, by the entry that stands before the shared tag, in table order.
+#[tactic(auto, using(crate::proofs::Single::at_most_one))]
 pub fn list_collisions(alloc: Global, table: &Table) -> Result<Vec<Collision>, AllocError>
     ensures listed { IfOk result
         (λ collisions. map collision_seen collisions.items ≡ collisions_of table.now) }
     ensures ambiguous { IfOk result
         (λ collisions. All (λ c. IsAmbiguous table.now (collision_seen c)) collisions.items) }
-    ensures only { IfOk result
-        (λ collisions. collisions.items ≡ []
+    // Where the table has no collision, a list of tags has one placement at most.
+    ensures only { collisions_of table.now ≡ []
         → (tags : List Tag)
         (p q : List ℕ) → IsPlacement table.now tags p
         → IsPlacement table.now tags q
-        → p ≡ q) }
+        → p ≡ q }
 {
     let count = table.len();
     let numbers = numbers(alloc, table.nodes())?;

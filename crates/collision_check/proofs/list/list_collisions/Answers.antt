@@ -47,7 +47,7 @@ returns-then-all_differ c =
       listed = listed;
       ambiguous = All-unmap (IsAmbiguous nodes) collision_seen c.new-collisions.result.items
           (All-same (IsAmbiguous nodes) (map collision_seen c.new-collisions.result.items) (collisions_of nodes) listed (collisions_ambiguous nodes c.nodes.ensures.lawful));
-      only = λ none tags p q one two. at_most_one nodes c.nodes.ensures.lawful (sym listed ∙ ap (map collision_seen) none) tags p q one two;
+      only = at_most_one nodes c.nodes.ensures.lawful;
     }
 
 pub returns : goal.returns
@@ -60,5 +60,5 @@ returns c =
       listed = listed;
       ambiguous = All-unmap (IsAmbiguous c.args.table.now) collision_seen c.loop-entry.collisions.items
           (All-same (IsAmbiguous c.args.table.now) (map collision_seen c.loop-entry.collisions.items) (collisions_of c.args.table.now) listed (collisions_ambiguous c.args.table.now c.nodes.ensures.lawful));
-      only = λ none tags p q one two. at_most_one c.args.table.now c.nodes.ensures.lawful (sym listed ∙ ap (map collision_seen) none) tags p q one two;
+      only = at_most_one c.args.table.now c.nodes.ensures.lawful;
     }

@@ -23,7 +23,7 @@ use Rattle.collision_check.proofs.Single.{same_follower}
 use Rattle.table_walk.specs.Reading.{has_tag, IsLeast, IsMember, member_at, IsReading, reading_of}
 use Rattle.table_walk.specs.Errors.{StructureError, faults_of, faults_at, at_place, open_faults, errors_of_placed, structure_errors_of}
 use Rattle.table_walk.specs.Errors.Fault.{Missing, Over}
-use Rattle.table_walk.proofs.Readings.{reading_is, reading_once}
+use Rattle.table_walk.proofs.Readings.{some_read, reading_is, reading_once}
 
 -- the only one of rank 0 is the least
 contains_tail : (x c : ℕ) (xs : List ℕ) → (x ≡ c → ⊥) → Contains (x ∷ xs) c → Contains xs c
@@ -183,3 +183,11 @@ module _ (nodes : List Node) (table : IsTable nodes) (none : collisions_of nodes
         is ∙ one,
         λ closed. ap (λ p. errors_of_placed nodes p closed) one ∙ placed_free nodes table none names entries derivation.placement derivation.complete closed,
       )
+
+module _ (nodes : List Node) (table : IsTable nodes) (none : collisions_of nodes ≡ []) (tags : List (Option Tag)) where
+  -- the same of the reading itself, since tags with a derivation are at least that of UNH
+  pub derived_reading : (names : List Tag) (entries : List ℕ) → map Some names ≡ tags → IsDerivation nodes names entries
+      → (reading_of nodes tags ≡ map Some entries) × ((closed : Bool) → structure_errors_of nodes tags closed ≡ [])
+  derived_reading names entries same derivation =
+      let reading : IsReading nodes tags (map Some entries) = subst (λ ts. IsReading nodes ts (map Some entries)) same (placement_is nodes table none names entries derivation.placement) in
+      derived nodes table none tags (reading_of nodes tags) refl (omega (arith, reading.long, some_read nodes tags (map Some entries) reading)) names entries same derivation

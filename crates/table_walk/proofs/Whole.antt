@@ -11,11 +11,11 @@ use Rattle.edi_tables.specs.Walk.{candidates_of, missing_between}
 use Rattle.edi_tables.specs.Placement.{last_placed, is_over, rank_of}
 use Rattle.edi_tables.specs.Filled.{is_filled}
 use Rattle.edi_tables.specs.Extents.{tag_in}
-use Rattle.table_walk.specs.Reading.{has_tag, IsMember, member_at, IsReading, member_of, reading_from, reading_of}
+use Rattle.table_walk.specs.Reading.{has_tag, IsMember, member_at, IsReading, first_free, member_of, reading_from, reading_of}
 use Rattle.table_walk.specs.Errors.{Fault, faults_of, faults_at}
 use Rattle.table_walk.specs.Errors.Fault.{Missing, Over, Unplaced}
 use Rattle.table_walk.proofs.Least.{least_first}
-use Rattle.table_walk.proofs.Readings.{member_is, reading_is, reading_once}
+use Rattle.table_walk.proofs.Readings.{member_is, some_read, reading_is, reading_once}
 use Rattle.table_walk.proofs.Turning.{drop_past}
 use Rattle.table_walk.proofs.Sound.{Sound, sound_member}
 
@@ -51,8 +51,10 @@ module _ (nodes : List Node) where
     pub whole_is : 0 < length tags → IsReading nodes tags placed
     whole_is some = subst (IsReading nodes tags) (sym is) (reading_is nodes tags some)
 
-    pub whole_once : 0 < length tags → (other : List (Option ℕ)) → IsReading nodes tags other → other ≡ placed
-    whole_once some other reading = reading_once nodes tags other placed reading (whole_is some)
+  -- there is no other reading
+  pub only_reading : (tags : List (Option Tag)) (other : List (Option ℕ)) → IsReading nodes tags other → other ≡ reading_of nodes tags
+  only_reading tags other reading =
+      reading_once nodes tags other (reading_of nodes tags) reading (reading_is nodes tags (omega (arith, reading.long, some_read nodes tags other reading)))
 
   no_fault : (fault : Fault) (faults : List Fault) → (fault ∷ faults) ≡ [] → ⊥
   no_fault fault faults none = cc
@@ -79,3 +81,9 @@ module _ (nodes : List Node) where
   pub first_place : (tags : List (Option Tag)) (placed : List (Option ℕ)) → IsReading nodes tags placed → (k : ℕ) → k + 1 < length placed → faults_at nodes placed (k + 1) ≡ []
       → member_at placed (k + 1) ≡ find (λ c. has_tag nodes (tag_in tags (k + 1)) c && rank_of nodes (take (k + 1) placed) c == 0) (candidates_of nodes (last_placed (take (k + 1) placed)))
   first_place tags placed reading k within none = first_by (take (k + 1) placed) (tag_in tags (k + 1)) (member_at placed (k + 1)) (reading.next k within) none
+
+  pub first_member : (tags : List (Option Tag)) (k : ℕ) → k + 1 < length (reading_of nodes tags) → faults_at nodes (reading_of nodes tags) (k + 1) ≡ []
+      → member_at (reading_of nodes tags) (k + 1) ≡ first_free nodes (take (k + 1) (reading_of nodes tags)) (tag_in tags (k + 1))
+  first_member [] k within none = absurd (omega arith)
+  first_member (tag ∷ tags) k within none =
+      first_place (tag ∷ tags) (reading_of nodes (tag ∷ tags)) (reading_is nodes (tag ∷ tags) (omega arith)) k within none

@@ -16,31 +16,31 @@ use std::alloc::{AllocError, Global};
 /// The reading of a message with these tags: the entry of each segment, or none. The first tag is that of UNH.
 ///
 /// It is slow, and shows what a reading is: each step looks at the whole list before it.
+#[tactic(auto, using(crate::proofs::Readings::reading_is, crate::proofs::Whole::only_reading, crate::proofs::Whole::first_member, crate::proofs::Derived::derived_reading))]
 pub fn read_tags(
     alloc: Global,
     table: &Table,
     tags: &[Option<Tag>],
 ) -> Result<Vec<Option<u16>>, AllocError>
     ensures value { IfOk result (λ placed. placed.items ≡ reading_of table.now tags.now) }
-    ensures reading { 0 < length tags.now → IfOk result
-        (λ placed. IsReading table.now tags.now placed.items) }
+    ensures reading { 0 < length tags.now
+        → IsReading table.now tags.now (reading_of table.now tags.now) }
     ensures only { (other : List (Option ℕ))
         → IsReading table.now tags.now other
-        → IfOk result (λ placed. other ≡ placed.items) }
+        → other ≡ reading_of table.now tags.now }
     // A segment with no error of its own is at the first candidate with its tag that has nothing missing and isn't over.
-    ensures first { IfOk result
-        (λ placed. (k : ℕ) → k + 1 < length placed.items
-        → faults_at table.now placed.items (k + 1) ≡ []
-        → member_at placed.items (k + 1)
-        ≡ first_free table.now (take (k + 1) placed.items) (tag_in tags.now (k + 1))) }
+    ensures first { let placed = reading_of table.now tags.now in
+        (k : ℕ) → k + 1 < length placed
+        → faults_at table.now placed (k + 1) ≡ []
+        → member_at placed (k + 1)
+        ≡ first_free table.now (take (k + 1) placed) (tag_in tags.now (k + 1)) }
     // Where the table lists no collision, a derivation is the reading of its tags, which has no structure error.
-    ensures derived { IfOk result
-        (λ placed. collisions_of table.now ≡ []
+    ensures derived { collisions_of table.now ≡ []
         → (names : List Tag)
         (entries : List ℕ) → map Some names ≡ tags.now
         → IsDerivation table.now names entries
-        → (placed.items ≡ map Some entries)
-        × ((closed : Bool) → structure_errors_of table.now tags.now closed ≡ [])) }
+        → (reading_of table.now tags.now ≡ map Some entries)
+        × ((closed : Bool) → structure_errors_of table.now tags.now closed ≡ []) }
 {
     if tags.is_empty() {
         return Ok(Vec::new(alloc));

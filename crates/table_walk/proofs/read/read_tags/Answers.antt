@@ -2,8 +2,9 @@ use Rattle.std.proofs.Common.{◌≡◌, ◌+◌, ◌-◌, ◌++◌, ◌∷◌, 
 use Rattle.edi_tables.specs.declared.tag.Tag.{Tag}
 use Rattle.table_walk.specs.Reading.{member_of, reading_from}
 use Rattle.table_walk.proofs.Sound.{Sound, sound_start}
-use Rattle.table_walk.proofs.Whole.{some_of, later_tags, read_all, read_more, sound_step, whole_is, whole_once, first_place}
-use Rattle.table_walk.proofs.Derived.{derived}
+use Rattle.table_walk.proofs.Whole.{some_of, later_tags, read_all, read_more, sound_step}
+use Rattle.table_walk.proofs.Readings.{reading_is}
+use Rattle.table_walk.proofs.Derived.{derived_reading}
 use Rattle.table_walk.proofs.read.read_tags.Goals as goal
 
 pub loop-tag-init : goal.loop-tag-init
@@ -31,29 +32,22 @@ loop-tag-preserved c =
           ∙ read_more nodes before rest i None c.loop-tag-test.true ∙ c.loop-tag.invariant.1,
     )
 
-pub returns-clause-reading : goal.returns-clause-reading
-returns-clause-reading c some =
+pub returns-clause-value : goal.returns-clause-value
+returns-clause-value c =
     let rest : List (Option Tag) = take (length c.args.tags.now - 1) (drop 1 c.args.tags.now) in
-    let is = sym (read_all c.args.table.now c.loop-tag.placed.items rest c.loop-tag.tag-index (omega (arith, c.loop-tag-test.false))) ∙ c.loop-tag.invariant.1 in
-    whole_is c.args.table.now c.args.tags.now c.loop-tag.placed.items is some
-
-pub returns-clause-only : goal.returns-clause-only
-returns-clause-only c =
-    let rest : List (Option Tag) = take (length c.args.tags.now - 1) (drop 1 c.args.tags.now) in
-    let is = sym (read_all c.args.table.now c.loop-tag.placed.items rest c.loop-tag.tag-index (omega (arith, c.loop-tag-test.false))) ∙ c.loop-tag.invariant.1 in
-    let some = some_of (length c.args.tags.now) (sym c.is_empty.ensures ∙ c.if-is_empty.false) in
-    whole_once c.args.table.now c.args.tags.now c.loop-tag.placed.items is some
-
-pub returns-clause-first : goal.returns-clause-first
-returns-clause-first c =
-    let rest : List (Option Tag) = take (length c.args.tags.now - 1) (drop 1 c.args.tags.now) in
-    let is = sym (read_all c.args.table.now c.loop-tag.placed.items rest c.loop-tag.tag-index (omega (arith, c.loop-tag-test.false))) ∙ c.loop-tag.invariant.1 in
-    let some = some_of (length c.args.tags.now) (sym c.is_empty.ensures ∙ c.if-is_empty.false) in
-    first_place c.args.table.now c.args.tags.now c.loop-tag.placed.items (whole_is c.args.table.now c.args.tags.now c.loop-tag.placed.items is some)
+    sym (read_all c.args.table.now c.loop-tag.placed.items rest c.loop-tag.tag-index (omega (arith, c.loop-tag-test.false))) ∙ c.loop-tag.invariant.1
 
 pub returns-clause-derived : goal.returns-clause-derived
-returns-clause-derived c none =
-    let rest : List (Option Tag) = take (length c.args.tags.now - 1) (drop 1 c.args.tags.now) in
-    let is = sym (read_all c.args.table.now c.loop-tag.placed.items rest c.loop-tag.tag-index (omega (arith, c.loop-tag-test.false))) ∙ c.loop-tag.invariant.1 in
-    let some = some_of (length c.args.tags.now) (sym c.is_empty.ensures ∙ c.if-is_empty.false) in
-    derived c.args.table.now c.len.ensures.lawful none c.args.tags.now c.loop-tag.placed.items is some
+returns-clause-derived c none = derived_reading c.args.table.now c.len.ensures.lawful none c.args.tags.now
+
+pub returns-in_err-placed-clause-reading : goal.returns-in_err-placed-clause-reading
+returns-in_err-placed-clause-reading c = reading_is c.args.table.now c.args.tags.now
+
+pub returns-in_err-placed-clause-derived : goal.returns-in_err-placed-clause-derived
+returns-in_err-placed-clause-derived c none = derived_reading c.args.table.now c.len.ensures.lawful none c.args.tags.now
+
+pub returns-in_err-push-2-clause-reading : goal.returns-in_err-push-2-clause-reading
+returns-in_err-push-2-clause-reading c = reading_is c.args.table.now c.args.tags.now
+
+pub returns-in_err-push-2-clause-derived : goal.returns-in_err-push-2-clause-derived
+returns-in_err-push-2-clause-derived c none = derived_reading c.args.table.now c.len.ensures.lawful none c.args.tags.now

@@ -18,7 +18,7 @@ use Rattle.edi_tables.proofs.MissingLaws.{passes_must}
 use Rattle.edi_tables.proofs.Rising.{IsRising, misses_on}
 use Rattle.collision_check.specs.declared.marks.Met.{Met}
 use Rattle.collision_check.specs.declared.marks.Mark.{Mark}
-use Rattle.collision_check.specs.Marks.{number_among, number_of, number_at, numbers_of, met_next, met_once, met_in, mark_at, IsFresh, MeetsNumber}
+use Rattle.collision_check.specs.Marks.{number_among, number_of, number_at, numbers_of, met_next, met_once, met_in, mark_at, IsFresh, only_met, marks_after}
 use Rattle.collision_check.proofs.Pairs.{Meets, IsKnown, first_pair, pair_here, known_here, flat_map_push}
 use Rattle.collision_check.proofs.Marking.{among_is, one_tag, has_number}
 
@@ -49,13 +49,17 @@ told_now entry met = ap (λ b. if b then Some met else None) (eq-eqb entry entry
 told_later : (entry later : ℕ) (met : Met) → entry < later → met_in later (Some (record { entry = entry; met = met })) ≡ None
 told_later entry later met before = ap (λ b. if b then Some met else None) (ne_eqb entry later (λ same. omega arith))
 
+-- a follower is met whose tag has this number, or none: what is told of it, and the marks after it
+abbrev pub MeetsNumber : ℕ → ℕ → List (Option Mark) → List (Option Mark) × Option ℕ → Option ℕ → Type 0
+MeetsNumber f c old made number = (made.1 ≡ only_met f old number) × (made.0 ≡ marks_after f c old number)
+
 module _ (nodes : List Node) (f c : ℕ) (old new : List (Option Mark)) (first : Option ℕ) where
   -- the mark that is set
   abbrev set_mark : ℕ → Option Mark
   set_mark n = Some (record { entry = f; met = met_next (met_in f (mark_at old n)) c })
 
   -- the mark of a tag changes as what is known of it does
-  met_tag : (tag : Tag) (n : ℕ) → number_among nodes (length nodes) tag.octets ≡ Some n → n < length old → MeetsNumber (Some n) f c old new first
+  met_tag : (tag : Tag) (n : ℕ) → number_among nodes (length nodes) tag.octets ≡ Some n → n < length old → MeetsNumber f c old (new, first) (Some n)
       → (octets : List ℕ) (found : Option ℕ) → number_among nodes (length nodes) octets ≡ found
       → told found f new ≡ cond (bytes_eq tag.octets octets) (Some (met_next (known_of nodes f old tag.octets) c)) (told found f old)
   met_tag tag n is within meets octets None found = sym (ap (λ b. cond b (Some (met_next (known_of nodes f old tag.octets) c)) None) (differ (bytes_eq tag.octets octets) refl))
@@ -86,7 +90,7 @@ module _ (nodes : List Node) (f c : ℕ) (old new : List (Option Mark)) (first :
       apart m differ found false same = same
       apart m differ found true same = absurd (differ (some_same n m (sym is ∙ ap (λ (o : List ℕ). number_among nodes (length nodes) o) ((bytes_eq-Decides tag.octets octets).0 same) ∙ found)))
 
-  met_by : c < length nodes → (tag : Option Tag) → tag_at nodes c ≡ tag → (number : Option ℕ) → number_of nodes tag ≡ number → ForSome number (λ n. n < length old) → MeetsNumber number f c old new first
+  met_by : c < length nodes → (tag : Option Tag) → tag_at nodes c ≡ tag → (number : Option ℕ) → number_of nodes tag ≡ number → ForSome number (λ n. n < length old) → MeetsNumber f c old (new, first) number
       → Meets tag c (known_of nodes f old) (known_of nodes f new) first
   met_by inside None at None is within meets = (meets.0, λ octets. ap (λ (marks : List (Option Mark)). known_of nodes f marks octets) meets.1)
   met_by inside None at (Some n) is within meets = absurd (let no : ⊥ = cc in no)
@@ -96,10 +100,10 @@ module _ (nodes : List Node) (f c : ℕ) (old new : List (Option Mark)) (first :
     λ octets. met_tag tag n is (within n refl) meets octets (number_among nodes (length nodes) octets) refl,
   )
 
-  pub met_here : c < length nodes → ForSome (number_at nodes c) (λ n. n < length old) → MeetsNumber (number_at nodes c) f c old new first → Meets (tag_at nodes c) c (known_of nodes f old) (known_of nodes f new) first
+  pub met_here : c < length nodes → ForSome (number_at nodes c) (λ n. n < length old) → MeetsNumber f c old (new, first) (number_at nodes c) → Meets (tag_at nodes c) c (known_of nodes f old) (known_of nodes f new) first
   met_here inside within meets = met_by inside (tag_at nodes c) refl (number_at nodes c) refl within meets
 
-  fresh_by : (number : Option ℕ) → ForSome number (λ n. n < length old) → MeetsNumber number f c old new first → IsFresh (f + 1) old → IsFresh (f + 1) new
+  fresh_by : (number : Option ℕ) → ForSome number (λ n. n < length old) → MeetsNumber f c old (new, first) number → IsFresh (f + 1) old → IsFresh (f + 1) new
   fresh_by None within meets fresh entry n from = ap (λ (marks : List (Option Mark)). met_in entry (mark_at marks n)) meets.1 ∙ fresh entry n from
   fresh_by (Some m) within meets fresh entry n from = elim (cases_eq m n) [
     | inl same ↦ ap (λ (marks : List (Option Mark)). met_in entry (mark_at marks n)) meets.1 ∙ ap (λ (k : ℕ). met_in entry (mark_at (slice_set old m (set_mark m)) k)) (sym same)
@@ -107,7 +111,7 @@ module _ (nodes : List Node) (f c : ℕ) (old new : List (Option Mark)) (first :
     | inr differ ↦ ap (λ (marks : List (Option Mark)). met_in entry (mark_at marks n)) meets.1 ∙ ap (met_in entry) (mark_kept old m n (set_mark m) differ) ∙ fresh entry n from
   ]
 
-  long_by : (number : Option ℕ) → MeetsNumber number f c old new first → length new ≡ length old
+  long_by : (number : Option ℕ) → MeetsNumber f c old (new, first) number → length new ≡ length old
   long_by None meets = ap length meets.1
   long_by (Some m) meets = ap length meets.1 ∙ length-set old m (set_mark m)
 
@@ -196,7 +200,7 @@ module _ (nodes : List Node) (f : ℕ) where
 
   -- a follower is met
   pub met_take : (c : ℕ) (left more : List ℕ) (pairs made : List (ℕ × ℕ)) (marks new : List (Option Mark)) (first : Option ℕ) → left ≡ c ∷ more → c < length nodes → is_follower nodes f c ≡ true
-      → MeetsNumber (number_at nodes c) f c marks new first → made ≡ pairs ++ first_pair first c → IsMet nodes f left pairs marks → IsMet nodes f more made new
+      → MeetsNumber f c marks (new, first) (number_at nodes c) → made ≡ pairs ++ first_pair first c → IsMet nodes f left pairs marks → IsMet nodes f more made new
   met_take c left more pairs made marks new first is inside follows meets push met =
       let whole : List ℕ = followers_of nodes f in
       let here = dropped whole met.count c (filter (is_follower nodes f) more)

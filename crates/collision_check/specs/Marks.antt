@@ -60,12 +60,16 @@ mark_at marks n = unwrap_or (slice_get marks n) None
 abbrev pub IsFresh : ℕ → List (Option Mark) → Type 0
 IsFresh from marks = (entry n : ℕ) → from ≤ entry → met_in entry (mark_at marks n) ≡ None
 
--- a follower is met whose tag has this number: the mark of the tag changes, and no other
-abbrev pub MeetsNumber : Option ℕ → ℕ → ℕ → List (Option Mark) → List (Option Mark) → Option ℕ → Type 0
-MeetsNumber None entry follower old new first = (first ≡ None) × (new ≡ old)
-MeetsNumber (Some n) entry follower old new first =
-    (first ≡ met_once (met_in entry (mark_at old n)))
-    × (new ≡ slice_set old n (Some (record { entry = entry; met = met_next (met_in entry (mark_at old n)) follower })))
+-- the only follower of an entry that was met with the tag of this number; a group has no number
+abbrev pub only_met : ℕ → List (Option Mark) → Option ℕ → Option ℕ
+only_met entry marks None = None
+only_met entry marks (Some n) = met_once (met_in entry (mark_at marks n))
+
+-- the marks after one follower more of an entry, with the tag of this number: the mark of the tag changes, and no other
+abbrev pub marks_after : ℕ → ℕ → List (Option Mark) → Option ℕ → List (Option Mark)
+marks_after entry follower marks None = marks
+marks_after entry follower marks (Some n) =
+    slice_set marks n (Some (record { entry = entry; met = met_next (met_in entry (mark_at marks n)) follower }))
 
 -- a node's tag is numbered by the first node with it, as looked up by its octets
 abbrev pub Numbers : Option Tag → ℕ → (Octets → Option ℕ) → (Octets → Option ℕ) → Option ℕ → Type 0

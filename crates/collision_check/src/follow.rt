@@ -2,7 +2,7 @@
 ghost use Rattle.std.specs.Prelude.{◌≡◌, ◌<◌, ◌+◌, None, IfOk, length, slice_index_or};
 ghost use Rattle.std.specs.Option.{ForSome};
 ghost use Rattle.edi_tables.specs.Collisions.{followers_of, may_stand_again, shared_pairs};
-ghost use Rattle.collision_check.specs.Marks.{IsFresh, MeetsNumber, numbers_of};
+ghost use Rattle.collision_check.specs.Marks.{IsFresh, marks_after, numbers_of, only_met};
 
 use crate::marks::{Mark, meet};
 use edi_tables::Table;
@@ -52,8 +52,10 @@ fn first_met(
     requires within { follower < length numbers.now }
     requires marked { ForSome (slice_index_or numbers.now follower None)
         (λ n. n < length marks.old) }
-    ensures { MeetsNumber (slice_index_or numbers.now follower None) entry follower
-        marks.old marks.new result }
+    ensures first { result
+        ≡ only_met entry marks.old (slice_index_or numbers.now follower None) }
+    ensures marks { marks.new
+        ≡ marks_after entry follower marks.old (slice_index_or numbers.now follower None) }
 {
     match numbers[usize::from(follower)] {
         Some(number) => meet(marks, entry, number, follower),

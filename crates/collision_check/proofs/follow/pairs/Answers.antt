@@ -6,8 +6,8 @@ use Rattle.edi_tables.specs.Filled.{is_filled}
 use Rattle.edi_tables.specs.Walk.{missing_between, reached_node}
 use Rattle.edi_tables.specs.Collisions.{is_follower, may_stand_again}
 use Rattle.edi_tables.proofs.Rising.{rising_pairs}
-use Rattle.collision_check.specs.Marks.{MeetsNumber, number_at}
-use Rattle.collision_check.proofs.Meeting.{IsMet, met_begin, met_inside, met_skip, met_take, met_stop, met_all, number_read, number_marked, length-numbers}
+use Rattle.collision_check.specs.Marks.{number_at}
+use Rattle.collision_check.proofs.Meeting.{MeetsNumber, IsMet, met_begin, met_inside, met_skip, met_take, met_stop, met_all, number_read, number_marked, length-numbers}
 use Rattle.collision_check.proofs.Pairs.{first_pair}
 use Rattle.collision_check.proofs.follow.pairs.Goals as goal
 
@@ -43,8 +43,8 @@ loop-candidate-preserved-in-Continue-1 c =
     let within = met_inside nodes c.args.entry c.in-Some.candidate c.loop-candidate.candidate-iterator c.next.new.self c.loop-candidate.pairs.items c.loop-candidate.marks c.in-Some.ensures.steps c.loop-candidate.invariant in
     let missing : is_filled (missing_between nodes c.args.entry c.in-Some.candidate) ≡ false = sym c.misses.ensures ∙ c.if-misses.false in
     let again : may_stand_again nodes c.args.entry c.in-Some.candidate ≡ true = sym c.may_stand_again.ensures ∙ c.if-may_stand_again.true in
-    let meets : MeetsNumber (number_at nodes c.in-Some.candidate) c.args.entry c.in-Some.candidate c.loop-candidate.marks c.first_met.new.marks c.first_met.result =
-    subst (λ found. MeetsNumber found c.args.entry c.in-Some.candidate c.loop-candidate.marks c.first_met.new.marks c.first_met.result) (number_read nodes c.args.numbers.now c.in-Some.candidate c.requires.numbers within) c.first_met.ensures in
+    let meets : MeetsNumber c.args.entry c.in-Some.candidate c.loop-candidate.marks (c.first_met.new.marks, c.first_met.result) (number_at nodes c.in-Some.candidate) =
+    subst (MeetsNumber c.args.entry c.in-Some.candidate c.loop-candidate.marks (c.first_met.new.marks, c.first_met.result)) (number_read nodes c.args.numbers.now c.in-Some.candidate c.requires.numbers within) (c.first_met.ensures.first, c.first_met.ensures.marks) in
     met_take nodes c.args.entry c.in-Some.candidate c.loop-candidate.candidate-iterator c.next.new.self c.loop-candidate.pairs.items c.push.new.self.items c.loop-candidate.marks c.first_met.new.marks c.first_met.result
     c.in-Some.ensures.steps within (ap (λ b. not b && may_stand_again nodes c.args.entry c.in-Some.candidate) missing ∙ again) meets
     (c.in_ok-push.ensures.items ∙ ap (λ found. c.loop-candidate.pairs.items ++ first_pair found c.in-Some.candidate) (sym c.in-Some-first_met.is)) c.loop-candidate.invariant
@@ -55,8 +55,8 @@ loop-candidate-preserved-in_default c =
     let within = met_inside nodes c.args.entry c.in-Some.candidate c.loop-candidate.candidate-iterator c.next.new.self c.loop-candidate.pairs.items c.loop-candidate.marks c.in-Some.ensures.steps c.loop-candidate.invariant in
     let missing : is_filled (missing_between nodes c.args.entry c.in-Some.candidate) ≡ false = sym c.misses.ensures ∙ c.if-misses.false in
     let again : may_stand_again nodes c.args.entry c.in-Some.candidate ≡ true = sym c.may_stand_again.ensures ∙ c.if-may_stand_again.true in
-    let meets : MeetsNumber (number_at nodes c.in-Some.candidate) c.args.entry c.in-Some.candidate c.loop-candidate.marks c.first_met.new.marks c.first_met.result =
-    subst (λ found. MeetsNumber found c.args.entry c.in-Some.candidate c.loop-candidate.marks c.first_met.new.marks c.first_met.result) (number_read nodes c.args.numbers.now c.in-Some.candidate c.requires.numbers within) c.first_met.ensures in
+    let meets : MeetsNumber c.args.entry c.in-Some.candidate c.loop-candidate.marks (c.first_met.new.marks, c.first_met.result) (number_at nodes c.in-Some.candidate) =
+    subst (MeetsNumber c.args.entry c.in-Some.candidate c.loop-candidate.marks (c.first_met.new.marks, c.first_met.result)) (number_read nodes c.args.numbers.now c.in-Some.candidate c.requires.numbers within) (c.first_met.ensures.first, c.first_met.ensures.marks) in
     met_take nodes c.args.entry c.in-Some.candidate c.loop-candidate.candidate-iterator c.next.new.self c.loop-candidate.pairs.items c.loop-candidate.pairs.items c.loop-candidate.marks c.first_met.new.marks c.first_met.result
     c.in-Some.ensures.steps within (ap (λ b. not b && may_stand_again nodes c.args.entry c.in-Some.candidate) missing ∙ again) meets
     (sym (append-nil c.loop-candidate.pairs.items) ∙ ap (λ found. c.loop-candidate.pairs.items ++ first_pair found c.in-Some.candidate) (sym c.in_default.is)) c.loop-candidate.invariant

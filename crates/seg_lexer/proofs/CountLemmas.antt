@@ -23,10 +23,10 @@ length-places_that p a b =
     omega arith
 
 module _ (sp : Separators) (xs : List ℕ) where
-  length-components_in : (element c a b : ℕ) → length (components_in sp xs element c a b) ≤ (b - a) + 1
+  length-components_in : (element c a b : ℕ) → length (components_in sp xs element c (record { from = a; to = b })) ≤ (b - a) + 1
   length-components_in element c a b =
       let cuts : List ℕ = places_that (is_cut sp.release xs sp.component) a b in
-      let all : length (components_in sp xs element c a b) ≡ length (enumerate_from c (stretches a cuts b)) = length-map (enumerate_from c (stretches a cuts b)) (component_in sp.release xs element) in
+      let all : length (components_in sp xs element c (record { from = a; to = b })) ≡ length (enumerate_from c (stretches a cuts b)) = length-map (enumerate_from c (stretches a cuts b)) (component_in sp.release xs element) in
       let numbered : length (enumerate_from c (stretches a cuts b)) ≡ length (stretches a cuts b) = length-enumerate_from c (stretches a cuts b) in
       let parts : length (stretches a cuts b) ≡ length cuts + 1 = length-stretches a cuts b in
       let few : length cuts ≤ b - a = length-places_that (is_cut sp.release xs sp.component) a b in
@@ -40,8 +40,8 @@ module _ (sp : Separators) (xs : List ℕ) where
   unfolding stretches
   length-components p element s a zero b low all =
       let one = length-components_in element 1 s b in
-      let joined : length (components_in sp xs element 1 s b ++ []) ≡ length (components_in sp xs element 1 s b) + 0 =
-      length-append (components_in sp xs element 1 s b) [] in
+      let joined : length (components_in sp xs element 1 (record { from = s; to = b }) ++ []) ≡ length (components_in sp xs element 1 (record { from = s; to = b })) + 0 =
+      length-append (components_in sp xs element 1 (record { from = s; to = b })) [] in
       omega arith
   length-components p element s a (suc n) b low all =
       let later : List ℕ = filter p (range_with_len (a + 1) n) in
@@ -49,9 +49,9 @@ module _ (sp : Separators) (xs : List ℕ) where
       (λ _.
       let first = length-components_in element 1 s a in
       let rest = length-components p (element + 1) (a + 1) (a + 1) n b (omega arith) (omega arith) in
-      let joined : length (components_in sp xs element 1 s a ++ components (enumerate_from (element + 1) (stretches (a + 1) later b)))
-      ≡ length (components_in sp xs element 1 s a) + length (components (enumerate_from (element + 1) (stretches (a + 1) later b))) =
-      length-append (components_in sp xs element 1 s a) (components (enumerate_from (element + 1) (stretches (a + 1) later b))) in
+      let joined : length (components_in sp xs element 1 (record { from = s; to = a }) ++ components (enumerate_from (element + 1) (stretches (a + 1) later b)))
+      ≡ length (components_in sp xs element 1 (record { from = s; to = a })) + length (components (enumerate_from (element + 1) (stretches (a + 1) later b))) =
+      length-append (components_in sp xs element 1 (record { from = s; to = a })) (components (enumerate_from (element + 1) (stretches (a + 1) later b))) in
       omega arith)
       (λ _. length-components p element s (a + 1) n b (omega arith) (omega arith))
 

@@ -29,7 +29,7 @@ unfolding fields_from fields_of
 fields_of-from sp xs = fields_after-whole sp xs (enumerate_from 0 (cut sp.release xs sp.element 0 (length xs)))
 
 module _ (sp : Separators) (xs : List ℕ) (element c a : ℕ) where
-  one-component : (b : ℕ) → Nowhere (λ i. is_cut sp.release xs sp.component i ≡ true) a b → components_in sp xs element c a b ≡ component_in sp.release xs element (c, record { from = a; to = b }) ∷ []
+  one-component : (b : ℕ) → Nowhere (λ i. is_cut sp.release xs sp.component i ≡ true) a b → components_in sp xs element c (record { from = a; to = b }) ≡ component_in sp.release xs element (c, record { from = a; to = b }) ∷ []
   one-component b none = ap (λ ss. map (component_in sp.release xs element) (enumerate_from c ss)) (cut-none sp.release xs sp.component a b none)
 
   -- the last component
@@ -51,7 +51,7 @@ module _ (sp : Separators) (xs : List ℕ) (element c a : ℕ) where
       ∙ ap (λ fs. component_in sp.release xs element (c, record { from = a; to = j }) ∷ fs) (sym (fields_after-whole sp xs later)))
 
   component-first : (j b : ℕ) → a ≤ j → j < b → Nowhere (λ i. is_cut sp.release xs sp.component i ≡ true) a j → is_cut sp.release xs sp.component j ≡ true
-      → components_in sp xs element c a b ≡ component_in sp.release xs element (c, record { from = a; to = j }) ∷ components_in sp xs element (c + 1) (j + 1) b
+      → components_in sp xs element c (record { from = a; to = b }) ≡ component_in sp.release xs element (c, record { from = a; to = j }) ∷ components_in sp xs element (c + 1) (record { from = j + 1; to = b })
   component-first j b low high none here = ap (λ ss. map (component_in sp.release xs element) (enumerate_from c ss)) (cut-first sp.release xs sp.component a j b low high none here)
 
   -- where the next element begins makes no difference to the first component

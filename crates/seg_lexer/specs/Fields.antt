@@ -47,14 +47,14 @@ abbrev pub component_in : Option ℕ → Octets → ℕ → ℕ × Stretch → P
 component_in release xs element p =
     record { element = element; component = p.0; place = p.1; octets = value_of release (octets_in xs p.1) }
 
--- the components of the stretch a..b, which belongs to an element, numbered from c
-abbrev pub components_in : Separators → Octets → ℕ → ℕ → ℕ → ℕ → List PlacedComponent
-components_in sp xs element c a b =
-    map (component_in sp.release xs element) (enumerate_from c (cut sp.release xs sp.component a b))
+-- the components of a stretch, which belongs to an element, numbered from c
+abbrev pub components_in : Separators → Octets → ℕ → ℕ → Stretch → List PlacedComponent
+components_in sp xs element c p =
+    map (component_in sp.release xs element) (enumerate_from c (cut sp.release xs sp.component p.from p.to))
 
 -- all components of an element that is this stretch of the segment, by its number
 abbrev pub element_in : Separators → Octets → ℕ × Stretch → List PlacedComponent
-element_in sp xs p = components_in sp xs p.0 1 p.1.from p.1.to
+element_in sp xs p = components_in sp xs p.0 1 p.1
 
 -- every component of a segment, empty ones too, in order: the tag field is element 0,
 -- and components are numbered from 1 in each element

@@ -17,7 +17,7 @@ AreApart sp = ForSome sp.release (λ r. (sp.element ≢ r) × (sp.component ≢ 
 -- and those of the later elements
 abbrev pub fields_after : Separators → Octets → ℕ → List (ℕ × Stretch) → List PlacedComponent
 fields_after sp xs c [] = []
-fields_after sp xs c (p ∷ ps) = components_in sp xs p.0 c p.1.from p.1.to ++ flat_map (element_in sp xs) ps
+fields_after sp xs c (p ∷ ps) = components_in sp xs p.0 c p.1 ++ flat_map (element_in sp xs) ps
 
 -- the components of a segment from component c of an element on, which begins at place a
 unfoldable pub fields_from : Separators → Octets → ℕ → ℕ → ℕ → List PlacedComponent

@@ -44,16 +44,16 @@ tail_of s text =
 abbrev pub IsBoundary : Service → Octets → ℕ → Type 0
 IsBoundary s text from = (k : ℕ) × (slice_get (boundaries_of s text) k ≡ Some from)
 
--- segment k is start..end, it begins at or after place `from`, and boundary k + 1 is the place after its end
-pub record IsSegment (s : Service) (text : Octets) (k from start end : ℕ) : Type 0 where
-  pub segment : slice_get (segments_of s text) k ≡ Some (record { from = start; to = end })
-  pub next : slice_get (boundaries_of s text) (k + 1) ≡ Some (end + 1)
-  pub low : from ≤ start
-  pub ordered : start ≤ end
-  pub within : end < length text
+-- segment k is this stretch, it begins at or after place `from`, and boundary k + 1 is the place after its end
+pub record IsSegment (s : Service) (text : Octets) (k from : ℕ) (place : Stretch) : Type 0 where
+  pub segment : slice_get (segments_of s text) k ≡ Some place
+  pub next : slice_get (boundaries_of s text) (k + 1) ≡ Some (place.to + 1)
+  pub low : from ≤ place.from
+  pub ordered : place.from ≤ place.to
+  pub within : place.to < length text
 
 -- what is found at boundary k, which is the place `from`: segment k; or, after the last segment, the tail or nothing
 abbrev pub IsLexed : Service → Octets → ℕ → ℕ → Lexed → Type 0
-IsLexed s text k from (Ended start end) = IsSegment s text k from start end
+IsLexed s text k from (Ended start end) = IsSegment s text k from (record { from = start; to = end })
 IsLexed s text k from (Tail start) = (length (segments_of s text) ≡ k) × (tail_of s text ≡ Some start)
 IsLexed s text k from Nothing = (length (segments_of s text) ≡ k) × (tail_of s text ≡ None)

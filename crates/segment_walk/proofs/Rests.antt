@@ -108,7 +108,7 @@ module _ (s : Service) (text : List ℕ) (usable : IsUsable s text) (k from : �
       ∙ drop_at (segments_by s (take from text)) _ k before_count
 
   -- the segment that ends next
-  segment_is : (start end : ℕ) → IsSegment s text k from start end → slice_get (segments_by s text) k ≡ Some (segment_read s text from start end)
+  segment_is : (start end : ℕ) → IsSegment s text k from (record { from = start; to = end }) → slice_get (segments_by s text) k ≡ Some (segment_read s text from start end)
   unfolding segments_of segments_by
   segment_is start end it =
       let got = mapped_some (segment_in text) (slice_get (zip (boundaries_of s text) (ends_of s text)) k) (record { from = start; to = end })
@@ -136,7 +136,7 @@ module _ (dir : Parts) (context : Context) (text : List ℕ) (usable : IsUsable 
       ∙ kept_moved dir context n before (segments_by (at_start s) (drop from text))
 
   -- what is kept of the next segment, and of the octets after it
-  pub records_next : (before : Mode) (start end : ℕ) → IsSegment context.service text k from start end
+  pub records_next : (before : Mode) (start end : ℕ) → IsSegment context.service text k from (record { from = start; to = end })
       → records_from dir context before (drop from text)
       ≡ kept_of dir context before (segment_read context.service text from start end)
       ∷ kept_from dir context (step_of dir before (segment_read context.service text from start end)).after (drop (k + 1) (segments_by context.service text))
@@ -161,7 +161,7 @@ abbrev pub rest_count : Service → List ℕ → ℕ → ℕ
 rest_count s text from = length (segments_by (at_start s) (drop from text))
 
 module _ (dir : Parts) (context : Context) (text : List ℕ) (usable : IsUsable context.service text) (before first : Mode) (from start end : ℕ)
-    (boundary : IsBoundary context.service text from) (it : IsSegment context.service text boundary.0 from start end) where
+    (boundary : IsBoundary context.service text from) (it : IsSegment context.service text boundary.0 from (record { from = start; to = end })) where
   abbrev segment : Segment
   segment = segment_read context.service text from start end
 

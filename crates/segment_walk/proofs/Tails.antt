@@ -18,7 +18,7 @@ last_at s text from is =
     slice_get-get_or (s.body ∷ map (λ e. e + 1) (ends_of s text)) (length (ends_of s text)) 0 (omega arith) ∙ ap Some (sym is)
 
 -- after it there is no segment
-pub none_past : (s : Service) (text : List ℕ) (from start end : ℕ) → IsSegment s text (length (ends_of s text)) from start end → ⊥
+pub none_past : (s : Service) (text : List ℕ) (from start end : ℕ) → IsSegment s text (length (ends_of s text)) from (record { from = start; to = end }) → ⊥
 none_past s text from start end it =
     let within = slice_get_within (segments_of s text) (length (ends_of s text)) _ it.segment in
     let count = same_count s text in

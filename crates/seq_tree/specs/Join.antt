@@ -1,3 +1,4 @@
+-- How high two trees are that are joined.
 use Rattle.std.specs.Prelude.{◌≡◌, ℕ, ◌+◌, ◌≤◌, max}
 use Rattle.seq_tree.specs.Shape.{IsBalancedPair}
 

@@ -1,3 +1,4 @@
+-- What a sequence is seen as.
 use Rattle.std.specs.Prelude.{ℕ, Option, Some, None, List, []}
 
 -- the items of a sequence: none, or those of its tree

@@ -1,4 +1,9 @@
+-- The shape of balanced trees: how high they are, how many items fill a height, and how many a leaf has.
 use Rattle.std.specs.Prelude.{ℕ, ◌+◌, ◌/◌, ◌^◌, ◌≤◌}
+
+-- the most items of a leaf, and of the list that it is a part of
+abbrev pub longest_run : ℕ
+longest_run = 16
 
 -- the heights of the two sides of a fork: neither is more than one level above the other
 abbrev pub IsBalancedPair : ℕ → ℕ → Type 0

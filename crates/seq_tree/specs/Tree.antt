@@ -1,3 +1,4 @@
+-- For bodies and their invariants: the items of a node, and what a tree keeps of them.
 use Rattle.std.specs.Prelude.{◌≡◌, ℕ, ◌+◌, ◌*◌, ◌^◌, ◌<◌, ◌≤◌, max, List, ◌++◌, length, sum_by}
 use Rattle.seq_tree.specs.declared.tree.Node.{Node}
 use Rattle.seq_tree.specs.declared.tree.Node.TheVariants.{Leaf, Fork}

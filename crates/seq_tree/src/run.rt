@@ -1,14 +1,21 @@
-//! Items that lie side by side in a list, which other runs share.
+//! Items that lie side by side in a short list, which other runs share.
 
 ghost use Rattle.std.specs.Prelude.{◌≡◌, ◌+◌, ◌*◌, ◌^◌, ◌<◌, ◌≤◌, length, take, drop, sum_by, slice_get, slice_range, Some, IfOk};
+ghost use Rattle.seq_tree.specs.Shape.{longest_run};
 
 use crate::look::Located;
 use crate::measure::Measured;
-use std::alloc::AllocError;
+use std::alloc::{AllocError, Global};
 use std::marker::Model;
 use std::rc::Rc;
 
+/// The most items of a list: `longest_run` of the definitions. More make fewer nodes, and a longer way in a leaf.
+pub(crate) const LONGEST_RUN: usize = 16;
+
 /// One item or more, side by side in a list that is shared, seen as these items.
+///
+/// The whole list has at most `LONGEST_RUN` items. So a look through a leaf is short, and a run keeps few items alive that
+/// aren't its own.
 #[derive(Drop)]
 pub(crate) struct Run<T: Measured> {
     list: Rc<Vec<T>>,
@@ -18,21 +25,38 @@ pub(crate) struct Run<T: Measured> {
 
 impl<T: Measured> Model for Run<T> {
     ghost use Rattle.std.specs.Prelude.{List, slice_range, length, ◌<◌, ◌≤◌};
+    ghost use Rattle.seq_tree.specs.Shape.{longest_run};
 
     ghost Value = { List T };
 
     ghost view = { λ run. slice_range run.list.value.items run.from run.to };
 
-    ghost invariant = { λ run. (run.from < run.to) × (run.to ≤ length run.list.value.items) };
+    ghost invariant = { λ run. (run.from < run.to)
+        × (run.to ≤ length run.list.value.items)
+        × (length run.list.value.items ≤ longest_run) };
 }
 
 impl<T: Measured> Run<T> {
+    /// All items of a list. After an error they are dropped.
+    pub fn of_list(alloc: Global, items: Vec<T>) -> Result<Run<T>, AllocError>
+        requires some { 0 < length items.items }
+        requires few { length items.items ≤ longest_run }
+        ensures { IfOk result (λ run. run ≡ items.items) }
+    {
+        let to = items.len() as u32;
+        Ok(Run {
+            list: Rc::new(alloc, items)?,
+            from: 0,
+            to,
+        })
+    }
+
     /// The items of this list from place `from` up to place `to`. It takes no memory: the error is that of an `Rc` whose
     /// count is full.
-    pub fn of(list: &Rc<Vec<T>>, from: usize, to: usize) -> Result<Run<T>, AllocError>
+    fn of(list: &Rc<Vec<T>>, from: usize, to: usize) -> Result<Run<T>, AllocError>
         requires some { from < to }
         requires within { to ≤ length list.now.value.items }
-        requires fits { to < 2 ^ 32 }
+        requires few { length list.now.value.items ≤ longest_run }
         ensures { IfOk result (λ run. run ≡ slice_range list.now.value.items from to) }
     {
         Ok(Run {
@@ -46,7 +70,7 @@ impl<T: Measured> Run<T> {
     pub fn items(&self) -> &[T]
         ensures is { result.now ≡ self.now }
         ensures some { 0 < length self.now }
-        ensures fits { length self.now < 2 ^ 32 }
+        ensures few { length self.now ≤ longest_run }
     {
         &self.list.as_slice()[self.from as usize..self.to as usize]
     }
@@ -71,9 +95,9 @@ impl<T: Measured> Run<T> {
     }
 }
 
-/// What items weigh together.
+/// What items of a leaf weigh together.
 pub(crate) fn weigh<T: Measured>(items: &[T]) -> u64
-    requires { length items.now < 2 ^ 32 }
+    requires few { length items.now ≤ longest_run }
     ensures is { result ≡ sum_by T.measure items.now }
     ensures bound { result ≤ 4294967295 * length items.now }
 {
@@ -84,8 +108,9 @@ pub(crate) fn weigh<T: Measured>(items: &[T]) -> u64
     total
 }
 
-/// The first of these items up to which, itself included, they weigh more than `bound`.
+/// The first of a leaf's items up to which, itself included, they weigh more than `bound`.
 pub(crate) fn locate_in<T: Measured>(items: &[T], bound: u64) -> Located<'_, T>
+    requires few { length items.now ≤ longest_run }
     requires below { bound < sum_by T.measure items.now }
     ensures is { slice_get items.now result.place ≡ Some result.item.now }
     ensures offset { sum_by T.measure (take result.place items.now) + result.offset ≡ bound }

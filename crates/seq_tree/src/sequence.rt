@@ -5,20 +5,20 @@ ghost use Rattle.std.specs.Prelude.{◌≡◌, ℕ, ◌+◌, ◌-◌, ◌*◌, �
 use crate::join::join;
 use crate::look::Located;
 use crate::measure::Measured;
-use crate::run::Run;
+use crate::run::{LONGEST_RUN, Run};
 use crate::tree::{Node, Tree};
 use crate::walk::Iter;
 use std::alloc::{AllocError, Global};
 use std::fmt::{self, Debug, Formatter, Write};
 use std::marker::Model;
-use std::rc::Rc;
 use std::sync::ledger::Ledger;
 use step_counter::Steps;
 
 /// Weighed items in order, fewer than 2^32 of them, seen as their list.
 ///
 /// A call that edits makes a new version and leaves the old one as it was: the two share their nodes, and no item is cloned.
-/// So after an error each version is still what it was.
+/// So after an error each version is still what it was. Items lie in lists of at most 16: a version keeps no others alive than
+/// those in the lists of its own items.
 pub struct Seq<T: Measured> {
     root: Option<Tree<T>>,
 }
@@ -49,7 +49,7 @@ impl<T: Measured + Debug> Debug for Seq<T> {
 
 impl<T: Measured> Seq<T> {
     /// A sequence of these items, in their order. After an error they are dropped.
-    pub fn of_items(alloc: Global, items: Vec<T>) -> Result<Seq<T>, AllocError>
+    pub fn of_items(alloc: Global, mut items: Vec<T>) -> Result<Seq<T>, AllocError>
         requires { length items.items < 2 ^ 32 }
         ensures { IfOk result (λ s. s ≡ items.items) }
     {
@@ -57,8 +57,7 @@ impl<T: Measured> Seq<T> {
         if n == 0 {
             return Ok(Seq { root: None });
         }
-        let list = Rc::new(alloc, items)?;
-        let root = build(alloc, &list, 0, n)?;
+        let root = build(alloc, &mut items, n)?;
         Ok(Seq { root: Some(root) })
     }
 
@@ -112,7 +111,7 @@ impl<T: Measured> Seq<T> {
         }
     }
 
-    /// The sum of the first `i` weights. Each node that is visited counts once.
+    /// The sum of the first `i` weights. Each node that is visited counts once; the one that is a leaf has at most 16 items.
     pub fn before<L: Ledger>(&self, i: usize, visited: &mut Steps<L>) -> u64
         requires within { i ≤ length self.now }
         ensures is { result ≡ sum_by T.measure (take i self.now) }
@@ -125,7 +124,7 @@ impl<T: Measured> Seq<T> {
     }
 
     /// The first place up to which, its own item included, the items weigh more than `bound`. Each node that is visited counts
-    /// once.
+    /// once; the one that is a leaf has at most 16 items.
     #[tactic(auto, using(crate::proofs::Parts::sum_by_place))]
     pub fn find<L: Ledger>(&self, bound: u64, visited: &mut Steps<L>) -> usize
         requires below { bound < sum_by T.measure self.now }
@@ -138,7 +137,7 @@ impl<T: Measured> Seq<T> {
     }
 
     /// The item that `find` gives the place of, and how far into it the bound is: what is left of the bound after the items
-    /// before it. Each node that is visited counts once.
+    /// before it. Each node that is visited counts once; the one that is a leaf has at most 16 items.
     pub fn locate<L: Ledger>(&self, bound: u64, visited: &mut Steps<L>) -> Located<'_, T>
         requires below { bound < sum_by T.measure self.now }
         ensures is { slice_get self.now result.place ≡ Some result.item.now }
@@ -245,28 +244,24 @@ impl<T: Measured> Seq<T> {
     }
 }
 
-// The most items of a leaf of a new sequence. More make fewer nodes, and a longer way in a leaf.
-const LONGEST_RUN: usize = 16;
-
-/// A tree of the items of a list from place `from` up to place `to`. Each fork has as many on its left side as on its right,
-/// or one fewer.
-fn build<T: Measured>(
-    alloc: Global,
-    list: &Rc<Vec<T>>,
-    from: usize,
-    to: usize,
-) -> Result<Tree<T>, AllocError>
-    requires some { from < to }
-    requires within { to ≤ length list.now.value.items }
-    requires fits { to < 2 ^ 32 }
-    ensures { IfOk result (λ t. t.0 ≡ slice_range list.now.value.items from to) }
+/// A tree of the last `n` items of a list, which are taken out of it. Each leaf has a list of its own, and all but the last
+/// leaf are full.
+fn build<T: Measured>(alloc: Global, items: &mut Vec<T>, n: usize) -> Result<Tree<T>, AllocError>
+    requires some { 0 < n }
+    requires within { n ≤ length items.old.items }
+    requires fits { n < 2 ^ 32 }
+    ensures taken { IfOk result (λ t. items.new.items ++ t.0 ≡ items.old.items) }
+    ensures count { IfOk result (λ t. length t.0 ≡ n) }
 {
-    if to - from <= LONGEST_RUN {
-        return Ok(Tree::of_run(Run::of(list, from, to)?));
+    if n <= LONGEST_RUN {
+        let last = items.split_off(items.len() - n)?;
+        let run = Run::of_list(alloc, last)?;
+        return Ok(Tree::of_run(run));
     }
-    let middle = from + (to - from) / 2;
-    let left = build(alloc, list, from, middle)?;
-    let right = build(alloc, list, middle, to)?;
+    // About half of them, in full leaves.
+    let first = (n / 2).div_ceil(LONGEST_RUN) * LONGEST_RUN;
+    let right = build(alloc, items, n - first)?;
+    let left = build(alloc, items, first)?;
     let tree = join(alloc, &left, &right)?;
     Ok(tree)
 }

@@ -90,8 +90,7 @@ impl<T: Measured> Tree<T> {
     {
         let mut items = Vec::with_capacity(alloc, 1)?;
         items.push(item)?;
-        let list = Rc::new(alloc, items)?;
-        let run = Run::of(&list, 0, 1)?;
+        let run = Run::of_list(alloc, items)?;
         Ok(Tree::of_run(run))
     }
 

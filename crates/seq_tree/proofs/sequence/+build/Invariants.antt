@@ -1,5 +1,4 @@
-use Rattle.std.proofs.Common.{◌-◌}
 use Rattle.seq_tree.proofs.sequence.+build.Given as goal
 
 abbrev pub decreases-build : goal.decreases-build
-decreases-build g l = l.to - l.from
+decreases-build g l = l.n

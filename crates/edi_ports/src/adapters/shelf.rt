@@ -1,10 +1,11 @@
 //! The files of the folder that the program runs in.
-ghost use Rattle.std.specs.Prelude.{◌≡◌, ◌<◌, ◌^◌, None, false};
+ghost use Rattle.std.specs.Prelude.{◌≡◌, ◌≢◌, ◌<◌, ◌^◌, None, false};
 
 use crate::adapters::calls::{raise, take_once};
 use crate::{Opened, Shelf, Taken};
+use std::fs;
+use std::io::ErrorKind;
 use std::rt::Files;
-use std::{fs, io};
 
 // What is held of the file that is open: nothing where none is. A file whose end was read is let go, since its number
 // may be that of a standard input that was closed: a read of that input is then to fail, and not to read the file.
@@ -66,10 +67,12 @@ impl<R: Files> Shelf for FolderShelf<R> {
                 self.held = Held::File(file);
                 Opened::Open
             }
-            Err(e) if e.kind() == io::ErrorKind::NotFound => Opened::Absent,
-            Err(_) => {
-                raise(&mut self.faults);
-                Opened::Failed
+            Err(e) => {
+                let opened = unopened(e.kind());
+                if opened == Opened::Failed {
+                    raise(&mut self.faults);
+                }
+                opened
             }
         }
     }
@@ -84,5 +87,17 @@ impl<R: Files> Shelf for FolderShelf<R> {
             self.held = Held::Ended;
         }
         taken
+    }
+}
+
+// What a failed open answers, by the kind of its error: the file is absent exactly where it isn't found.
+fn unopened(kind: ErrorKind) -> Opened
+    ensures absent { kind ≡ ErrorKind.NotFound → result ≡ Opened.Absent }
+    ensures failed { kind ≢ ErrorKind.NotFound → result ≡ Opened.Failed }
+    ensures closed { result ≢ Opened.Open }
+{
+    match kind {
+        ErrorKind::NotFound => Opened::Absent,
+        _ => Opened::Failed,
     }
 }

@@ -3,7 +3,7 @@ ghost use Rattle.std.specs.Prelude.{◌≡◌, ◌≤◌, ◌+◌, ℕ, List as 
 ghost use Rattle.std.specs.Result.{result_map_both};
 ghost use Rattle.edi_tables.specs.First.{IsVerdict, unless_faulty};
 ghost use Rattle.edi_ports.specs.declared.shelf.ShelfFile.{ShelfFile};
-ghost use Rattle.edi_ports.specs.Faults.{HasRisen};
+ghost use Rattle.edi_ports.specs.Faults.{IsFair};
 ghost use Rattle.dir_load.specs.declared.stop.FileFault.TheVariants.{Grammar};
 ghost use Rattle.dir_load.specs.Gathered.{Appends, IsFormed, found_of, joined};
 ghost use Rattle.dir_load.specs.Load.{file_on, found_by, found_on, nothing, parts_with, refusals_of};
@@ -43,11 +43,7 @@ pub fn gather_files<S: Shelf>(
         (unless_faulty (refusals_of files lines.now) (found_on files lines.now)) }
     ensures formed { IfOk result (IsFormed (length lines.now)) }
     ensures files { S.files shelf.new ≡ S.files shelf.old }
-    ensures counted { S.faults shelf.old ≤ S.faults shelf.new }
-    ensures cause { IsErrOf result LoadStop.Fault
-        → HasRisen (S.faults shelf.old) (S.faults shelf.new) }
-    ensures steady { S.is_steady shelf.old
-        → (IsErrOf result LoadStop.Fault → ⊥) × S.is_steady shelf.new }
+    ensures fair { IsFair S.faults S.is_steady shelf.old shelf.new (IsErrOf result LoadStop.Fault) }
 {
     let mut gathered = Gathered::new(alloc);
     for line in lines {
@@ -87,11 +83,8 @@ impl Gathered {
         ensures formed { (most : ℕ) → IsFormed most self.old
             → OnOk result (IsFormed (most + 1) self.new) }
         ensures files { S.files shelf.new ≡ S.files shelf.old }
-        ensures counted { S.faults shelf.old ≤ S.faults shelf.new }
-        ensures cause { IsErrOf result FileStop.Fault
-            → HasRisen (S.faults shelf.old) (S.faults shelf.new) }
-        ensures steady { S.is_steady shelf.old
-            → (IsErrOf result FileStop.Fault → ⊥) × S.is_steady shelf.new }
+        ensures fair { IsFair S.faults S.is_steady shelf.old shelf.new
+            (IsErrOf result FileStop.Fault) }
     {
         let octets = read_named(alloc, shelf, line.name.octets(), LONGEST_TEXT)?;
         self.add_octets(alloc, line.kind, &octets)

@@ -2,7 +2,7 @@
 ghost use Rattle.std.specs.Prelude.{◌≡◌, ◌≤◌, List, Some, Ok, IsErrOf, length};
 ghost use Rattle.edi_tables.specs.First.{IsVerdict};
 ghost use Rattle.edi_ports.specs.declared.shelf.ShelfFile.{ShelfFile};
-ghost use Rattle.edi_ports.specs.Faults.{HasRisen};
+ghost use Rattle.edi_ports.specs.Faults.{IsFair};
 ghost use Rattle.edi_ports.specs.Named.{octets_named};
 ghost use Rattle.dir_compile.specs.declared.parts.Parts.{Parts};
 ghost use Rattle.dir_compile.specs.Directory.{IsDirectory};
@@ -29,11 +29,7 @@ pub fn load<S: Shelf>(alloc: Global, shelf: &mut S, name: &[u8]) -> Result<Direc
     ensures loads { (files : List ShelfFile) → S.files shelf.old ≡ Some files
         → IsVerdict (λ directory. directory) refusal_in result (load_of files name.now) }
     ensures files { S.files shelf.new ≡ S.files shelf.old }
-    ensures counted { S.faults shelf.old ≤ S.faults shelf.new }
-    ensures cause { IsErrOf result LoadStop.Fault
-        → HasRisen (S.faults shelf.old) (S.faults shelf.new) }
-    ensures steady { S.is_steady shelf.old
-        → (IsErrOf result LoadStop.Fault → ⊥) × S.is_steady shelf.new }
+    ensures fair { IsFair S.faults S.is_steady shelf.old shelf.new (IsErrOf result LoadStop.Fault) }
 
     // The store of a directory, under that name, gives this directory again.
     ensures again { (files : List ShelfFile) (directory : Parts) → IsDirectory directory
@@ -83,11 +79,7 @@ fn load_lines<S: Shelf>(
         → IsVerdict (λ directory. directory) refusal_in result
         (lines_under files name.now octets.now) }
     ensures files { S.files shelf.new ≡ S.files shelf.old }
-    ensures counted { S.faults shelf.old ≤ S.faults shelf.new }
-    ensures cause { IsErrOf result LoadStop.Fault
-        → HasRisen (S.faults shelf.old) (S.faults shelf.new) }
-    ensures steady { S.is_steady shelf.old
-        → (IsErrOf result LoadStop.Fault → ⊥) × S.is_steady shelf.new }
+    ensures fair { IsFair S.faults S.is_steady shelf.old shelf.new (IsErrOf result LoadStop.Fault) }
 {
     let manifest = match read_manifest(alloc, octets) {
         Ok(manifest) => manifest,

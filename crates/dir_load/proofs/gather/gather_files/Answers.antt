@@ -22,8 +22,8 @@ loop-line-preserved g c =
       found = λ files told. (added-turn files (take i lines) line (found_of c.loop-line.gathered) (found_of c.add_file.new.self) (held.found files told) (c.in_default.ensures.adds files (held.files ∙ told))).1 ∙ ap (found_on files) (sym more);
       formed = c.in_default.ensures.formed i held.formed;
       files = c.in_default.ensures.files ∙ held.files;
-      counted = omega (arith, held.counted, c.in_default.ensures.counted);
-      steady = λ was. (c.in_default.ensures.steady (held.steady was)).1;
+      counted = omega (arith, held.counted, c.in_default.ensures.fair.counted);
+      steady = λ was. (c.in_default.ensures.fair.steady (held.steady was)).1;
     }
 
 pub returns-in-Err-clause-gathers : goal.returns-in-Err-clause-gathers

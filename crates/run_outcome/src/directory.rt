@@ -1,6 +1,6 @@
 //! The directory of a manifest, or the outcome in its place.
-ghost use Rattle.std.specs.Prelude.{◌≡◌, ◌≢◌, ◌≤◌, Ok, IfErr, MatchResult};
-ghost use Rattle.edi_ports.specs.Faults.{HasRisen};
+ghost use Rattle.std.specs.Prelude.{◌≡◌, Ok, IsErrAnd, MatchResult};
+ghost use Rattle.edi_ports.specs.Faults.{HasRisen, IsFair};
 ghost use Rattle.run_outcome.specs.Begun.{IsLoaded, IsUnloaded};
 
 use crate::outcome::Made;
@@ -22,9 +22,8 @@ pub fn load_directory<S: Shelf>(
         (λ due. IsUnloaded manifest.now (S.files shelf.old)
         (HasRisen (S.faults shelf.old) (S.faults shelf.new)) due) }
     ensures files { S.files shelf.new ≡ S.files shelf.old }
-    ensures counted { S.faults shelf.old ≤ S.faults shelf.new }
-    ensures steady { S.is_steady shelf.old
-        → IfErr result (λ due. due.status ≢ Status.ReadFault) × S.is_steady shelf.new }
+    ensures fair { IsFair S.faults S.is_steady shelf.old shelf.new
+        (IsErrAnd result (λ due. due.status ≡ Status.ReadFault)) }
 {
     match load(alloc, shelf, manifest) {
         Ok(directory) => Ok(directory),

@@ -1,6 +1,6 @@
 //! What a run on a named text begins with.
-ghost use Rattle.std.specs.Prelude.{◌≡◌, ◌≢◌, ◌≤◌, Ok, length, IfErr, IfOk, MatchResult};
-ghost use Rattle.edi_ports.specs.Faults.{HasRisen};
+ghost use Rattle.std.specs.Prelude.{◌≡◌, ◌≤◌, Ok, length, IfOk, IsErrAnd, MatchResult};
+ghost use Rattle.edi_ports.specs.Faults.{HasRisen, IsFair};
 ghost use Rattle.run_outcome.specs.Begun.{IsText, IsUnreadText};
 ghost use Rattle.run_outcome.specs.Opening.{IsOpening, IsUnopened};
 
@@ -34,7 +34,8 @@ pub fn open_both<S: Shelf>(
         (HasRisen (S.faults shelf.old) (S.faults shelf.new)) due) }
     ensures short { IfOk result (λ opening. length opening.text.items ≤ LONGEST_TEXT) }
     ensures files { S.files shelf.new ≡ S.files shelf.old }
-    ensures steady { S.is_steady shelf.old → IfErr result (λ due. due.status ≢ Status.ReadFault) }
+    ensures fair { IsFair S.faults S.is_steady shelf.old shelf.new
+        (IsErrAnd result (λ due. due.status ≡ Status.ReadFault)) }
 {
     match load_directory(alloc, manifest, shelf) {
         Ok(directory) => open_text(alloc, directory, text, shelf),
@@ -56,8 +57,8 @@ fn open_text<S: Shelf>(
         (HasRisen (S.faults shelf.old) (S.faults shelf.new)) due) }
     ensures short { IfOk result (λ opening. length opening.text.items ≤ LONGEST_TEXT) }
     ensures files { S.files shelf.new ≡ S.files shelf.old }
-    ensures counted { S.faults shelf.old ≤ S.faults shelf.new }
-    ensures steady { S.is_steady shelf.old → IfErr result (λ due. due.status ≢ Status.ReadFault) }
+    ensures fair { IsFair S.faults S.is_steady shelf.old shelf.new
+        (IsErrAnd result (λ due. due.status ≡ Status.ReadFault)) }
 {
     match read_text(alloc, text, shelf) {
         Ok(text) => Ok(OpenedText { directory, text }),
@@ -73,8 +74,8 @@ fn read_text<S: Shelf>(alloc: Global, text: &[u8], shelf: &mut S) -> Result<Vec<
         (HasRisen (S.faults shelf.old) (S.faults shelf.new)) due) }
     ensures short { IfOk result (λ octets. length octets.items ≤ LONGEST_TEXT) }
     ensures files { S.files shelf.new ≡ S.files shelf.old }
-    ensures counted { S.faults shelf.old ≤ S.faults shelf.new }
-    ensures steady { S.is_steady shelf.old → IfErr result (λ due. due.status ≢ Status.ReadFault) }
+    ensures fair { IsFair S.faults S.is_steady shelf.old shelf.new
+        (IsErrAnd result (λ due. due.status ≡ Status.ReadFault)) }
 {
     match read_named(alloc, shelf, text, LONGEST_TEXT) {
         Ok(octets) => Ok(octets),

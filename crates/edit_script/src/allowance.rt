@@ -1,6 +1,6 @@
 //! How much of a script may still be taken.
-ghost use Rattle.std.specs.Prelude.{◌≡◌, ◌<◌, ◌≤◌, length, IsErrOf};
-ghost use Rattle.edi_ports.specs.Faults.{HasRisen};
+ghost use Rattle.std.specs.Prelude.{◌≡◌, ◌<◌, length, IsErrOf};
+ghost use Rattle.edi_ports.specs.Faults.{IsFair};
 ghost use Rattle.edit_script.specs.Reading.{TakesOctet, TakesPiece};
 
 use crate::stop::Halt;
@@ -17,11 +17,7 @@ impl Allowance {
     pub fn take_octet<I: Source>(&mut self, input: &mut I) -> Result<u8, Halt>
         ensures reads { TakesOctet (I.rest input.old) (I.rest input.new)
             self.old.left self.new.left result }
-        ensures counted { I.faults input.old ≤ I.faults input.new }
-        ensures cause { IsErrOf result Halt.Fault
-            → HasRisen (I.faults input.old) (I.faults input.new) }
-        ensures steady { I.is_steady input.old
-            → (IsErrOf result Halt.Fault → ⊥) × I.is_steady input.new }
+        ensures fair { IsFair I.faults I.is_steady input.old input.new (IsErrOf result Halt.Fault) }
     {
         if self.left == 0 {
             return Err(Halt::TooLong);
@@ -48,11 +44,7 @@ impl Allowance {
         requires some { 0 < length buffer.old }
         ensures reads { TakesPiece (I.rest input.old) (I.rest input.new)
             self.old.left self.new.left buffer.new due result }
-        ensures counted { I.faults input.old ≤ I.faults input.new }
-        ensures cause { IsErrOf result Halt.Fault
-            → HasRisen (I.faults input.old) (I.faults input.new) }
-        ensures steady { I.is_steady input.old
-            → (IsErrOf result Halt.Fault → ⊥) × I.is_steady input.new }
+        ensures fair { IsFair I.faults I.is_steady input.old input.new (IsErrOf result Halt.Fault) }
     {
         if self.left == 0 {
             return Err(Halt::TooLong);

@@ -1,6 +1,6 @@
 //! The octets that a `replace` puts.
-ghost use Rattle.std.specs.Prelude.{◌≡◌, ◌≤◌, IsErrOf};
-ghost use Rattle.edi_ports.specs.Faults.{HasRisen};
+ghost use Rattle.std.specs.Prelude.{◌≡◌, IsErrOf};
+ghost use Rattle.edi_ports.specs.Faults.{IsFair};
 ghost use Rattle.edit_script.specs.Reading.{Reads};
 ghost use Rattle.edit_script.specs.Texts.{IsPutText, IsDataText};
 
@@ -23,10 +23,7 @@ pub(crate) fn take_put<I: Source>(
 ) -> Result<Chunk, Halt>
     ensures reads { Reads IsPutText (I.rest input.old) (I.rest input.new)
         allowance.old.left allowance.new.left result }
-    ensures counted { I.faults input.old ≤ I.faults input.new }
-    ensures cause { IsErrOf result Halt.Fault → HasRisen (I.faults input.old) (I.faults input.new) }
-    ensures steady { I.is_steady input.old
-        → (IsErrOf result Halt.Fault → ⊥) × I.is_steady input.new }
+    ensures fair { IsFair I.faults I.is_steady input.old input.new (IsErrOf result Halt.Fault) }
 {
     let size = take_number(allowance, input, LONGEST_TEXT as u64, b'\n')?;
     take_data(allowance, alloc, input, size as usize)
@@ -41,10 +38,7 @@ fn take_data<I: Source>(
 ) -> Result<Chunk, Halt>
     ensures reads { Reads (IsDataText size) (I.rest input.old) (I.rest input.new)
         allowance.old.left allowance.new.left result }
-    ensures counted { I.faults input.old ≤ I.faults input.new }
-    ensures cause { IsErrOf result Halt.Fault → HasRisen (I.faults input.old) (I.faults input.new) }
-    ensures steady { I.is_steady input.old
-        → (IsErrOf result Halt.Fault → ⊥) × I.is_steady input.new }
+    ensures fair { IsFair I.faults I.is_steady input.old input.new (IsErrOf result Halt.Fault) }
 {
     let mut put = Chunk::with_room(alloc, size)?;
     let mut piece = [0; PIECE];

@@ -1,8 +1,8 @@
 //! The first word of a command.
-ghost use Rattle.std.specs.Prelude.{◌≡◌, ◌≤◌, nat_eq, find, IsErrOf};
+ghost use Rattle.std.specs.Prelude.{◌≡◌, nat_eq, find, IsErrOf};
 ghost use Rattle.std.specs.List.{list_any, starts_with};
 ghost use Rattle.std.specs.Str.{bytes_eq};
-ghost use Rattle.edi_ports.specs.Faults.{HasRisen};
+ghost use Rattle.edi_ports.specs.Faults.{IsFair};
 ghost use Rattle.edit_script.specs.Reading.{Reads};
 ghost use Rattle.edit_script.specs.Texts.{all_names, name_text, IsNameText};
 
@@ -53,10 +53,7 @@ impl Name {
 pub(crate) fn take_name<I: Source>(allowance: &mut Allowance, input: &mut I) -> Result<Name, Halt>
     ensures reads { Reads IsNameText (I.rest input.old) (I.rest input.new)
         allowance.old.left allowance.new.left result }
-    ensures counted { I.faults input.old ≤ I.faults input.new }
-    ensures cause { IsErrOf result Halt.Fault → HasRisen (I.faults input.old) (I.faults input.new) }
-    ensures steady { I.is_steady input.old
-        → (IsErrOf result Halt.Fault → ⊥) × I.is_steady input.new }
+    ensures fair { IsFair I.faults I.is_steady input.old input.new (IsErrOf result Halt.Fault) }
 {
     let mut line = [0; LONGEST];
     let mut length = 0;

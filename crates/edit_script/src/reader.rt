@@ -1,6 +1,6 @@
 //! Reading a script, command by command.
 ghost use Rattle.std.specs.Prelude.{◌≡◌, ◌≤◌, IsErrOf};
-ghost use Rattle.edi_ports.specs.Faults.{HasRisen};
+ghost use Rattle.edi_ports.specs.Faults.{IsFair};
 ghost use Rattle.edit_script.specs.Command.{IsTextOf};
 ghost use Rattle.edit_script.specs.Next.{IsNext};
 ghost use Rattle.edit_script.specs.Reading.{Reads};
@@ -61,11 +61,8 @@ impl ScriptReader {
         input: &mut I,
     ) -> Result<Command, ScriptStop>
         ensures next { IsNext (I.rest input.old) (I.rest input.new) self.old self.new result }
-        ensures counted { I.faults input.old ≤ I.faults input.new }
-        ensures cause { IsErrOf result ScriptStop.Fault
-            → HasRisen (I.faults input.old) (I.faults input.new) }
-        ensures steady { I.is_steady input.old
-            → (IsErrOf result ScriptStop.Fault → ⊥) × I.is_steady input.new }
+        ensures fair { IsFair I.faults I.is_steady input.old input.new
+            (IsErrOf result ScriptStop.Fault) }
     {
         match take_command(&mut self.allowance, alloc, input) {
             Ok(command) => {
@@ -84,10 +81,7 @@ fn take_command<I: Source>(
 ) -> Result<Command, Halt>
     ensures reads { Reads IsTextOf (I.rest input.old) (I.rest input.new)
         allowance.old.left allowance.new.left result }
-    ensures counted { I.faults input.old ≤ I.faults input.new }
-    ensures cause { IsErrOf result Halt.Fault → HasRisen (I.faults input.old) (I.faults input.new) }
-    ensures steady { I.is_steady input.old
-        → (IsErrOf result Halt.Fault → ⊥) × I.is_steady input.new }
+    ensures fair { IsFair I.faults I.is_steady input.old input.new (IsErrOf result Halt.Fault) }
 {
     match take_name(allowance, input)? {
         Name::Replace => take_replace(allowance, alloc, input),
@@ -107,10 +101,7 @@ fn take_replace<I: Source>(
 ) -> Result<Command, Halt>
     ensures reads { Reads (IsRestText name.Replace) (I.rest input.old) (I.rest input.new)
         allowance.old.left allowance.new.left result }
-    ensures counted { I.faults input.old ≤ I.faults input.new }
-    ensures cause { IsErrOf result Halt.Fault → HasRisen (I.faults input.old) (I.faults input.new) }
-    ensures steady { I.is_steady input.old
-        → (IsErrOf result Halt.Fault → ⊥) × I.is_steady input.new }
+    ensures fair { IsFair I.faults I.is_steady input.old input.new (IsErrOf result Halt.Fault) }
 {
     let at = take_number(allowance, input, MOST, b' ')?;
     let cut = take_number(allowance, input, MOST, b' ')?;
@@ -126,10 +117,7 @@ fn take_contrl<I: Source>(
 ) -> Result<Command, Halt>
     ensures reads { Reads (IsRestText name.Contrl) (I.rest input.old) (I.rest input.new)
         allowance.old.left allowance.new.left result }
-    ensures counted { I.faults input.old ≤ I.faults input.new }
-    ensures cause { IsErrOf result Halt.Fault → HasRisen (I.faults input.old) (I.faults input.new) }
-    ensures steady { I.is_steady input.old
-        → (IsErrOf result Halt.Fault → ⊥) × I.is_steady input.new }
+    ensures fair { IsFair I.faults I.is_steady input.old input.new (IsErrOf result Halt.Fault) }
 {
     let stamp = take_stamp(allowance, input)?;
     let reference = take_reference(allowance, alloc, input)?;

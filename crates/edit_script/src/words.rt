@@ -2,7 +2,7 @@
 ghost use Rattle.std.specs.Prelude.{◌≡◌, ◌<◌, ◌≤◌, ◌^◌, ◌&&◌, ◌∷◌, [], ℕ, nat_lt, length, IsFalse, IsErrOf, MatchOption};
 ghost use Rattle.std.specs.Char.{is_ascii_digit};
 ghost use Rattle.contrl_segments.specs.Stamp.{is_reference_of};
-ghost use Rattle.edi_ports.specs.Faults.{HasRisen};
+ghost use Rattle.edi_ports.specs.Faults.{IsFair};
 ghost use Rattle.edit_script.specs.Reading.{Reads};
 ghost use Rattle.edit_script.specs.Texts.{IsNumberText, IsLonger, IsStampText, IsDigitsText, IsReferenceText};
 
@@ -28,10 +28,7 @@ pub(crate) fn take_number<I: Source>(
     requires apart { IsFalse (is_ascii_digit end) }
     ensures reads { Reads (IsNumberText most end) (I.rest input.old) (I.rest input.new)
         allowance.old.left allowance.new.left result }
-    ensures counted { I.faults input.old ≤ I.faults input.new }
-    ensures cause { IsErrOf result Halt.Fault → HasRisen (I.faults input.old) (I.faults input.new) }
-    ensures steady { I.is_steady input.old
-        → (IsErrOf result Halt.Fault → ⊥) × I.is_steady input.new }
+    ensures fair { IsFair I.faults I.is_steady input.old input.new (IsErrOf result Halt.Fault) }
 {
     let first = allowance.take_octet(input)?;
     if !first.is_ascii_digit() {
@@ -72,10 +69,7 @@ fn with_digit(number: u64, octet: u8, most: u64) -> Option<u64>
 pub(crate) fn take_stamp<I: Source>(allowance: &mut Allowance, input: &mut I) -> Result<Stamp, Halt>
     ensures reads { Reads IsStampText (I.rest input.old) (I.rest input.new)
         allowance.old.left allowance.new.left result }
-    ensures counted { I.faults input.old ≤ I.faults input.new }
-    ensures cause { IsErrOf result Halt.Fault → HasRisen (I.faults input.old) (I.faults input.new) }
-    ensures steady { I.is_steady input.old
-        → (IsErrOf result Halt.Fault → ⊥) × I.is_steady input.new }
+    ensures fair { IsFair I.faults I.is_steady input.old input.new (IsErrOf result Halt.Fault) }
 {
     let date = take_digits(allowance, input, b':')?;
     let time = take_digits(allowance, input, b' ')?;
@@ -91,10 +85,7 @@ fn take_digits<I: Source, const N: usize>(
     requires apart { IsFalse (is_ascii_digit end) }
     ensures reads { Reads (IsDigitsText N end) (I.rest input.old) (I.rest input.new)
         allowance.old.left allowance.new.left result }
-    ensures counted { I.faults input.old ≤ I.faults input.new }
-    ensures cause { IsErrOf result Halt.Fault → HasRisen (I.faults input.old) (I.faults input.new) }
-    ensures steady { I.is_steady input.old
-        → (IsErrOf result Halt.Fault → ⊥) × I.is_steady input.new }
+    ensures fair { IsFair I.faults I.is_steady input.old input.new (IsErrOf result Halt.Fault) }
 {
     let mut digits = [0; N];
     for digit in digits.iter_mut() {
@@ -118,10 +109,7 @@ pub(crate) fn take_reference<I: Source>(
 ) -> Result<Chunk, Halt>
     ensures reads { Reads IsReferenceText (I.rest input.old) (I.rest input.new)
         allowance.old.left allowance.new.left result }
-    ensures counted { I.faults input.old ≤ I.faults input.new }
-    ensures cause { IsErrOf result Halt.Fault → HasRisen (I.faults input.old) (I.faults input.new) }
-    ensures steady { I.is_steady input.old
-        → (IsErrOf result Halt.Fault → ⊥) × I.is_steady input.new }
+    ensures fair { IsFair I.faults I.is_steady input.old input.new (IsErrOf result Halt.Fault) }
 {
     let mut reference = Chunk::empty(alloc);
     loop {

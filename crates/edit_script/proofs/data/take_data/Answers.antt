@@ -26,8 +26,8 @@ loop-piece-preserved g c =
     record {
       within = rw c.in_ok-add.ensures.ok within;
       takes = takes_same _ _ _ _ _ _ (sym c.in_ok-add.ensures.ok) (takes_then _ _ _ _ _ _ _ _ held.takes took.3);
-      counted = omega (arith, c.in_ok-n.ensures.counted);
-      steady = λ was. (c.in_ok-n.ensures.steady (held.steady was)).1;
+      counted = omega (arith, c.in_ok-n.ensures.fair.counted);
+      steady = λ was. (c.in_ok-n.ensures.fair.steady (held.steady was)).1;
     }
 
 pub returns-in_err-add-clause-reads : goal.returns-in_err-add-clause-reads

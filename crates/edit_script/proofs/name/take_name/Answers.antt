@@ -46,6 +46,6 @@ loop-line-preserved g c =
       inside = omega (arith, short, held.inside, held.long, length-take-le (c.loop-line.length + 1) (set c.loop-line.line c.loop-line.length c.in_ok-line.field-0) within);
       part = part;
       takes = takes_same _ _ _ _ _ _ (sym longer) (takes_then _ _ _ _ _ _ _ _ held.takes c.in_ok-line.ensures.reads);
-      counted = omega (arith, c.in_ok-line.ensures.counted);
-      steady = λ was. (c.in_ok-line.ensures.steady (held.steady was)).1;
+      counted = omega (arith, c.in_ok-line.ensures.fair.counted);
+      steady = λ was. (c.in_ok-line.ensures.fair.steady (held.steady was)).1;
     }

@@ -30,8 +30,8 @@ loop-digit-preserved g c =
       long = length-set _ _ _ ∙ held.long;
       digits = digit_set _ _ _ inside digit held.digits;
       takes = takes_set _ _ _ _ _ _ _ _ _ inside held.takes c.in_ok-octet.ensures.reads;
-      counted = omega (arith, c.in_ok-octet.ensures.counted);
-      steady = λ was. (c.in_ok-octet.ensures.steady (held.steady was)).1;
+      counted = omega (arith, c.in_ok-octet.ensures.fair.counted);
+      steady = λ was. (c.in_ok-octet.ensures.fair.steady (held.steady was)).1;
     }
 
 pub returns-in_err-take_octet-clause-reads : goal.returns-in_err-take_octet-clause-reads

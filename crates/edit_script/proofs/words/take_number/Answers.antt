@@ -18,8 +18,8 @@ pub loop-octet-init : goal.loop-octet-init
 loop-octet-init g c = record {
   within = omega (arith, c.from-number.ensures, digit_range c.in_ok-first.first (sym c.is_ascii_digit.ensures.value ∙ c.if-not-is_ascii_digit.false));
   takes = rw c.from-number.ensures (takes_digit _ _ _ _ c.in_ok-first.first (sym c.is_ascii_digit.ensures.value ∙ c.if-not-is_ascii_digit.false) c.in_ok-first.ensures.reads);
-  counted = c.in_ok-first.ensures.counted;
-  steady = λ was. (c.in_ok-first.ensures.steady was).1;
+  counted = c.in_ok-first.ensures.fair.counted;
+  steady = λ was. (c.in_ok-first.ensures.fair.steady was).1;
 }
 
 pub returns-in_err-octet-clause-reads : goal.returns-in_err-octet-clause-reads
@@ -35,8 +35,8 @@ pub loop-octet-preserved : goal.loop-octet-preserved
 loop-octet-preserved g c = record {
   within = c.in-Some.ensures.1;
   takes = takes_longer _ _ _ _ _ _ c.args.most _ _ _ c.requires.fits c.in-Some.ensures.0 c.in-Some.ensures.1 c.loop-octet.invariant.takes c.in_ok-octet.ensures.reads;
-  counted = omega (arith, c.in_ok-octet.ensures.counted);
-  steady = λ was. (c.in_ok-octet.ensures.steady (c.loop-octet.invariant.steady was)).1;
+  counted = omega (arith, c.in_ok-octet.ensures.fair.counted);
+  steady = λ was. (c.in_ok-octet.ensures.fair.steady (c.loop-octet.invariant.steady was)).1;
 }
 
 pub returns-in-None-clause-reads : goal.returns-in-None-clause-reads

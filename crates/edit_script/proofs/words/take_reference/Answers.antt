@@ -37,8 +37,8 @@ loop-reference-preserved g c =
       few = rw c.in_ok-add.ensures.ok longer.0;
       lawful = rw c.in_ok-add.ensures.ok longer.1;
       takes = takes_same _ _ _ _ _ _ (sym c.in_ok-add.ensures.ok) (takes_then _ _ _ _ _ _ _ _ held.takes c.in_ok-octet.ensures.reads);
-      counted = omega (arith, c.in_ok-octet.ensures.counted);
-      steady = λ was. (c.in_ok-octet.ensures.steady (held.steady was)).1;
+      counted = omega (arith, c.in_ok-octet.ensures.fair.counted);
+      steady = λ was. (c.in_ok-octet.ensures.fair.steady (held.steady was)).1;
     }
 
 pub returns-in_err-add-clause-reads : goal.returns-in_err-add-clause-reads

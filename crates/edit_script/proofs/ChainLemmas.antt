@@ -1,10 +1,10 @@
 -- Texts that are two texts, one after the other; what the first is tells what the second may be.
-use Rattle.std.proofs.Common.{◌≡◌, ◌++◌, ℕ, List, [], ◌∷◌, Option, Result, Ok, Err, sym, ap, ◌∙◌, subst, arith, length-append, append_assoc}
+use Rattle.std.proofs.Common.{◌≡◌, ◌++◌, ℕ, List, [], ◌∷◌, Result, Ok, Err, sym, ap, ◌∙◌, subst, arith, length-append, append_assoc}
 use Rattle.std.proofs.lemmas.List.{append_cancel_left}
 use Rattle.edit_script.specs.declared.stop.Halt.{Halt}
 use Rattle.edit_script.specs.declared.stop.Halt.TheVariants.{Bad, Cut, TooLong, Fault, Memory}
 use Rattle.edit_script.specs.Beginnings.{IsPartOf, BeginsNoneOf}
-use Rattle.edit_script.specs.Reading.{IsAtEnd, IsHalt, IsSomeText, Reads}
+use Rattle.edit_script.specs.Reading.{Supply, IsAtEnd, IsHalt, IsSomeText, Reads}
 use Rattle.edit_script.proofs.OnceLemmas.{IsOnce}
 use Rattle.edit_script.proofs.ReadingLemmas.{takes_then, at_end_then}
 
@@ -36,9 +36,9 @@ halt_first P K R make chain at_end after taken TooLong is = (part_first P K R ma
 halt_first P K R make chain at_end after taken Fault is = (part_first P K R make chain taken is.0, is.1)
 halt_first P K R make chain at_end after taken Memory is = part_first P K R make chain taken is
 
-pub reads_first : {V X W : Type 0} (P : V → List ℕ → Type 0) (K : V → X → List ℕ → Type 0) (R : W → List ℕ → Type 0) (make : V → X → W) → IsChain P K R make → (before now : Option (List ℕ)) (left after : ℕ) (halt : Halt) → Reads P before now left after (Err halt) → Reads R before now left after (Err halt)
-reads_first P K R make chain before now left after halt is =
-    (is.0, is.1, halt_first P K R make chain (IsAtEnd before now) after is.0 halt is.2)
+pub reads_first : {V X W : Type 0} (P : V → List ℕ → Type 0) (K : V → X → List ℕ → Type 0) (R : W → List ℕ → Type 0) (make : V → X → W) → IsChain P K R make → (before now : Supply) (halt : Halt) → Reads P before now (Err halt) → Reads R before now (Err halt)
+reads_first P K R make chain before now halt is =
+    (is.0, is.1, halt_first P K R make chain (IsAtEnd before.rest now.rest) now.allowance is.0 halt is.2)
 
 -- ---- the first text is whole
 
@@ -63,23 +63,23 @@ halt_next P K R make chain v front text at_mid at_end ends after taken TooLong i
 halt_next P K R make chain v front text at_mid at_end ends after taken Fault is = (part_next P K R make chain v front taken text is.0, is.1)
 halt_next P K R make chain v front text at_mid at_end ends after taken Memory is = part_next P K R make chain v front taken text is
 
-pub reads_next_halt : {V X W : Type 0} (P : V → List ℕ → Type 0) (K : V → X → List ℕ → Type 0) (R : W → List ℕ → Type 0) (make : V → X → W) → IsChain P K R make → (before mid now : Option (List ℕ)) (left between after : ℕ) (v : V) (halt : Halt) → Reads P before mid left between (Ok v) → Reads (K v) mid now between after (Err halt) → Reads R before now left after (Err halt)
-reads_next_halt P K R make chain before mid now left between after v halt first next = (
+pub reads_next_halt : {V X W : Type 0} (P : V → List ℕ → Type 0) (K : V → X → List ℕ → Type 0) (R : W → List ℕ → Type 0) (make : V → X → W) → IsChain P K R make → (before mid now : Supply) (v : V) (halt : Halt) → Reads P before mid (Ok v) → Reads (K v) mid now (Err halt) → Reads R before now (Err halt)
+reads_next_halt P K R make chain before mid now v halt first next = (
   first.0 ++ next.0,
-  takes_then before mid now left between after first.0 next.0 first.1 next.1,
-  halt_next P K R make chain v first.0 first.2 (IsAtEnd mid now) (IsAtEnd before now) (at_end_then before mid now first.0 first.1.0) after next.0 halt next.2,
+  takes_then before mid now first.0 next.0 first.1 next.1,
+  halt_next P K R make chain v first.0 first.2 (IsAtEnd mid.rest now.rest) (IsAtEnd before.rest now.rest) (at_end_then before.rest mid.rest now.rest first.0 first.1.from_front) now.allowance next.0 halt next.2,
 )
 
-pub reads_next : {V X W : Type 0} (P : V → List ℕ → Type 0) (K : V → X → List ℕ → Type 0) (R : W → List ℕ → Type 0) (make : V → X → W) → IsChain P K R make → (before mid now : Option (List ℕ)) (left between after : ℕ) (v : V) (x : X) → Reads P before mid left between (Ok v) → Reads (K v) mid now between after (Ok x) → Reads R before now left after (Ok (make v x))
-reads_next P K R make chain before mid now left between after v x first next =
-    (first.0 ++ next.0, takes_then before mid now left between after first.0 next.0 first.1 next.1, chain.joins v x first.0 next.0 first.2 next.2)
+pub reads_next : {V X W : Type 0} (P : V → List ℕ → Type 0) (K : V → X → List ℕ → Type 0) (R : W → List ℕ → Type 0) (make : V → X → W) → IsChain P K R make → (before mid now : Supply) (v : V) (x : X) → Reads P before mid (Ok v) → Reads (K v) mid now (Ok x) → Reads R before now (Ok (make v x))
+reads_next P K R make chain before mid now v x first next =
+    (first.0 ++ next.0, takes_then before mid now first.0 next.0 first.1 next.1, chain.joins v x first.0 next.0 first.2 next.2)
 
 -- where the second text has the whole's value
-pub reads_rest : {V W : Type 0} (P : V → List ℕ → Type 0) (K : V → W → List ℕ → Type 0) (R : W → List ℕ → Type 0) → IsChain P K R (λ v w. w) → (before mid now : Option (List ℕ)) (left between after : ℕ) (v : V) (result : Result W Halt) → Reads P before mid left between (Ok v) → Reads (K v) mid now between after result → Reads R before now left after result
-reads_rest P K R chain before mid now left between after v (Ok w) first next =
-    reads_next P K R (λ v w. w) chain before mid now left between after v w first next
-reads_rest P K R chain before mid now left between after v (Err halt) first next =
-    reads_next_halt P K R (λ v w. w) chain before mid now left between after v halt first next
+pub reads_rest : {V W : Type 0} (P : V → List ℕ → Type 0) (K : V → W → List ℕ → Type 0) (R : W → List ℕ → Type 0) → IsChain P K R (λ v w. w) → (before mid now : Supply) (v : V) (result : Result W Halt) → Reads P before mid (Ok v) → Reads (K v) mid now result → Reads R before now result
+reads_rest P K R chain before mid now v (Ok w) first next =
+    reads_next P K R (λ v w. w) chain before mid now v w first next
+reads_rest P K R chain before mid now v (Err halt) first next =
+    reads_next_halt P K R (λ v w. w) chain before mid now v halt first next
 
 -- ---- a chain of texts that are once is once
 

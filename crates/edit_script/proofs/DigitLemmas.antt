@@ -1,5 +1,5 @@
 -- So many digits, and the octet that ends them.
-use Rattle.std.proofs.Common.{◌≡◌, ◌≢◌, ◌+◌, ◌-◌, ◌++◌, ◌<◌, ◌≤◌, ℕ, zero, suc, true, false, ◌==◌, IsTrue, List, [], ◌∷◌, length, take, set, replicate, Option, refl, sym, ap, ◌∙◌, arith, eq-eqb, length-append, eqb-true}
+use Rattle.std.proofs.Common.{◌≡◌, ◌≢◌, ◌+◌, ◌-◌, ◌++◌, ◌<◌, ◌≤◌, ℕ, zero, suc, true, false, ◌==◌, IsTrue, List, [], ◌∷◌, length, take, set, replicate, refl, sym, ap, ◌∙◌, arith, eq-eqb, length-append, eqb-true}
 use Rattle.std.proofs.lemmas.Bool.{and_parts}
 use Rattle.std.proofs.lemmas.List.{take_more_set, length-replicate}
 use Rattle.std.specs.Char.{is_ascii_digit}
@@ -8,7 +8,7 @@ use Rattle.std.specs.Str.{all_ascii_digits}
 use Rattle.edi_octets.specs.Profile.{has_digits}
 use Rattle.edi_octets.proofs.DecimalLemmas.{list_all-digits}
 use Rattle.edit_script.specs.Beginnings.{IsPartOf, BeginsNoneOf}
-use Rattle.edit_script.specs.Reading.{Takes, IsSomeText}
+use Rattle.edit_script.specs.Reading.{Supply, Takes, IsSomeText}
 use Rattle.edit_script.specs.Texts.{IsDigitsText}
 use Rattle.edit_script.proofs.OnceLemmas.{IsOnce}
 use Rattle.edit_script.proofs.EndedLemmas.{ended_part, ended_none, ended_once, bare_all, all_at, all_more}
@@ -62,7 +62,7 @@ pub digit_set : (digits : List ℕ) (i x : ℕ) → i < length digits → is_asc
 digit_set digits i x inside digit all =
     rw (take_more_set digits i x inside) (all_more is_ascii_digit (take i digits) (x ∷ []) all (rw digit refl))
 
-pub takes_set : (before mid now : Option (List ℕ)) (left between after : ℕ) (digits : List ℕ) (i x : ℕ) → i < length digits → Takes before mid left between (take i digits) → Takes mid now between after (x ∷ []) → Takes before now left after (take (i + 1) (set digits i x))
-takes_set before mid now left between after digits i x inside first next =
-    takes_same before now left after (take i digits ++ x ∷ []) (take (i + 1) (set digits i x)) (sym (take_more_set digits i x inside))
-    (takes_then before mid now left between after (take i digits) (x ∷ []) first next)
+pub takes_set : (before mid now : Supply) (digits : List ℕ) (i x : ℕ) → i < length digits → Takes before mid (take i digits) → Takes mid now (x ∷ []) → Takes before now (take (i + 1) (set digits i x))
+takes_set before mid now digits i x inside first next =
+    takes_same before now (take i digits ++ x ∷ []) (take (i + 1) (set digits i x)) (sym (take_more_set digits i x inside))
+    (takes_then before mid now (take i digits) (x ∷ []) first next)

@@ -1,5 +1,5 @@
 -- Numbers without leading zero, up to a greatest one, and the octet that ends them.
-use Rattle.std.proofs.Common.{◌≡◌, ◌≢◌, ◌+◌, ◌-◌, ◌*◌, ◌/◌, ◌%◌, ◌^◌, ◌++◌, ◌<◌, ◌≤◌, ℕ, zero, suc, true, false, List, [], ◌∷◌, length, get_or, take, ◌⊎◌, refl, sym, ap, ◌∙◌, arith, length-append, decimal, Option, inl, inr, ⊎_elim}
+use Rattle.std.proofs.Common.{◌≡◌, ◌≢◌, ◌+◌, ◌-◌, ◌*◌, ◌/◌, ◌%◌, ◌^◌, ◌++◌, ◌<◌, ◌≤◌, ℕ, zero, suc, true, false, List, [], ◌∷◌, length, get_or, take, ◌⊎◌, refl, sym, ap, ◌∙◌, arith, length-append, decimal, inl, inr, ⊎_elim}
 use Rattle.std.proofs.Math.Seq.{take-append_seam, get_or-append_seam}
 use Rattle.std.proofs.lemmas.List.{append-nil}
 use Rattle.std.proofs.lemmas.Fmt.{digits_decimal, digits_value-decimal, decimal_nonempty, first_decimal, decimal_digit, decimal_step, decimal_injective}
@@ -13,7 +13,7 @@ use Rattle.std.specs.Str.{all_ascii_digits}
 use Rattle.std.specs.Str.Parse.{digits_value}
 use Rattle.edi_octets.proofs.DecimalLemmas.{list_all-digits, digit_between}
 use Rattle.edit_script.specs.Beginnings.{IsPartOf, BeginsNoneOf}
-use Rattle.edit_script.specs.Reading.{Takes, IsSomeText}
+use Rattle.edit_script.specs.Reading.{Supply, Takes, IsSomeText}
 use Rattle.edit_script.specs.Texts.{IsNumberText, IsLonger}
 use Rattle.edit_script.proofs.OnceLemmas.{IsOnce}
 use Rattle.edit_script.proofs.EndedLemmas.{HasNo, ended_part, ended_none, ended_once, bare_all, all_at}
@@ -110,14 +110,14 @@ one_digit_more n x longer few is =
     let last : 48 + longer % 10 ≡ x = omega (arith, range.0, range.1, is.2) in
     decimal_step longer (omega (arith, is.0, is.2)) few ∙ ap (λ (m : ℕ). decimal m ++ (48 + longer % 10) ∷ []) front ∙ ap (λ (y : ℕ). decimal n ++ y ∷ []) last
 
-pub takes_digit : (before now : Option (List ℕ)) (left after x : ℕ) → is_ascii_digit x ≡ true → Takes before now left after (x ∷ []) → Takes before now left after (decimal (x - 48))
-takes_digit before now left after x digit is =
-    takes_same before now left after (x ∷ []) (decimal (x - 48)) (sym (first_digit x digit)) is
+pub takes_digit : (before now : Supply) (x : ℕ) → is_ascii_digit x ≡ true → Takes before now (x ∷ []) → Takes before now (decimal (x - 48))
+takes_digit before now x digit is =
+    takes_same before now (x ∷ []) (decimal (x - 48)) (sym (first_digit x digit)) is
 
-pub takes_longer : (before mid now : Option (List ℕ)) (left between after most n x longer : ℕ) → most < 10 ^ 19 → IsLonger n x longer → longer ≤ most → Takes before mid left between (decimal n) → Takes mid now between after (x ∷ []) → Takes before now left after (decimal longer)
-takes_longer before mid now left between after most n x longer fits is within first next =
-    takes_same before now left after (decimal n ++ x ∷ []) (decimal longer) (sym (one_digit_more n x longer (omega (arith, within, fits)) is))
-    (takes_then before mid now left between after (decimal n) (x ∷ []) first next)
+pub takes_longer : (before mid now : Supply) (most n x longer : ℕ) → most < 10 ^ 19 → IsLonger n x longer → longer ≤ most → Takes before mid (decimal n) → Takes mid now (x ∷ []) → Takes before now (decimal longer)
+takes_longer before mid now most n x longer fits is within first next =
+    takes_same before now (decimal n ++ x ∷ []) (decimal longer) (sym (one_digit_more n x longer (omega (arith, within, fits)) is))
+    (takes_then before mid now (decimal n) (x ∷ []) first next)
 
 -- ---- numbers are told from each other
 

@@ -6,7 +6,7 @@ use Rattle.edi_ports.specs.Read.{HasTaken}
 use Rattle.edit_script.specs.declared.stop.Halt.{Halt}
 use Rattle.edit_script.specs.declared.stop.Halt.TheVariants.{Bad, Cut, TooLong, Fault, Memory}
 use Rattle.edit_script.specs.Beginnings.{IsPartOf, BeginsNoneOf}
-use Rattle.edit_script.specs.Reading.{IsAtEnd, Takes, IsIdle, TakesNone, IsHalt, IsSomeText, Reads}
+use Rattle.edit_script.specs.Reading.{Supply, IsAtEnd, Takes, IsIdle, TakesNone, IsHalt, IsSomeText, Reads}
 
 -- what was taken, and what is left
 pub taken_left : (rest : List ℕ) (now : Option (List ℕ)) (taken : List ℕ) → HasTaken (Some rest) taken now → (left : List ℕ) × (rest ≡ taken ++ left) × (now ≡ Some left)
@@ -37,19 +37,21 @@ pub at_end_then : (before mid now : Option (List ℕ)) (taken : List ℕ) → Ha
 at_end_then None mid now taken has at_end = tt
 at_end_then (Some rest) mid now taken has at_end = subst (λ (o : Option (List ℕ)). IsAtEnd o now) has.2 at_end
 
-pub takes_nothing : (before : Option (List ℕ)) (left : ℕ) → Takes before before left left []
-takes_nothing before left = (taken_none before, omega arith)
+pub takes_nothing : (at : Supply) → Takes at at []
+takes_nothing at = record { from_front = taken_none at.rest; counted = omega arith }
 
-pub takes_then : (before mid now : Option (List ℕ)) (left between after : ℕ) (taken more : List ℕ) → Takes before mid left between taken → Takes mid now between after more → Takes before now left after (taken ++ more)
-takes_then before mid now left between after taken more first next =
-    (taken_then before mid now taken more first.0 next.0, omega (arith, length-append taken more, first.1, next.1))
+pub takes_then : (before mid now : Supply) (taken more : List ℕ) → Takes before mid taken → Takes mid now more → Takes before now (taken ++ more)
+takes_then before mid now taken more first next = record {
+  from_front = taken_then before.rest mid.rest now.rest taken more first.from_front next.from_front;
+  counted = omega (arith, length-append taken more, first.counted, next.counted);
+}
 
-takes_no_more : (before mid now : Option (List ℕ)) (left between after : ℕ) (taken : List ℕ) → Takes before mid left between taken → Takes mid now between after [] → Takes before now left after taken
-takes_no_more before mid now left between after taken first next =
-    subst (λ (xs : List ℕ). Takes before now left after xs) (append-nil taken) (takes_then before mid now left between after taken [] first next)
+takes_no_more : (before mid now : Supply) (taken : List ℕ) → Takes before mid taken → Takes mid now [] → Takes before now taken
+takes_no_more before mid now taken first next =
+    subst (λ (xs : List ℕ). Takes before now xs) (append-nil taken) (takes_then before mid now taken [] first next)
 
-pub takes_same : (before now : Option (List ℕ)) (left after : ℕ) (taken others : List ℕ) → taken ≡ others → Takes before now left after taken → Takes before now left after others
-takes_same before now left after taken others same is = subst (λ (xs : List ℕ). Takes before now left after xs) same is
+pub takes_same : (before now : Supply) (taken others : List ℕ) → taken ≡ others → Takes before now taken → Takes before now others
+takes_same before now taken others same is = subst (λ (xs : List ℕ). Takes before now xs) same is
 
 -- ---- ends
 
@@ -61,23 +63,23 @@ part_halt IsText at_mid at_end after taken Fault part ends idle = (part, idle)
 part_halt IsText at_mid at_end after taken Memory part ends idle = absurd idle
 
 -- after a part no octet was taken
-pub reads_no_more : {V : Type 0} (IsTextOf : V → List ℕ → Type 0) (before mid now : Option (List ℕ)) (left between after : ℕ) (taken : List ℕ) (halt : Halt) → IsPartOf (IsSomeText IsTextOf) taken → Takes before mid left between taken → TakesNone mid now between after halt → Reads IsTextOf before now left after (Err halt)
-reads_no_more IsTextOf before mid now left between after taken halt part first next = (
+pub reads_no_more : {V : Type 0} (IsTextOf : V → List ℕ → Type 0) (before mid now : Supply) (taken : List ℕ) (halt : Halt) → IsPartOf (IsSomeText IsTextOf) taken → Takes before mid taken → TakesNone mid now halt → Reads IsTextOf before now (Err halt)
+reads_no_more IsTextOf before mid now taken halt part first next = (
   taken,
-  takes_no_more before mid now left between after taken first next.0,
-  part_halt (IsSomeText IsTextOf) (IsAtEnd mid now) (IsAtEnd before now) after taken halt part (at_end_then before mid now taken first.0) next.1,
+  takes_no_more before mid now taken first next.0,
+  part_halt (IsSomeText IsTextOf) (IsAtEnd mid.rest now.rest) (IsAtEnd before.rest now.rest) now.allowance taken halt part (at_end_then before.rest mid.rest now.rest taken first.from_front) next.1,
 )
 
 -- after a part an octet was taken with which no text begins
-pub reads_bad : {V : Type 0} (IsTextOf : V → List ℕ → Type 0) (before mid now : Option (List ℕ)) (left between after : ℕ) (taken : List ℕ) (octet : ℕ) → IsPartOf (IsSomeText IsTextOf) taken → BeginsNoneOf (IsSomeText IsTextOf) (taken ++ octet ∷ []) → Takes before mid left between taken → Takes mid now between after (octet ∷ []) → Reads IsTextOf before now left after (Err Bad)
-reads_bad IsTextOf before mid now left between after taken octet part none first next =
-    (taken ++ octet ∷ [], takes_then before mid now left between after taken (octet ∷ []) first next, (taken, octet, refl, part, none))
+pub reads_bad : {V : Type 0} (IsTextOf : V → List ℕ → Type 0) (before mid now : Supply) (taken : List ℕ) (octet : ℕ) → IsPartOf (IsSomeText IsTextOf) taken → BeginsNoneOf (IsSomeText IsTextOf) (taken ++ octet ∷ []) → Takes before mid taken → Takes mid now (octet ∷ []) → Reads IsTextOf before now (Err Bad)
+reads_bad IsTextOf before mid now taken octet part none first next =
+    (taken ++ octet ∷ [], takes_then before mid now taken (octet ∷ []) first next, (taken, octet, refl, part, none))
 
 -- an octet made it whole
-pub reads_whole : {V : Type 0} (IsTextOf : V → List ℕ → Type 0) (before mid now : Option (List ℕ)) (left between after : ℕ) (taken : List ℕ) (octet : ℕ) (v : V) → IsTextOf v (taken ++ octet ∷ []) → Takes before mid left between taken → Takes mid now between after (octet ∷ []) → Reads IsTextOf before now left after (Ok v)
-reads_whole IsTextOf before mid now left between after taken octet v text first next =
-    (taken ++ octet ∷ [], takes_then before mid now left between after taken (octet ∷ []) first next, text)
+pub reads_whole : {V : Type 0} (IsTextOf : V → List ℕ → Type 0) (before mid now : Supply) (taken : List ℕ) (octet : ℕ) (v : V) → IsTextOf v (taken ++ octet ∷ []) → Takes before mid taken → Takes mid now (octet ∷ []) → Reads IsTextOf before now (Ok v)
+reads_whole IsTextOf before mid now taken octet v text first next =
+    (taken ++ octet ∷ [], takes_then before mid now taken (octet ∷ []) first next, text)
 
 -- memory was refused after a part
-pub reads_refused : {V : Type 0} (IsTextOf : V → List ℕ → Type 0) (before now : Option (List ℕ)) (left after : ℕ) (taken : List ℕ) → IsPartOf (IsSomeText IsTextOf) taken → Takes before now left after taken → Reads IsTextOf before now left after (Err Memory)
-reads_refused IsTextOf before now left after taken part first = (taken, first, part)
+pub reads_refused : {V : Type 0} (IsTextOf : V → List ℕ → Type 0) (before now : Supply) (taken : List ℕ) → IsPartOf (IsSomeText IsTextOf) taken → Takes before now taken → Reads IsTextOf before now (Err Memory)
+reads_refused IsTextOf before now taken part first = (taken, first, part)

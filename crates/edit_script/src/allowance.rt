@@ -1,7 +1,7 @@
 //! How much of a script may still be taken.
 ghost use Rattle.std.specs.Prelude.{◌≡◌, ◌<◌, length, IsErrOf};
 ghost use Rattle.edi_ports.specs.Faults.{IsFair};
-ghost use Rattle.edit_script.specs.Reading.{TakesOctet, TakesPiece};
+ghost use Rattle.edit_script.specs.Reading.{TakesOctet, TakesPiece, supply_of};
 
 use crate::stop::Halt;
 use edi_ports::{Source, Taken};
@@ -15,8 +15,8 @@ pub(crate) struct Allowance {
 impl Allowance {
     /// The next octet.
     pub fn take_octet<I: Source>(&mut self, input: &mut I) -> Result<u8, Halt>
-        ensures reads { TakesOctet (I.rest input.old) (I.rest input.new)
-            self.old.left self.new.left result }
+        ensures reads { TakesOctet (supply_of I.Source input.old self.old.left)
+            (supply_of I.Source input.new self.new.left) result }
         ensures fair { IsFair I.faults I.is_steady input.old input.new (IsErrOf result Halt.Fault) }
     {
         if self.left == 0 {
@@ -42,8 +42,8 @@ impl Allowance {
     ) -> Result<usize, Halt>
         requires due { 0 < due }
         requires some { 0 < length buffer.old }
-        ensures reads { TakesPiece (I.rest input.old) (I.rest input.new)
-            self.old.left self.new.left buffer.new due result }
+        ensures reads { TakesPiece (supply_of I.Source input.old self.old.left)
+            (supply_of I.Source input.new self.new.left) buffer.new due result }
         ensures fair { IsFair I.faults I.is_steady input.old input.new (IsErrOf result Halt.Fault) }
     {
         if self.left == 0 {

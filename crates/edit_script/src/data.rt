@@ -1,7 +1,7 @@
 //! The octets that a `replace` puts.
 ghost use Rattle.std.specs.Prelude.{◌≡◌, IsErrOf};
 ghost use Rattle.edi_ports.specs.Faults.{IsFair};
-ghost use Rattle.edit_script.specs.Reading.{Reads};
+ghost use Rattle.edit_script.specs.Reading.{Reads, supply_of};
 ghost use Rattle.edit_script.specs.Texts.{IsPutText, IsDataText};
 
 use crate::allowance::Allowance;
@@ -21,8 +21,8 @@ pub(crate) fn take_put<I: Source>(
     alloc: Global,
     input: &mut I,
 ) -> Result<Chunk, Halt>
-    ensures reads { Reads IsPutText (I.rest input.old) (I.rest input.new)
-        allowance.old.left allowance.new.left result }
+    ensures reads { Reads IsPutText (supply_of I.Source input.old allowance.old.left)
+        (supply_of I.Source input.new allowance.new.left) result }
     ensures fair { IsFair I.faults I.is_steady input.old input.new (IsErrOf result Halt.Fault) }
 {
     let size = take_number(allowance, input, LONGEST_TEXT as u64, b'\n')?;
@@ -36,8 +36,8 @@ fn take_data<I: Source>(
     input: &mut I,
     size: usize,
 ) -> Result<Chunk, Halt>
-    ensures reads { Reads (IsDataText size) (I.rest input.old) (I.rest input.new)
-        allowance.old.left allowance.new.left result }
+    ensures reads { Reads (IsDataText size) (supply_of I.Source input.old allowance.old.left)
+        (supply_of I.Source input.new allowance.new.left) result }
     ensures fair { IsFair I.faults I.is_steady input.old input.new (IsErrOf result Halt.Fault) }
 {
     let mut put = Chunk::with_room(alloc, size)?;

@@ -3,7 +3,7 @@ ghost use Rattle.std.specs.Prelude.{◌≡◌, nat_eq, find, IsErrOf};
 ghost use Rattle.std.specs.List.{list_any, starts_with};
 ghost use Rattle.std.specs.Str.{bytes_eq};
 ghost use Rattle.edi_ports.specs.Faults.{IsFair};
-ghost use Rattle.edit_script.specs.Reading.{Reads};
+ghost use Rattle.edit_script.specs.Reading.{Reads, supply_of};
 ghost use Rattle.edit_script.specs.Texts.{all_names, name_text, IsNameText};
 
 use crate::allowance::Allowance;
@@ -51,8 +51,8 @@ impl Name {
 
 /// The name that the next octets are, with the octet after it.
 pub(crate) fn take_name<I: Source>(allowance: &mut Allowance, input: &mut I) -> Result<Name, Halt>
-    ensures reads { Reads IsNameText (I.rest input.old) (I.rest input.new)
-        allowance.old.left allowance.new.left result }
+    ensures reads { Reads IsNameText (supply_of I.Source input.old allowance.old.left)
+        (supply_of I.Source input.new allowance.new.left) result }
     ensures fair { IsFair I.faults I.is_steady input.old input.new (IsErrOf result Halt.Fault) }
 {
     let mut line = [0; LONGEST];

@@ -3,7 +3,7 @@ ghost use Rattle.std.specs.Prelude.{◌≡◌, ◌≤◌, IsErrOf};
 ghost use Rattle.edi_ports.specs.Faults.{IsFair};
 ghost use Rattle.edit_script.specs.Command.{IsTextOf};
 ghost use Rattle.edit_script.specs.Next.{IsNext};
-ghost use Rattle.edit_script.specs.Reading.{Reads};
+ghost use Rattle.edit_script.specs.Reading.{Reads, supply_of};
 ghost use Rattle.edit_script.specs.Rest.{IsRestText};
 ghost use Rattle.edit_script.specs.declared.name.Name.TheVariants as name;
 
@@ -79,8 +79,8 @@ fn take_command<I: Source>(
     alloc: Global,
     input: &mut I,
 ) -> Result<Command, Halt>
-    ensures reads { Reads IsTextOf (I.rest input.old) (I.rest input.new)
-        allowance.old.left allowance.new.left result }
+    ensures reads { Reads IsTextOf (supply_of I.Source input.old allowance.old.left)
+        (supply_of I.Source input.new allowance.new.left) result }
     ensures fair { IsFair I.faults I.is_steady input.old input.new (IsErrOf result Halt.Fault) }
 {
     match take_name(allowance, input)? {
@@ -99,8 +99,8 @@ fn take_replace<I: Source>(
     alloc: Global,
     input: &mut I,
 ) -> Result<Command, Halt>
-    ensures reads { Reads (IsRestText name.Replace) (I.rest input.old) (I.rest input.new)
-        allowance.old.left allowance.new.left result }
+    ensures reads { Reads (IsRestText name.Replace) (supply_of I.Source input.old allowance.old.left)
+        (supply_of I.Source input.new allowance.new.left) result }
     ensures fair { IsFair I.faults I.is_steady input.old input.new (IsErrOf result Halt.Fault) }
 {
     let at = take_number(allowance, input, MOST, b' ')?;
@@ -115,8 +115,8 @@ fn take_contrl<I: Source>(
     alloc: Global,
     input: &mut I,
 ) -> Result<Command, Halt>
-    ensures reads { Reads (IsRestText name.Contrl) (I.rest input.old) (I.rest input.new)
-        allowance.old.left allowance.new.left result }
+    ensures reads { Reads (IsRestText name.Contrl) (supply_of I.Source input.old allowance.old.left)
+        (supply_of I.Source input.new allowance.new.left) result }
     ensures fair { IsFair I.faults I.is_steady input.old input.new (IsErrOf result Halt.Fault) }
 {
     let stamp = take_stamp(allowance, input)?;

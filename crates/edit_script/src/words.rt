@@ -3,7 +3,7 @@ ghost use Rattle.std.specs.Prelude.{◌≡◌, ◌<◌, ◌≤◌, ◌^◌, ◌&
 ghost use Rattle.std.specs.Char.{is_ascii_digit};
 ghost use Rattle.contrl_segments.specs.Stamp.{is_reference_of};
 ghost use Rattle.edi_ports.specs.Faults.{IsFair};
-ghost use Rattle.edit_script.specs.Reading.{Reads};
+ghost use Rattle.edit_script.specs.Reading.{Reads, supply_of};
 ghost use Rattle.edit_script.specs.Texts.{IsNumberText, IsLonger, IsStampText, IsDigitsText, IsReferenceText};
 
 use crate::allowance::Allowance;
@@ -26,8 +26,8 @@ pub(crate) fn take_number<I: Source>(
     requires wide { 9 ≤ most }
     requires fits { most < 10 ^ 19 }
     requires apart { IsFalse (is_ascii_digit end) }
-    ensures reads { Reads (IsNumberText most end) (I.rest input.old) (I.rest input.new)
-        allowance.old.left allowance.new.left result }
+    ensures reads { Reads (IsNumberText most end) (supply_of I.Source input.old allowance.old.left)
+        (supply_of I.Source input.new allowance.new.left) result }
     ensures fair { IsFair I.faults I.is_steady input.old input.new (IsErrOf result Halt.Fault) }
 {
     let first = allowance.take_octet(input)?;
@@ -67,8 +67,8 @@ fn with_digit(number: u64, octet: u8, most: u64) -> Option<u64>
 
 /// The stamp that the next octets up to a space are.
 pub(crate) fn take_stamp<I: Source>(allowance: &mut Allowance, input: &mut I) -> Result<Stamp, Halt>
-    ensures reads { Reads IsStampText (I.rest input.old) (I.rest input.new)
-        allowance.old.left allowance.new.left result }
+    ensures reads { Reads IsStampText (supply_of I.Source input.old allowance.old.left)
+        (supply_of I.Source input.new allowance.new.left) result }
     ensures fair { IsFair I.faults I.is_steady input.old input.new (IsErrOf result Halt.Fault) }
 {
     let date = take_digits(allowance, input, b':')?;
@@ -83,8 +83,8 @@ fn take_digits<I: Source, const N: usize>(
     end: u8,
 ) -> Result<[u8; N], Halt>
     requires apart { IsFalse (is_ascii_digit end) }
-    ensures reads { Reads (IsDigitsText N end) (I.rest input.old) (I.rest input.new)
-        allowance.old.left allowance.new.left result }
+    ensures reads { Reads (IsDigitsText N end) (supply_of I.Source input.old allowance.old.left)
+        (supply_of I.Source input.new allowance.new.left) result }
     ensures fair { IsFair I.faults I.is_steady input.old input.new (IsErrOf result Halt.Fault) }
 {
     let mut digits = [0; N];
@@ -107,8 +107,8 @@ pub(crate) fn take_reference<I: Source>(
     alloc: Global,
     input: &mut I,
 ) -> Result<Chunk, Halt>
-    ensures reads { Reads IsReferenceText (I.rest input.old) (I.rest input.new)
-        allowance.old.left allowance.new.left result }
+    ensures reads { Reads IsReferenceText (supply_of I.Source input.old allowance.old.left)
+        (supply_of I.Source input.new allowance.new.left) result }
     ensures fair { IsFair I.faults I.is_steady input.old input.new (IsErrOf result Halt.Fault) }
 {
     let mut reference = Chunk::empty(alloc);

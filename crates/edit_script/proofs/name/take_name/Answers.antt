@@ -12,7 +12,7 @@ loop-line-init g c = record {
   long = refl;
   inside = omega arith;
   part = name_part_empty;
-  takes = takes_nothing _ _;
+  takes = takes_nothing _;
   counted = omega arith;
   steady = λ was. was;
 }
@@ -23,7 +23,7 @@ returns-in-Some-clause-reads g c =
     let line : List ℕ = take c.loop-line.length c.loop-line.line ++ c.in_ok-line.field-0 ∷ [] in
     let longer : take (c.loop-line.length + 1) (set c.loop-line.line c.loop-line.length c.in_ok-line.field-0) ≡ line = take_more_set c.loop-line.line c.loop-line.length c.in_ok-line.field-0 (omega (arith, held.inside, held.long)) in
     let found = subst (λ (xs : List ℕ). find (λ name. bytes_eq (name_text name) xs) all_names ≡ Some c.in-Some.name) longer (sym c.find_name.ensures ∙ c.in-Some.is) in
-    reads_whole IsNameText _ _ _ _ _ _ (take c.loop-line.length c.loop-line.line) c.in_ok-line.field-0 _ (name_found line c.in-Some.name found) held.takes c.in_ok-line.ensures.reads
+    reads_whole IsNameText _ _ _ (take c.loop-line.length c.loop-line.line) c.in_ok-line.field-0 _ (name_found line c.in-Some.name found) held.takes c.in_ok-line.ensures.reads
 
 pub returns-then-not-begins_name-clause-reads : goal.returns-then-not-begins_name-clause-reads
 returns-then-not-begins_name-clause-reads g c =
@@ -31,7 +31,7 @@ returns-then-not-begins_name-clause-reads g c =
     let line : List ℕ = take c.loop-line.length c.loop-line.line ++ c.in_ok-line.field-0 ∷ [] in
     let longer : take (c.loop-line.length + 1) (set c.loop-line.line c.loop-line.length c.in_ok-line.field-0) ≡ line = take_more_set c.loop-line.line c.loop-line.length c.in_ok-line.field-0 (omega (arith, held.inside, held.long)) in
     let unbegun = subst (λ (xs : List ℕ). list_any (λ name. starts_with nat_eq (name_text name) xs) all_names ≡ false) longer (sym c.begins_name.ensures ∙ c.if-not-begins_name.true) in
-    reads_bad IsNameText _ _ _ _ _ _ (take c.loop-line.length c.loop-line.line) c.in_ok-line.field-0 held.part (name_bad _ _ held.part unbegun) held.takes c.in_ok-line.ensures.reads
+    reads_bad IsNameText _ _ _ (take c.loop-line.length c.loop-line.line) c.in_ok-line.field-0 held.part (name_bad _ _ held.part unbegun) held.takes c.in_ok-line.ensures.reads
 
 pub loop-line-preserved : goal.loop-line-preserved
 loop-line-preserved g c =
@@ -45,7 +45,7 @@ loop-line-preserved g c =
       long = length-set _ _ _ ∙ held.long;
       inside = omega (arith, short, held.inside, held.long, length-take-le (c.loop-line.length + 1) (set c.loop-line.line c.loop-line.length c.in_ok-line.field-0) within);
       part = part;
-      takes = takes_same _ _ _ _ _ _ (sym longer) (takes_then _ _ _ _ _ _ _ _ held.takes c.in_ok-line.ensures.reads);
+      takes = takes_same _ _ _ _ (sym longer) (takes_then _ _ _ _ _ held.takes c.in_ok-line.ensures.reads);
       counted = omega (arith, c.in_ok-line.ensures.fair.counted);
       steady = λ was. (c.in_ok-line.ensures.fair.steady (held.steady was)).1;
     }

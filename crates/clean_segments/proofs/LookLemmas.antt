@@ -22,7 +22,7 @@ use Rattle.seg_lexer.specs.declared.context.Context.{Context}
 use Rattle.seg_lexer.specs.declared.service.Separators.{Separators}
 use Rattle.element_check.specs.Local.{errors_by, errors_tagged, error_at, has_octet, local_errors_of}
 use Rattle.element_check.specs.Rules.{SegmentRules, list_of, rules_of}
-use Rattle.element_check.specs.Streams.{after_front, alone_errors, front_values, items_errors, part_errors, parts_errors, surplus_components, told_errors}
+use Rattle.element_check.specs.Streams.{after_front, alone_errors, front_values, items_errors, part_errors, part_rules, parts_errors, surplus_components, told_errors}
 use Rattle.element_check.specs.Value.{fails, test_results}
 use Rattle.element_check.proofs.BridgeLemmas.{elements-walk, front-is}
 use Rattle.element_check.proofs.StreamLemmas.{IsNext, alone-next, parts-next, parts_errors-end, told-none}
@@ -117,15 +117,15 @@ good-named context repr list value false good = good
 
 module _ (rules : SegmentRules) (element component : ℕ) (part : PartDef) (named : Bool) where
   -- an empty value of a data element that needs none
-  pub part-empty : (value : List ℕ) → value ≡ [] → part.must ≡ false → part_errors rules element component part named value ≡ []
+  pub part-empty : (value : List ℕ) → value ≡ [] → part.must ≡ false → part_errors (part_rules rules named) element component part value ≡ []
   part-empty value empty optional =
-      ap (part_errors rules element component part named) empty
+      ap (part_errors (part_rules rules named) element component part) empty
       ∙ ap (λ (b : Bool). when b (error_at element component Missing)) optional
 
   -- a value that passes its tests
   pub part-good : (value : List ℕ) → has_octet value ≡ true
       → list_any (λ (test : Kind × Bool). test.1) (test_results rules.context part.repr (list_of rules part.code.octets) value) ≡ false
-      → part_errors rules element component part named value ≡ []
+      → part_errors (part_rules rules named) element component part value ≡ []
   part-good value filled good =
       ap (λ (b : Bool). cond b (told_errors element component (test_results rules.context part.repr (if named then None else list_of rules part.code.octets) value)) (when part.must (error_at element component Missing))) filled
       ∙ told-none element component (test_results rules.context part.repr (if named then None else list_of rules part.code.octets) value)
@@ -134,7 +134,7 @@ module _ (rules : SegmentRules) (element component : ℕ) (part : PartDef) (name
   -- the same, by what was read of it
   pub part-passed : (context : Context) (list : Option CodeList) (value : List ℕ) (empty result : Bool) → context ≡ rules.context → list ≡ list_of rules part.code.octets
       → empty ≡ eqb (length value) 0 → empty ≡ false → result ≡ not (list_any (λ (test : Kind × Bool). test.1) (test_results context part.repr list value)) → result ≡ true
-      → part_errors rules element component part named value ≡ []
+      → part_errors (part_rules rules named) element component part value ≡ []
   part-passed context list value empty result context_is list_is empty_is filled is passed =
       part-good value (ap not (sym empty_is ∙ filled))
       (ap (λ (x : Context). list_any (λ (test : Kind × Bool). test.1) (test_results x part.repr (list_of rules part.code.octets) value)) (sym context_is)
@@ -143,7 +143,7 @@ module _ (rules : SegmentRules) (element component : ℕ) (part : PartDef) (name
 
 module _ (rules : SegmentRules) (element : ℕ) where
   -- a stand-alone data element with one value, which has no error
-  pub alone-clean : (part : PartDef) (vs : List (List ℕ)) (v : List ℕ) (ws : List (List ℕ)) → IsNext vs v ws → part_errors rules element 0 part false v ≡ [] → ws ≡ []
+  pub alone-clean : (part : PartDef) (vs : List (List ℕ)) (v : List ℕ) (ws : List (List ℕ)) → IsNext vs v ws → part_errors (part_rules rules false) element 0 part v ≡ [] → ws ≡ []
       → alone_errors rules element part vs ≡ []
   alone-clean part vs v ws next good none =
       sym (alone-next rules element part vs v ws next)
@@ -152,23 +152,23 @@ module _ (rules : SegmentRules) (element : ℕ) where
 
   -- the parts after one whose value has no error
   pub parts-later : (c : ℕ) (named : Bool) (parts : List PartDef) (i : ℕ) (d : PartDef) (vs : List (List ℕ)) (v : List ℕ) (ws : List (List ℕ)) → i < length parts → IsNext vs v ws
-      → part_errors rules element c (get_or parts i d) named v ≡ []
-      → parts_errors rules element (c + 1) named (drop (i + 1) parts) ws ≡ parts_errors rules element c named (drop i parts) vs
+      → part_errors (part_rules rules named) element c (get_or parts i d) v ≡ []
+      → parts_errors (part_rules rules named) element (c + 1) (drop (i + 1) parts) ws ≡ parts_errors (part_rules rules named) element c (drop i parts) vs
   parts-later c named parts i d vs v ws within next good =
-      sym (ap (λ (es : List LocalError). es ++ parts_errors rules element (c + 1) named (drop (i + 1) parts) ws) good)
+      sym (ap (λ (es : List LocalError). es ++ parts_errors (part_rules rules named) element (c + 1) (drop (i + 1) parts) ws) good)
       ∙ parts-next rules element c named parts i d vs v ws within next
 
   -- where all parts are passed, and no value is left
-  pub parts-past : (c : ℕ) (named : Bool) (parts : List PartDef) (i : ℕ) (vs : List (List ℕ)) → length parts ≤ i → vs ≡ [] → parts_errors rules element c named (drop i parts) vs ≡ []
+  pub parts-past : (c : ℕ) (named : Bool) (parts : List PartDef) (i : ℕ) (vs : List (List ℕ)) → length parts ≤ i → vs ≡ [] → parts_errors (part_rules rules named) element c (drop i parts) vs ≡ []
   parts-past c named parts i vs past none = sym (parts_errors-end rules element c named parts i vs past) ∙ ap (surplus_components element c) none
 
   -- the first part, and those after it
   pub parts-begun : (named : Bool) (parts : List PartDef) (d : PartDef) (first : List ℕ) (vs : List (List ℕ)) → 1 ≤ length parts
-      → part_errors rules element 1 (get_or parts 0 d) named first ≡ [] → parts_errors rules element 2 named (take (length parts - 1) (drop 1 parts)) vs ≡ []
-      → parts_errors rules element 1 named parts (first ∷ vs) ≡ []
+      → part_errors (part_rules rules named) element 1 (get_or parts 0 d) first ≡ [] → parts_errors (part_rules rules named) element 2 (take (length parts - 1) (drop 1 parts)) vs ≡ []
+      → parts_errors (part_rules rules named) element 1 parts (first ∷ vs) ≡ []
   parts-begun named [] d first vs long good none = absurd (omega (arith, long))
   parts-begun named (p ∷ ps) d first vs long good none =
       let last : length (p ∷ ps) - 1 ≡ length ps = omega arith in
       let all : take (length (p ∷ ps) - 1) ps ≡ ps = ap (λ (n : ℕ). take n ps) last ∙ take-length ps in
-      ap (λ (es : List LocalError). es ++ parts_errors rules element 2 named ps vs) good
-      ∙ sym (ap (λ (qs : List PartDef). parts_errors rules element 2 named qs vs) all) ∙ none
+      ap (λ (es : List LocalError). es ++ parts_errors (part_rules rules named) element 2 ps vs) good
+      ∙ sym (ap (λ (qs : List PartDef). parts_errors (part_rules rules named) element 2 qs vs) all) ∙ none

@@ -4,7 +4,7 @@ ghost use Rattle.std.specs.Option.{option_map};
 ghost use Rattle.seg_lexer.specs.Fields.{components_of, separators_of};
 ghost use Rattle.seg_lexer.specs.Tag.{tag_of};
 ghost use Rattle.element_check.specs.Local.{local_errors_of};
-ghost use Rattle.element_check.specs.Streams.{after_front, composite_errors, front_values, item_errors, items_errors, part_errors, parts_errors};
+ghost use Rattle.element_check.specs.Streams.{after_front, composite_errors, front_values, item_errors, items_errors, part_errors, part_rules, parts_errors};
 ghost use Rattle.clean_segments.specs.Plain.{plain_left};
 ghost use Rattle.edi_octets.specs.declared.octets.TheConstants.{LONGEST_TEXT};
 
@@ -102,7 +102,7 @@ fn are_parts_clean(
     fields: &mut PlainFields<'_>,
 ) -> bool
     ensures clean { (named : Bool) → IsTrue result
-        → parts_errors rules.now element 1 named parts.now
+        → parts_errors (part_rules rules.now named) element 1 parts.now
         (first.now ∷ front_values element (plain_left fields.old)) ≡ [] }
     ensures after { IsTrue result
         → plain_left fields.new ≡ after_front element (plain_left fields.old) }
@@ -125,7 +125,7 @@ fn are_parts_clean(
 // Whether a data element is seen to have no error, by its value, if one is written.
 fn is_part_clean(rules: &Rules<'_>, part: &PartDef, value: Option<&[u8]>) -> bool
     ensures { (element component : ℕ) (named : Bool) → IsTrue result
-        → part_errors rules.now element component part.now named
+        → part_errors (part_rules rules.now named) element component part.now
         (unwrap_or (option_map (λ octets. octets.now) value.entry) []) ≡ [] }
 {
     match value {
@@ -138,7 +138,7 @@ fn is_part_clean(rules: &Rules<'_>, part: &PartDef, value: Option<&[u8]>) -> boo
 // where the composite names another list.
 fn is_value_clean(rules: &Rules<'_>, part: &PartDef, octets: &[u8]) -> bool
     ensures { (element component : ℕ) (named : Bool) → IsTrue result
-        → part_errors rules.now element component part.now named octets.now ≡ [] }
+        → part_errors (part_rules rules.now named) element component part.now octets.now ≡ [] }
 {
     if octets.is_empty() {
         return !part.must;

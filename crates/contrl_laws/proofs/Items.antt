@@ -20,7 +20,7 @@ use Rattle.seg_lexer.specs.declared.context.Context.{Context}
 use Rattle.element_check.specs.Local.{elements_errors, error_at, errors_by, errors_tagged, has_octet, local_errors_of}
 use Rattle.element_check.specs.Repertoire.{is_admitted}
 use Rattle.element_check.specs.Rules.{SegmentRules, list_of, parts_of, rules_of, service_rules}
-use Rattle.element_check.specs.Streams.{after_front, alone_errors, composite_errors, item_errors, items_errors, part_errors, parts_errors, told_errors}
+use Rattle.element_check.specs.Streams.{after_front, alone_errors, composite_errors, item_errors, items_errors, part_errors, part_rules, parts_errors, told_errors}
 use Rattle.element_check.specs.Local.{is_list_named}
 use Rattle.element_check.specs.Value.{counted_length, has_foreign, is_decimal, is_numeric, test_results}
 use Rattle.element_check.specs.declared.error.LocalError.{LocalError}
@@ -143,7 +143,7 @@ module _ (context : Context) (items : List ItemDef) where
   list-none true code = refl
   list-none false code = refl
 
-  part-free : (e c : ℕ) (part : PartDef) (named : Bool) (x : List ℕ) → IsGoodValue context part.must part.repr x → part_errors rules e c part named x ≡ []
+  part-free : (e c : ℕ) (part : PartDef) (named : Bool) (x : List ℕ) → IsGoodValue context part.must part.repr x → part_errors (part_rules rules named) e c part x ≡ []
   part-free e c part named x good = elim (cases_Bool (has_octet x)) [
     | inl some ↦
         ap (λ (b : Bool). cond b (told_errors e c (test_results context part.repr (cond named None (list_of rules part.code.octets)) x)) (when part.must (error_at e c Missing))) some
@@ -155,30 +155,30 @@ module _ (context : Context) (items : List ItemDef) where
   ]
 
   -- a part of which nothing is written
-  part-none : (e c : ℕ) (part : PartDef) (named : Bool) → part.must ≡ false → part_errors rules e c part named [] ≡ []
+  part-none : (e c : ℕ) (part : PartDef) (named : Bool) → part.must ≡ false → part_errors (part_rules rules named) e c part [] ≡ []
   part-none e c part named free = ap (λ (b : Bool). when b (error_at e c Missing)) free
 
-  parts-none : (e c : ℕ) (named : Bool) (ps : List PartDef) (vs : List (List ℕ)) → AreGoodParts context ps vs → list_all is_empty_value vs ≡ true → parts_errors rules e c named ps [] ≡ []
+  parts-none : (e c : ℕ) (named : Bool) (ps : List PartDef) (vs : List (List ℕ)) → AreGoodParts context ps vs → list_all is_empty_value vs ≡ true → parts_errors (part_rules rules named) e c ps [] ≡ []
   parts-none e c named [] [] good empty = refl
   parts-none e c named [] (v ∷ vs) good empty = absurd good
   parts-none e c named (p ∷ ps) [] good empty =
-      ap (λ (es : List LocalError). es ++ parts_errors rules e (c + 1) named ps []) (part-none e c p named good.0) ∙ parts-none e (c + 1) named ps [] good.1 refl
+      ap (λ (es : List LocalError). es ++ parts_errors (part_rules rules named) e (c + 1) ps []) (part-none e c p named good.0) ∙ parts-none e (c + 1) named ps [] good.1 refl
   parts-none e c named (p ∷ ps) (v ∷ vs) good empty =
       let both = and_parts (is_empty_value v) (list_all is_empty_value vs) empty in
-      ap (λ (es : List LocalError). es ++ parts_errors rules e (c + 1) named ps []) (part-none e c p named (not_must p.must v good.0.filled both.0))
+      ap (λ (es : List LocalError). es ++ parts_errors (part_rules rules named) e (c + 1) ps []) (part-none e c p named (not_must p.must v good.0.filled both.0))
       ∙ parts-none e (c + 1) named ps vs good.1 both.1
 
-  parts-free : (e c : ℕ) (named : Bool) (ps : List PartDef) (vs : List (List ℕ)) → AreGoodParts context ps vs → parts_errors rules e c named ps (trimmed is_empty_value vs) ≡ []
+  parts-free : (e c : ℕ) (named : Bool) (ps : List PartDef) (vs : List (List ℕ)) → AreGoodParts context ps vs → parts_errors (part_rules rules named) e c ps (trimmed is_empty_value vs) ≡ []
   parts-free e c named [] [] good = refl
   parts-free e c named [] (v ∷ vs) good = absurd good
   parts-free e c named (p ∷ ps) [] good = parts-none e c named (p ∷ ps) [] good refl
   parts-free e c named (p ∷ ps) (v ∷ vs) good = elim (cases_Bool (list_all is_empty_value (v ∷ vs))) [
     | inl all ↦
-        ap (λ (b : Bool). parts_errors rules e c named (p ∷ ps) (cond b [] (v ∷ trimmed is_empty_value vs))) all
+        ap (λ (b : Bool). parts_errors (part_rules rules named) e c (p ∷ ps) (cond b [] (v ∷ trimmed is_empty_value vs))) all
         ∙ parts-none e c named (p ∷ ps) (v ∷ vs) good all
     | inr some ↦
-        ap (λ (b : Bool). parts_errors rules e c named (p ∷ ps) (cond b [] (v ∷ trimmed is_empty_value vs))) some
-        ∙ (ap (λ (es : List LocalError). es ++ parts_errors rules e (c + 1) named ps (trimmed is_empty_value vs)) (part-free e c p named v good.0)
+        ap (λ (b : Bool). parts_errors (part_rules rules named) e c (p ∷ ps) (cond b [] (v ∷ trimmed is_empty_value vs))) some
+        ∙ (ap (λ (es : List LocalError). es ++ parts_errors (part_rules rules named) e (c + 1) ps (trimmed is_empty_value vs)) (part-free e c p named v good.0)
         ∙ parts-free e (c + 1) named ps vs good.1)
   ]
 
@@ -187,11 +187,11 @@ module _ (context : Context) (items : List ItemDef) where
   composite-free e must parts vs (inl good) =
       let any : list_any has_octet (trimmed is_empty_value vs) ≡ true = any-trimmed vs ∙ good.0 in
       ap (composite_errors rules e must parts) (some-read (trimmed is_empty_value vs) any)
-      ∙ (ap (λ (b : Bool). cond b (parts_errors rules e 1 (is_list_named parts (trimmed is_empty_value vs)) parts (trimmed is_empty_value vs)) (when must (error_at e 0 Missing))) any
+      ∙ (ap (λ (b : Bool). cond b (parts_errors (part_rules rules (is_list_named parts (trimmed is_empty_value vs))) e 1 parts (trimmed is_empty_value vs)) (when must (error_at e 0 Missing))) any
       ∙ parts-free e 1 (is_list_named parts (trimmed is_empty_value vs)) parts vs good.1)
   composite-free e must parts vs (inr none) =
       let values : List (List ℕ) = values_read (trimmed is_empty_value vs) in
-      ap (λ (b : Bool). cond b (parts_errors rules e 1 (is_list_named parts values) parts values) (when must (error_at e 0 Missing)))
+      ap (λ (b : Bool). cond b (parts_errors (part_rules rules (is_list_named parts values)) e 1 parts values) (when must (error_at e 0 Missing)))
       (any-read (trimmed is_empty_value vs) ∙ (any-trimmed vs ∙ none.1))
       ∙ ap (λ (b : Bool). when b (error_at e 0 Missing)) none.0
 

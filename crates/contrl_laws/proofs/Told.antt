@@ -27,7 +27,7 @@ use Rattle.seg_lexer.specs.Released.{value_of}
 use Rattle.seg_lexer.proofs.ServiceLemmas.{service_of-usable}
 use Rattle.element_check.specs.Local.{elements_errors, error_at, has_octet, is_list_named, local_errors_of}
 use Rattle.element_check.specs.Rules.{SegmentRules, list_of, parts_of, rules_of, service_rules}
-use Rattle.element_check.specs.Streams.{after_front, composite_errors, first_value, front_values, item_errors, items_errors, later_values, part_errors, parts_errors, surplus_components, told_errors}
+use Rattle.element_check.specs.Streams.{after_front, composite_errors, first_value, front_values, item_errors, items_errors, later_values, part_errors, part_rules, parts_errors, surplus_components, told_errors}
 use Rattle.element_check.specs.Value.{test_results}
 use Rattle.element_check.specs.declared.error.LocalError.{LocalError}
 use Rattle.element_check.proofs.BridgeLemmas.{elements-walk}
@@ -119,7 +119,7 @@ module _ (context : Context) (items : List ItemDef) where
   abbrev rules : SegmentRules
   rules = rules_for context items
 
-  part-told : (e c : ℕ) (part : PartDef) (named : Bool) (v : List ℕ) → part_errors rules e c part named v ≡ [] → IsGoodValue context part.must part.repr v
+  part-told : (e c : ℕ) (part : PartDef) (named : Bool) (v : List ℕ) → part_errors (part_rules rules named) e c part v ≡ [] → IsGoodValue context part.must part.repr v
   part-told e c part named v none =
       let told : List LocalError = told_errors e c (test_results context part.repr (cond named None (list_of rules part.code.octets)) v) in
       let missing : List LocalError = when part.must (error_at e c Missing) in
@@ -135,23 +135,23 @@ module _ (context : Context) (items : List ItemDef) where
             record { filled = λ need. absurd (false≢true (sym free ∙ need)); passes = λ is. absurd (false≢true (sym empty ∙ is)) }
       ]
 
-  parts-told : (e c : ℕ) (named : Bool) (parts : List PartDef) (vs : List (List ℕ)) (j : ℕ) (part : PartDef) → parts_errors rules e c named parts vs ≡ [] → slice_get parts j ≡ Some part
+  parts-told : (e c : ℕ) (named : Bool) (parts : List PartDef) (vs : List (List ℕ)) (j : ℕ) (part : PartDef) → parts_errors (part_rules rules named) e c parts vs ≡ [] → slice_get parts j ≡ Some part
       → IsGoodValue context part.must part.repr (get_or vs j [])
   parts-told e c named [] vs j part none at = absurd (let never : ⊥ = cc in never)
   parts-told e c named (p ∷ ps) vs zero part none at =
       let same : p ≡ part = cc in
       subst (λ (q : PartDef). IsGoodValue context q.must q.repr (get_or vs 0 [])) same
       (subst (IsGoodValue context p.must p.repr) (first-get vs)
-      (part-told e c p named (first_value vs) (append-left (part_errors rules e c p named (first_value vs)) (parts_errors rules e (c + 1) named ps (later_values vs)) none)))
+      (part-told e c p named (first_value vs) (append-left (part_errors (part_rules rules named) e c p (first_value vs)) (parts_errors (part_rules rules named) e (c + 1) ps (later_values vs)) none)))
   parts-told e c named (p ∷ ps) vs (suc j) part none at =
       subst (IsGoodValue context part.must part.repr) (later-get vs j)
-      (parts-told e (c + 1) named ps (later_values vs) j part (append-right (part_errors rules e c p named (first_value vs)) (parts_errors rules e (c + 1) named ps (later_values vs)) none) at)
+      (parts-told e (c + 1) named ps (later_values vs) j part (append-right (part_errors (part_rules rules named) e c p (first_value vs)) (parts_errors (part_rules rules named) e (c + 1) ps (later_values vs)) none) at)
 
-  composite-told : (e : ℕ) (parts : List PartDef) (vs : List (List ℕ)) → composite_errors rules e true parts vs ≡ [] → parts_errors rules e 1 (is_list_named parts vs) parts vs ≡ []
+  composite-told : (e : ℕ) (parts : List PartDef) (vs : List (List ℕ)) → composite_errors rules e true parts vs ≡ [] → parts_errors (part_rules rules (is_list_named parts vs)) e 1 parts vs ≡ []
   composite-told e parts vs none = elim (cases_Bool (list_any has_octet vs)) [
-    | inl some ↦ sym (ap (λ (b : Bool). cond b (parts_errors rules e 1 (is_list_named parts vs) parts vs) (when true (error_at e 0 Missing))) some) ∙ none
+    | inl some ↦ sym (ap (λ (b : Bool). cond b (parts_errors (part_rules rules (is_list_named parts vs)) e 1 parts vs) (when true (error_at e 0 Missing))) some) ∙ none
     | inr empty ↦
-        let never : error_at e 0 Missing ∷ [] ≡ [] = sym (ap (λ (b : Bool). cond b (parts_errors rules e 1 (is_list_named parts vs) parts vs) (when true (error_at e 0 Missing))) empty) ∙ none in
+        let never : error_at e 0 Missing ∷ [] ≡ [] = sym (ap (λ (b : Bool). cond b (parts_errors (part_rules rules (is_list_named parts vs)) e 1 parts vs) (when true (error_at e 0 Missing))) empty) ∙ none in
         absurd (let no_error : ⊥ = cc in no_error)
   ]
 
@@ -212,7 +212,7 @@ module _ (dir : Parts) (context : Context) (components : List Component) (number
       let vs : List (List ℕ) = get_or numbered.lists (suc i) [] in
       subst (IsGoodValue context part.must part.repr) (first-get vs ∙ value-at (suc i) 1 i 0 refl refl)
       (part-told context items found.0 0 part false (first_value vs)
-      (append-left (part_errors (rules_for context items) found.0 0 part false (first_value vs)) (surplus_components found.0 2 (later_values vs)) found.1))
+      (append-left (part_errors (part_rules (rules_for context items) false) found.0 0 part (first_value vs)) (surplus_components found.0 2 (later_values vs)) found.1))
 
   pub part-good : (i j c : ℕ) (code : Code) (parts : List PartDef) (part : PartDef) → slice_get items i ≡ Some (Composite code true) → service_parts_of code.octets ≡ Some parts → slice_get parts j ≡ Some part → c ≡ 1 + j
       → IsGoodValue context part.must part.repr (value_in components (suc i) c)

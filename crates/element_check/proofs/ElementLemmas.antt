@@ -12,7 +12,7 @@ use Rattle.error_ledger.specs.declared.kind.Kind.{Kind}
 use Rattle.error_ledger.specs.declared.kind.Kind.TheVariants.{TooManyElements, TooManyComponents, Missing}
 use Rattle.element_check.specs.Local.{element_errors, element_kinds, error_at, component_errors_at, errors_whole, is_broken_part, has_octet, is_list_named, list_in, parts_in, value_at}
 use Rattle.element_check.specs.Rules.{SegmentRules, list_of, parts_of}
-use Rattle.element_check.specs.Streams.{alone_errors, composite_errors, first_value, item_errors, later_values, part_errors, parts_errors, surplus_components, told_errors}
+use Rattle.element_check.specs.Streams.{alone_errors, composite_errors, first_value, item_errors, later_values, part_errors, part_rules, parts_errors, surplus_components, told_errors}
 use Rattle.element_check.specs.Value.{fails, value_kinds}
 use Rattle.element_check.specs.declared.error.LocalError.{LocalError}
 
@@ -103,7 +103,7 @@ value-here xs i ys h = ap (λ o. unwrap_or o []) (holds-here xs i ys h) ∙ firs
 
 module _ (rules : SegmentRules) (item : ItemDef) (values : List (List ℕ)) (element : ℕ) where
   abbrev at_place : ℕ → Option PartDef → List LocalError
-  at_place component o = map (error_at element component) (filter (is_broken_part rules item values component o) element_kinds)
+  at_place component o = map (error_at element component) (filter (is_broken_part rules item values (o, value_at values component)) element_kinds)
 
   -- the components past the last part
   surplus-walk : (i : ℕ) (ws : List (List ℕ)) → HoldsFrom (parts_in rules item) i [] → HoldsFrom values i ws
@@ -140,14 +140,14 @@ module _ (rules : SegmentRules) (code : Code) (must : Bool) (values : List (List
 
   -- the parts of a composite and what is past them
   parts-walk : (i : ℕ) (ps : List PartDef) (ws : List (List ℕ)) → list_any has_octet values ≡ true → HoldsFrom parts i ps → HoldsFrom values i ws
-      → flat_map (component_errors_at rules (Some composite) values element) (range_with_len (i + 1) (span ps ws)) ≡ parts_errors rules element (i + 1) named ps ws
+      → flat_map (component_errors_at rules (Some composite) values element) (range_with_len (i + 1) (span ps ws)) ≡ parts_errors (part_rules rules named) element (i + 1) ps ws
   parts-walk i [] ws any parts_are values_are = surplus-walk rules composite values element i ws parts_are values_are
   parts-walk i (p ∷ ps) ws any parts_are values_are =
       ap (λ o. at_place rules composite values element (i + 1) o ++ flat_map (component_errors_at rules (Some composite) values element) (range_with_len (i + 1 + 1) (span ps (later_values ws)))) (holds-here parts i (p ∷ ps) parts_are)
       ∙ ap (λ es. es ++ flat_map (component_errors_at rules (Some composite) values element) (range_with_len (i + 1 + 1) (span ps (later_values ws))))
       (part-place element (i + 1) (list_any has_octet values) p.must (has_octet (value_at values (i + 1))) (results p (value_at values (i + 1))) any)
-      ∙ ap (λ (v : List ℕ). part_errors rules element (i + 1) p named v ++ flat_map (component_errors_at rules (Some composite) values element) (range_with_len (i + 1 + 1) (span ps (later_values ws)))) (value-here values i ws values_are)
-      ∙ ap (λ es. part_errors rules element (i + 1) p named (first_value ws) ++ es) (parts-walk (i + 1) ps (later_values ws) any (holds-later parts i p ps parts_are) (holds-values values i ws values_are))
+      ∙ ap (λ (v : List ℕ). part_errors (part_rules rules named) element (i + 1) p v ++ flat_map (component_errors_at rules (Some composite) values element) (range_with_len (i + 1 + 1) (span ps (later_values ws)))) (value-here values i ws values_are)
+      ∙ ap (λ es. part_errors (part_rules rules named) element (i + 1) p (first_value ws) ++ es) (parts-walk (i + 1) ps (later_values ws) any (holds-later parts i p ps parts_are) (holds-values values i ws values_are))
 
   -- a value of an element without a filled component is empty
   none-filled : (vs : List (List ℕ)) (i : ℕ) → list_any has_octet vs ≡ false → has_octet (unwrap_or (slice_get vs i) []) ≡ false
@@ -170,7 +170,7 @@ module _ (rules : SegmentRules) (code : Code) (must : Bool) (values : List (List
         ∙ ap (λ (b : Bool). when b (error_at element 0 Missing) ++ flat_map (component_errors_at rules (Some composite) values element) (range_with_len 1 (max (length parts) (length values)))) (and_false must)
         ∙ ap (λ (n : ℕ). flat_map (component_errors_at rules (Some composite) values element) (range_with_len 1 n)) (max-span parts values)
         ∙ parts-walk 0 parts values any (λ k. ap (slice_get parts) (zero-add k)) (λ k. ap (slice_get values) (zero-add k))
-        ∙ sym (ap (λ (a : Bool). cond a (parts_errors rules element 1 named parts values) (when must (error_at element 0 Missing))) any)
+        ∙ sym (ap (λ (a : Bool). cond a (parts_errors (part_rules rules named) element 1 parts values) (when must (error_at element 0 Missing))) any)
     | inr none ↦
         ap (λ es. errors_whole rules (Some composite) values element ++ es)
         (flat_map-empty (component_errors_at rules (Some composite) values element) (range_with_len 1 (max (length parts) (length values)))
@@ -179,7 +179,7 @@ module _ (rules : SegmentRules) (code : Code) (must : Bool) (values : List (List
         ∙ one-kind element 0 Missing (must && not (list_any has_octet values))
         ∙ ap (λ (a : Bool). when (must && not a) (error_at element 0 Missing)) none
         ∙ ap (λ (b : Bool). when b (error_at element 0 Missing)) (and_true must)
-        ∙ sym (ap (λ (a : Bool). cond a (parts_errors rules element 1 named parts values) (when must (error_at element 0 Missing))) none)
+        ∙ sym (ap (λ (a : Bool). cond a (parts_errors (part_rules rules named) element 1 parts values) (when must (error_at element 0 Missing))) none)
   ]
 
 module _ (rules : SegmentRules) (part : PartDef) (values : List (List ℕ)) (element : ℕ) where
@@ -200,8 +200,8 @@ module _ (rules : SegmentRules) (part : PartDef) (values : List (List ℕ)) (ele
   element-alone =
       ap (λ es. es ++ flat_map (component_errors_at rules (Some alone) values element) (range_with_len 1 (max 1 (length values))))
       (value-place element 0 part.must (has_octet (value_at values 1)) (fails rules.context part.repr (list_of rules part.code.octets) (value_at values 1)))
-      ∙ ap (λ (v : List ℕ). part_errors rules element 0 part false v ++ flat_map (component_errors_at rules (Some alone) values element) (range_with_len 1 (max 1 (length values)))) first-at
-      ∙ ap (λ es. part_errors rules element 0 part false (first_value values) ++ es) (alone-walk (max 1 (length values)) (max-span (part ∷ []) values))
+      ∙ ap (λ (v : List ℕ). part_errors (part_rules rules false) element 0 part v ++ flat_map (component_errors_at rules (Some alone) values element) (range_with_len 1 (max 1 (length values)))) first-at
+      ∙ ap (λ es. part_errors (part_rules rules false) element 0 part (first_value values) ++ es) (alone-walk (max 1 (length values)) (max-span (part ∷ []) values))
 
 -- the errors of an element that has an item
 pub element-item : (rules : SegmentRules) (item : ItemDef) (values : List (List ℕ)) (element : ℕ) → element_errors rules (Some item) values element ≡ item_errors rules element item values

@@ -18,7 +18,7 @@ use Rattle.seg_lexer.specs.Fields.{Component}
 use Rattle.seg_lexer.specs.declared.context.Context.{Context}
 use Rattle.element_check.specs.Local.{error_at, has_octet, is_list_named, names_list}
 use Rattle.element_check.specs.Rules.{SegmentRules, list_of}
-use Rattle.element_check.specs.Streams.{after_front, alone_errors, first_value, front_values, item_errors, items_errors, later_values, part_errors, parts_errors, surplus_components, surplus_elements, told_errors}
+use Rattle.element_check.specs.Streams.{after_front, alone_errors, first_value, front_values, item_errors, items_errors, later_values, part_errors, part_rules, parts_errors, surplus_components, surplus_elements, told_errors}
 use Rattle.element_check.specs.Value.{test_results}
 use Rattle.element_check.specs.declared.error.LocalError.{LocalError}
 use Rattle.element_check.proofs.ErrorsLemmas.{full_step}
@@ -74,7 +74,7 @@ surplus_elements-full old now total n components x xs empty same steps past empt
 pub part-filled : (rules : SegmentRules) (element component : ℕ) (part : PartDef) (named : Bool) (v : List ℕ) (empty : Bool) (context : Context) (list : Option CodeList) (results : List (Kind × Bool))
     → context ≡ rules.context → list ≡ (if named then None else list_of rules part.code.octets) → results ≡ test_results context part.repr list v
     → empty ≡ eqb (length v) 0 → empty ≡ false
-    → told_errors element component results ≡ part_errors rules element component part named v
+    → told_errors element component results ≡ part_errors (part_rules rules named) element component part v
 part-filled rules element component part named v empty context list results context_is list_is results_is empty_is filled =
     ap (told_errors element component) (results_is ∙ ap (λ (x : Context). test_results x part.repr list v) context_is ∙ ap (λ (l : Option CodeList). test_results rules.context part.repr l v) list_is)
     ∙ sym (ap (λ (b : Bool). cond (not b) (told_errors element component (test_results rules.context part.repr (if named then None else list_of rules part.code.octets) v)) (when part.must (error_at element component Missing))) (sym empty_is ∙ filled))
@@ -82,23 +82,23 @@ part-filled rules element component part named v empty context list results cont
 module _ (rules : SegmentRules) (element : ℕ) where
   -- the errors of a stand-alone data element, first value and others
   pub alone-next : (part : PartDef) (vs : List (List ℕ)) (v : List ℕ) (ws : List (List ℕ)) → IsNext vs v ws
-      → part_errors rules element 0 part false v ++ surplus_components element 2 ws ≡ alone_errors rules element part vs
+      → part_errors (part_rules rules false) element 0 part v ++ surplus_components element 2 ws ≡ alone_errors rules element part vs
   alone-next part vs v ws next =
-      ap (λ (x : List ℕ). part_errors rules element 0 part false x ++ surplus_components element 2 ws) next.first
-      ∙ ap (λ (xs : List (List ℕ)). part_errors rules element 0 part false (first_value vs) ++ surplus_components element 2 xs) next.later
+      ap (λ (x : List ℕ). part_errors (part_rules rules false) element 0 part x ++ surplus_components element 2 ws) next.first
+      ∙ ap (λ (xs : List (List ℕ)). part_errors (part_rules rules false) element 0 part (first_value vs) ++ surplus_components element 2 xs) next.later
 
   -- the errors of the parts from place i on, first value and others
   pub parts-next : (c : ℕ) (named : Bool) (parts : List PartDef) (i : ℕ) (d : PartDef) (vs : List (List ℕ)) (v : List ℕ) (ws : List (List ℕ)) → i < length parts → IsNext vs v ws
-      → part_errors rules element c (get_or parts i d) named v ++ parts_errors rules element (c + 1) named (drop (i + 1) parts) ws ≡ parts_errors rules element c named (drop i parts) vs
+      → part_errors (part_rules rules named) element c (get_or parts i d) v ++ parts_errors (part_rules rules named) element (c + 1) (drop (i + 1) parts) ws ≡ parts_errors (part_rules rules named) element c (drop i parts) vs
   parts-next c named parts i d vs v ws within next =
-      ap (λ (x : List ℕ). part_errors rules element c (get_or parts i d) named x ++ parts_errors rules element (c + 1) named (drop (i + 1) parts) ws) next.first
-      ∙ ap (λ (xs : List (List ℕ)). part_errors rules element c (get_or parts i d) named (first_value vs) ++ parts_errors rules element (c + 1) named (drop (i + 1) parts) xs) next.later
-      ∙ ap (λ (ps : List PartDef). parts_errors rules element c named ps vs) (sym (drop-first parts i d within))
+      ap (λ (x : List ℕ). part_errors (part_rules rules named) element c (get_or parts i d) x ++ parts_errors (part_rules rules named) element (c + 1) (drop (i + 1) parts) ws) next.first
+      ∙ ap (λ (xs : List (List ℕ)). part_errors (part_rules rules named) element c (get_or parts i d) (first_value vs) ++ parts_errors (part_rules rules named) element (c + 1) (drop (i + 1) parts) xs) next.later
+      ∙ ap (λ (ps : List PartDef). parts_errors (part_rules rules named) element c ps vs) (sym (drop-first parts i d within))
 
 -- no part is left
 pub parts_errors-end : (rules : SegmentRules) (element c : ℕ) (named : Bool) (parts : List PartDef) (i : ℕ) (vs : List (List ℕ)) → length parts ≤ i
-    → surplus_components element c vs ≡ parts_errors rules element c named (drop i parts) vs
-parts_errors-end rules element c named parts i vs past = sym (ap (λ (ps : List PartDef). parts_errors rules element c named ps vs) (drop_of_length-le parts past))
+    → surplus_components element c vs ≡ parts_errors (part_rules rules named) element c (drop i parts) vs
+parts_errors-end rules element c named parts i vs past = sym (ap (λ (ps : List PartDef). parts_errors (part_rules rules named) element c ps vs) (drop_of_length-le parts past))
 
 items_errors-end : (rules : SegmentRules) (n : ℕ) (items : List ItemDef) (i : ℕ) (components : List Component) → length items ≤ i
     → surplus_elements n components ≡ items_errors rules n (drop i items) components

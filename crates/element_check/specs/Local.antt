@@ -71,23 +71,23 @@ is_broken_whole rules (Some (Composite code must)) values kind = false
 abbrev pub list_in : SegmentRules → List PartDef → List Octets → PartDef → Option CodeList
 list_in rules parts values part = if is_list_named parts values then None else list_of rules part.code.octets
 
--- the rule of a kind is broken at a component of an element that has this item:
+-- the rule of a kind is broken at a component of an element that has this item, by the part that it is and its value:
 -- at one that is past the last part, or at a part of a composite
-abbrev pub is_broken_part : SegmentRules → ItemDef → List Octets → ℕ → Option PartDef → Kind → Bool
-is_broken_part rules item values component None TooManyComponents = has_octet (value_at values component)
-is_broken_part rules item values component None kind = false
-is_broken_part rules (Alone alone) values component (Some part) kind = false
-is_broken_part rules (Composite code must) values component (Some part) TooManyElements = false
-is_broken_part rules (Composite code must) values component (Some part) TooManyComponents = false
-is_broken_part rules (Composite code must) values component (Some part) Missing =
-    list_any has_octet values && part.must && not (has_octet (value_at values component))
-is_broken_part rules (Composite code must) values component (Some part) kind =
-    is_failed rules part (list_in rules (parts_of rules code.octets) values part) (value_at values component) kind
+abbrev pub is_broken_part : SegmentRules → ItemDef → List Octets → Option PartDef × Octets → Kind → Bool
+is_broken_part rules item values (None, value) TooManyComponents = has_octet value
+is_broken_part rules item values (None, value) kind = false
+is_broken_part rules (Alone alone) values (Some part, value) kind = false
+is_broken_part rules (Composite code must) values (Some part, value) TooManyElements = false
+is_broken_part rules (Composite code must) values (Some part, value) TooManyComponents = false
+is_broken_part rules (Composite code must) values (Some part, value) Missing =
+    list_any has_octet values && part.must && not (has_octet value)
+is_broken_part rules (Composite code must) values (Some part, value) kind =
+    is_failed rules part (list_in rules (parts_of rules code.octets) values part) value kind
 
 abbrev pub is_broken_at : SegmentRules → Option ItemDef → List Octets → ℕ → Kind → Bool
 is_broken_at rules None values component kind = false
 is_broken_at rules (Some item) values component kind =
-    is_broken_part rules item values component (slice_get (parts_in rules item) (component - 1)) kind
+    is_broken_part rules item values (slice_get (parts_in rules item) (component - 1), value_at values component) kind
 
 -- the kinds of errors of an element or a component, by their numbers
 abbrev pub element_kinds : List Kind

@@ -5,6 +5,7 @@ use Rattle.dir_compile.specs.Directory.{Directory}
 use Rattle.edi_tables.specs.Octets.{Octets}
 use Rattle.edi_octets.specs.declared.octets.Octets.{Ghosts}
 use Rattle.edi_tables.specs.Rows.{when}
+use Rattle.edi_tables.specs.declared.element.CodeList.{CodeList}
 use Rattle.edi_tables.specs.declared.element.PartDef.{PartDef}
 use Rattle.edi_tables.specs.declared.segment.ItemDef.{ItemDef}
 use Rattle.edi_tables.specs.declared.segment.ItemDef.TheVariants.{Alone, Composite}
@@ -65,12 +66,24 @@ abbrev pub told_errors : ℕ → ℕ → List (Kind × Bool) → List LocalError
 told_errors element component [] = []
 told_errors element component (p ∷ ps) = when p.1 (error_at element component p.0) ++ told_errors element component ps
 
+-- what the parts of an element are checked by: the rules of its segment, and whether its composite itself names the
+-- list that its codes are from
+pub record PartRules : Type 0 where
+  pub segment : SegmentRules
+  pub named : Bool
+
+abbrev pub part_rules : SegmentRules → Bool → PartRules
+part_rules segment named = record { segment = segment; named = named }
+
+-- the code list of a part: none where the composite itself names a list
+abbrev pub list_for : PartRules → PartDef → Option CodeList
+list_for rules part = if rules.named then None else list_of rules.segment part.code.octets
+
 -- the errors of a value that may be empty
-abbrev pub part_errors : SegmentRules → ℕ → ℕ → PartDef → Bool → Octets → List LocalError
-part_errors rules element component part named value =
+abbrev pub part_errors : PartRules → ℕ → ℕ → PartDef → Octets → List LocalError
+part_errors rules element component part value =
     if has_octet value
-    then told_errors element component
-    (test_results rules.context part.repr (if named then None else list_of rules part.code.octets) value)
+    then told_errors element component (test_results rules.segment.context part.repr (list_for rules part) value)
     else when part.must (error_at element component Missing)
 
 -- the errors of components past the last one that is defined, numbered from c
@@ -80,20 +93,20 @@ surplus_components element c (v ∷ vs) =
     when (has_octet v) (error_at element c TooManyComponents) ++ surplus_components element (c + 1) vs
 
 -- the errors of these parts and of what is left after them, numbered from c
-abbrev pub parts_errors : SegmentRules → ℕ → ℕ → Bool → List PartDef → List Octets → List LocalError
-parts_errors rules element c named [] values = surplus_components element c values
-parts_errors rules element c named (part ∷ parts) values =
-    part_errors rules element c part named (first_value values)
-    ++ parts_errors rules element (c + 1) named parts (later_values values)
+abbrev pub parts_errors : PartRules → ℕ → ℕ → List PartDef → List Octets → List LocalError
+parts_errors rules element c [] values = surplus_components element c values
+parts_errors rules element c (part ∷ parts) values =
+    part_errors rules element c part (first_value values)
+    ++ parts_errors rules element (c + 1) parts (later_values values)
 
 abbrev pub composite_errors : SegmentRules → ℕ → Bool → List PartDef → List Octets → List LocalError
 composite_errors rules element must parts values =
-    if list_any has_octet values then parts_errors rules element 1 (is_list_named parts values) parts values
+    if list_any has_octet values then parts_errors (part_rules rules (is_list_named parts values)) element 1 parts values
     else when must (error_at element 0 Missing)
 
 abbrev pub alone_errors : SegmentRules → ℕ → PartDef → List Octets → List LocalError
 alone_errors rules element part values =
-    part_errors rules element 0 part false (first_value values) ++ surplus_components element 2 (later_values values)
+    part_errors (part_rules rules false) element 0 part (first_value values) ++ surplus_components element 2 (later_values values)
 
 -- the errors of an element that has an item
 abbrev pub item_errors : SegmentRules → ℕ → ItemDef → List Octets → List LocalError

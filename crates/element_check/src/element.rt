@@ -4,7 +4,7 @@ ghost use Rattle.std.specs.List.{list_any};
 ghost use Rattle.std.specs.Option.{option_map};
 ghost use Rattle.seg_lexer.specs.Value.{octets_of};
 ghost use Rattle.element_check.specs.Local.{has_octet as is_filled_of, is_list_named as is_list_named_of, names_list};
-ghost use Rattle.element_check.specs.Streams.{after_front, alone_errors, components_ahead, composite_errors, item_errors, part_errors, parts_errors, surplus_components, values_left};
+ghost use Rattle.element_check.specs.Streams.{after_front, alone_errors, components_ahead, composite_errors, item_errors, part_errors, part_rules, parts_errors, surplus_components, values_left};
 
 use crate::error::{ErrorList, put_failed};
 use crate::rules::Rules;
@@ -158,11 +158,12 @@ fn check_parts<O: Octets>(
     requires short { length parts.now < 2 ^ 31 }
     ensures ok { OnOk result (errors.new
         ≡ errors.old
-        ++ parts_errors rules.now element 1 named parts.now (values_left element values.old)) }
+        ++ parts_errors (part_rules rules.now named) element 1 parts.now
+        (values_left element values.old)) }
     ensures full { OnErr result (4
         < length errors.old
-        + length (parts_errors
-        rules.now element 1 named parts.now (values_left element values.old))) }
+        + length (parts_errors (part_rules rules.now named) element 1 parts.now
+        (values_left element values.old))) }
     ensures after { OnOk result (after_front element (components_ahead values.new)
         ≡ after_front element (components_ahead values.old)) }
 {
@@ -188,11 +189,11 @@ fn check_part<O: Octets>(
 ) -> Result<(), AllocError>
     ensures ok { OnOk result (errors.new
         ≡ errors.old
-        ++ part_errors rules.now element component part.now named
+        ++ part_errors (part_rules rules.now named) element component part.now
         (unwrap_or (option_map octets_of value.entry) [])) }
     ensures full { OnErr result (4
         < length errors.old
-        + length (part_errors rules.now element component part.now named
+        + length (part_errors (part_rules rules.now named) element component part.now
         (unwrap_or (option_map octets_of value.entry) []))) }
 {
     match value {
@@ -213,10 +214,12 @@ fn check_value<O: Octets>(
 ) -> Result<(), AllocError>
     ensures ok { OnOk result (errors.new
         ≡ errors.old
-        ++ part_errors rules.now element component part.now named (octets_of value.now)) }
+        ++ part_errors (part_rules rules.now named) element component part.now
+        (octets_of value.now)) }
     ensures full { OnErr result (4
         < length errors.old
-        + length (part_errors rules.now element component part.now named (octets_of value.now))) }
+        + length (part_errors (part_rules rules.now named) element component part.now
+        (octets_of value.now))) }
 {
     if value.is_empty() {
         return errors.put_if(part.must, element, component, Kind::Missing);

@@ -1,5 +1,5 @@
 use Rattle.std.proofs.Common.{◌≡◌, ◌+◌, ◌-◌, ℕ, drop, length, sym, take, ap, ◌∙◌, arith}
-use Rattle.element_check.specs.Streams.{front_values, parts_errors}
+use Rattle.element_check.specs.Streams.{front_values, part_rules, parts_errors}
 use Rattle.element_check.proofs.StreamLemmas.{next_value}
 use Rattle.clean_segments.specs.Plain.{plain_left}
 use Rattle.clean_segments.proofs.LookLemmas.{front-none, parts-begun, parts-later, parts-past}
@@ -13,7 +13,7 @@ loop-part-preserved c =
     let number : i + 1 + 2 ≡ i + 2 + 1 = omega arith in
     record {
       same = λ named.
-          ap (λ (n : ℕ). parts_errors c.args.rules.now c.args.element n named (drop (i + 1) later) (front_values c.args.element (plain_left c.take-value.new.self))) number
+          ap (λ (n : ℕ). parts_errors (part_rules c.args.rules.now named) c.args.element n (drop (i + 1) later) (front_values c.args.element (plain_left c.take-value.new.self))) number
           ∙ parts-later c.args.rules.now c.args.element (i + 2) named later i _ _ _ _ c.loop-part-test.true next (c.is_part_clean-in-loop-part.ensures c.args.element (i + 2) named c.if-not-is_part_clean-2.false)
           ∙ c.loop-part.invariant.same named;
       after = c.take-value.ensures.after ∙ c.loop-part.invariant.after;

@@ -2,7 +2,7 @@ use Rattle.std.proofs.Common.{◌≡◌, ◌+◌, ◌++◌, ◌<◌, List, lengt
 use Rattle.std.specs.Option.{option_copied}
 use Rattle.seg_lexer.specs.Value.{octets_of}
 use Rattle.element_check.specs.Rules.{SegmentRules}
-use Rattle.element_check.specs.Streams.{part_errors, told_errors}
+use Rattle.element_check.specs.Streams.{part_errors, part_rules, told_errors}
 use Rattle.element_check.specs.declared.error.LocalError.{LocalError}
 use Rattle.element_check.proofs.ErrorsLemmas.{on_ok_then, on_err_then}
 use Rattle.element_check.proofs.StreamLemmas.{part-filled}
@@ -10,7 +10,7 @@ use Rattle.element_check.proofs.element.check_value.Goals as goal
 use Rattle.element_check.proofs.element.check_value.Goals.{After-put_failed}
 
 told : (g : _) (c : After-put_failed g) → told_errors c.args.element c.args.component c.test_value-results.result
-    ≡ part_errors c.args.rules.now c.args.element c.args.component c.args.part.now c.args.named (octets_of c.args.value.now)
+    ≡ part_errors (part_rules c.args.rules.now c.args.named) c.args.element c.args.component c.args.part.now (octets_of c.args.value.now)
 told g c = part-filled c.args.rules.now c.args.element c.args.component c.args.part.now c.args.named (octets_of c.args.value.now) c.is_empty.result
     c.rules.inside.context.now (option_copied c.list_unless-list.result) c.test_value-results.result
     (ap (λ (r : SegmentRules). r.context) c.rules.view_is) c.list_unless-list.ensures.list c.test_value-results.ensures c.is_empty.ensures c.if-is_empty.false

@@ -19,7 +19,7 @@ use Rattle.service_tables.specs.ServiceTables.{C, service_items_of, service_part
 use Rattle.seg_lexer.specs.declared.context.Context.{Context}
 use Rattle.seg_lexer.specs.declared.context.Level.{Level}
 use Rattle.element_check.specs.Local.{has_octet}
-use Rattle.contrl_segments.specs.Service.{acknowledged, group_party, interchange_party, rejected, ucf, uci, unb, unh, unt, unz}
+use Rattle.contrl_segments.specs.Service.{acknowledged, group_party, interchange_party, rejected, ucf, syntax_identifier, uci, unb, unh, unt, unz}
 use Rattle.contrl_segments.specs.Details.{code_told, component_told, details_told, element_told, envelope_tag, has_position, is_envelope_tag, is_near, position_of, tag_told}
 use Rattle.contrl_writer.specs.Levels.{first_error}
 use Rattle.contrl_writer.specs.Report.{identifier_of, ucd, ucm, ucs, whole_errors}
@@ -307,7 +307,7 @@ module _ (level : Level) (read_version version : ℕ) where
   own_context = context_with level read_version
 
   pub unb_lawful : (sender recipient : Party) (stamp : Stamp) (own : List ℕ) → version < 10 → IsGoodParty own_context sender → IsGoodParty own_context recipient
-      → has_digits 6 stamp.date ≡ true → has_digits 4 stamp.time ≡ true → is_reference_of own ≡ true → IsLawful own_context (unb level version sender recipient stamp own)
+      → has_digits 6 stamp.date ≡ true → has_digits 4 stamp.time ≡ true → is_reference_of own ≡ true → IsLawful own_context (unb (syntax_identifier level version) sender recipient stamp own)
   unfolding service_items_of service_parts_of
   unb_lawful sender recipient stamp own small one two date time is =
       let level_is = level_good level read_version in

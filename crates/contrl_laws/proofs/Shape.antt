@@ -7,7 +7,7 @@ use Rattle.error_ledger.specs.declared.error.ErrorLine.{ErrorLine}
 use Rattle.edi_tables.specs.declared.element.Class.TheVariants.{An}
 use Rattle.seg_lexer.specs.declared.context.Level.{Level}
 use Rattle.contrl_writer.specs.Contrl.{contrl_for, contrl_of, interchange_answer, lower_segments, message_of}
-use Rattle.contrl_segments.specs.Service.{acknowledged, level_word, rejected, uci, unb, unh, unt, unz}
+use Rattle.contrl_segments.specs.Service.{acknowledged, level_word, rejected, syntax_identifier, uci, unb, unh, unt, unz}
 use Rattle.contrl_writer.specs.Levels.{first_error, interchange_errors, levelled}
 use Rattle.contrl_segments.specs.Stamp.{is_reference_of}
 use Rattle.contrl_segments.specs.Written.{Segment}
@@ -59,7 +59,7 @@ pub record IsGoodUnb (level : Level) (sender recipient : Party) (reference : Lis
 module _ (level : Level) (version : ℕ) (sender recipient : Party) (reference : List ℕ) (stamp : Stamp) (own : List ℕ)
     (small : version < 10) (opening : IsGoodUnb level sender recipient reference) (date : has_digits 6 stamp.date ≡ true) (time : has_digits 4 stamp.time ≡ true) (own_is : is_reference_of own ≡ true) where
   abbrev first_segment : Segment
-  first_segment = unb level version sender recipient stamp own
+  first_segment = unb (syntax_identifier level version) sender recipient stamp own
 
   shape_with : (head : Segment) (rest : List Segment) → head.tag ≡ codes "UCI" → Accepts false AtHead (tags_of rest) → length rest ≤ 99000
       → ((read : ℕ) → IsLawful (context_with level read) head) → ((read : ℕ) → Each (IsLawful (context_with level read)) rest)

@@ -30,6 +30,10 @@ level_word D = codes "UNOD"
 level_word E = codes "UNOE"
 level_word F = codes "UNOF"
 
+-- S001: the level and the version of the syntax
+abbrev pub syntax_identifier : Level → ℕ → Element
+syntax_identifier level version = level_word level ∷ decimal version ∷ []
+
 -- S002 and S003: a party of an interchange
 abbrev pub interchange_party : Party → Element
 interchange_party p = p.id ∷ p.qualifier ∷ p.route ∷ []
@@ -38,12 +42,12 @@ interchange_party p = p.id ∷ p.qualifier ∷ p.route ∷ []
 abbrev pub group_party : Party → Element
 group_party p = p.id ∷ p.qualifier ∷ []
 
--- UNB: the level and version of the text that is answered, its recipient as sender, its sender as recipient, the stamp,
--- and a reference
-abbrev pub unb : Level → ℕ → Party → Party → Stamp → Octets → Segment
-unb level version sender recipient stamp reference = record {
+-- UNB: the syntax of the text that is answered, its recipient as sender, its sender as recipient, the stamp, and a
+-- reference
+abbrev pub unb : Element → Party → Party → Stamp → Octets → Segment
+unb syntax sender recipient stamp reference = record {
   tag = codes "UNB";
-  elements = (level_word level ∷ decimal version ∷ []) ∷ interchange_party recipient ∷ interchange_party sender
+  elements = syntax ∷ interchange_party recipient ∷ interchange_party sender
       ∷ (stamp.date ∷ stamp.time ∷ []) ∷ alone reference ∷ [];
 }
 

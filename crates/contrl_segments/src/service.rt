@@ -1,7 +1,7 @@
 //! The segments round the reports of an acknowledgement.
 ghost use Rattle.std.specs.Prelude.{◌≡◌, ◌++◌, OnOk, map};
 ghost use Rattle.contrl_segments.specs.Written.{segment_text};
-ghost use Rattle.contrl_segments.specs.Service.{group_party as group_party_of, interchange_party as interchange_party_of, level_word as level_word_of, uci, unb, unh, unt, unz};
+ghost use Rattle.contrl_segments.specs.Service.{group_party as group_party_of, interchange_party as interchange_party_of, level_word as level_word_of, syntax_identifier, uci, unb, unh, unt, unz};
 ghost use Rattle.contrl_segments.specs.Lent.{action_for, value_lent};
 ghost use Rattle.std.specs.Option.{option_copied};
 
@@ -57,7 +57,7 @@ pub fn put_unb<'a>(
 ) -> Result<(), AllocError>
     ensures { OnOk result
         (out.new ≡ out.old ++ segment_text
-        (unb level version sender.now recipient.now stamp.now reference.now)) }
+        (unb (syntax_identifier level version) sender.now recipient.now stamp.now reference.now)) }
 {
     let syntax = [Octets(level_word(level)), Number(u32::from(version))];
     let from = interchange_party(recipient);

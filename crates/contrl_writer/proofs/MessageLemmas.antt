@@ -11,7 +11,7 @@ use Rattle.contrl_segments.specs.declared.summary.Opening.TheVariants.{Good}
 use Rattle.contrl_segments.specs.declared.summary.Party.{Party}
 use Rattle.contrl_segments.specs.declared.summary.Summary.{Summary}
 use Rattle.contrl_writer.specs.Contrl.{answer_by, answer_to, contrl_for, contrl_of, interchange_answer, lower_segments, message_of}
-use Rattle.contrl_segments.specs.Service.{rejected, uci, unb, unh, unt, unz}
+use Rattle.contrl_segments.specs.Service.{rejected, syntax_identifier, uci, unb, unh, unt, unz}
 use Rattle.contrl_segments.specs.Lent.{action_for}
 use Rattle.contrl_writer.specs.Levels.{first_error, interchange_errors, levelled}
 use Rattle.contrl_writer.specs.Lower.{segments_below, with_segments}
@@ -59,15 +59,15 @@ module _ (s : Summary) (stamp : Stamp) (own : List ℕ) (level : Level) (version
   abbrev pub told_message : List Segment
   told_message = message_of (interchange_answer (uci sender recipient reference) (first_error (interchange_errors (levelled s))) (lower_segments (levelled s) s.messages s.groups))
 
-  contrl-is : contrl_of s stamp own ≡ unb level version sender recipient stamp own ∷ told_message ++ unz own ∷ []
+  contrl-is : contrl_of s stamp own ≡ unb (syntax_identifier level version) sender recipient stamp own ∷ told_message ++ unz own ∷ []
   unfolding contrl_of
   contrl-is = ap (λ (o : Opening). contrl_for o s stamp own) opened
 
   -- UNB, the message and UNZ, put one after another
-  pub contrl-text : (before first second out : List ℕ) → before ≡ [] → first ≡ before ++ segment_text (unb level version sender recipient stamp own)
+  pub contrl-text : (before first second out : List ℕ) → before ≡ [] → first ≡ before ++ segment_text (unb (syntax_identifier level version) sender recipient stamp own)
       → second ≡ first ++ contrl_text told_message → out ≡ second ++ segment_text (unz own) → out ≡ contrl_text (contrl_of s stamp own)
   contrl-text before first second out none unb_put message_put unz_put =
-      let a : List ℕ = segment_text (unb level version sender recipient stamp own) in
+      let a : List ℕ = segment_text (unb (syntax_identifier level version) sender recipient stamp own) in
       let b : List ℕ = contrl_text told_message in
       let c : List ℕ = segment_text (unz own) in
       let parts : contrl_text (told_message ++ unz own ∷ []) ≡ b ++ c = contrl_text-append told_message (unz own ∷ []) ∙ ap (λ zs. b ++ zs) (append-nil c) in

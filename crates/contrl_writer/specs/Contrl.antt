@@ -14,7 +14,7 @@ use Rattle.contrl_segments.specs.declared.summary.Opening.TheVariants.{NoUnb, Ba
 use Rattle.contrl_segments.specs.declared.summary.Summary.{Summary}
 use Rattle.contrl_writer.specs.Levels.{first_error, group_errors, interchange_errors, levelled, message_errors}
 use Rattle.contrl_writer.specs.Report.{report}
-use Rattle.contrl_segments.specs.Service.{acknowledged, rejected, ucf, uci, unb, unh, unt, unz}
+use Rattle.contrl_segments.specs.Service.{acknowledged, rejected, ucf, syntax_identifier, uci, unb, unh, unt, unz}
 use Rattle.contrl_segments.specs.Written.{Segment, contrl_text}
 
 -- the report of a message, where it has an error
@@ -70,7 +70,7 @@ contrl_for (Good level version sender recipient reference) s stamp own =
     let errors = levelled s in
     let first = first_error (interchange_errors errors) in
     let body = interchange_answer (uci sender recipient reference) first (lower_segments errors s.messages s.groups) in
-    unb level version sender recipient stamp own ∷ message_of body ++ unz own ∷ []
+    unb (syntax_identifier level version) sender recipient stamp own ∷ message_of body ++ unz own ∷ []
 
 -- the segments of the acknowledgement of a summary, with a stamp and a reference of its own
 unfoldable pub contrl_of : Summary → Stamp → Octets → List Segment

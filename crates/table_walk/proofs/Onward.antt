@@ -1,5 +1,5 @@
 -- A step of a reading is a function of the table, the pairs and the tag alone.
-use Rattle.std.proofs.Common.{◌≡◌, ℕ, ◌+◌, ◌<◌, Bool, false, List, [], ◌∷◌, ◌++◌, Option, Some, None, map, length, drop, refl, sym, ap, subst, ◌∙◌, arith, append_assoc}
+use Rattle.std.proofs.Common.{◌≡◌, ℕ, ◌+◌, ◌<◌, false, List, [], ◌∷◌, ◌++◌, Option, Some, None, map, length, drop, refl, sym, ap, subst, ◌∙◌, arith, append_assoc}
 use Rattle.std.specs.Prelude.{filter, reverse, count_by}
 use Rattle.std.proofs.lemmas.List.{append-nil, map-append}
 use Rattle.edi_tables.specs.declared.tag.Tag.{Tag}
@@ -13,6 +13,7 @@ use Rattle.edi_tables.proofs.Pushing.{after_no, since_no, last_none}
 use Rattle.edi_tables.proofs.Next.{entry_last, entry_known, over_is, rank_is, pairs_step}
 use Rattle.table_walk.specs.Reading.{has_tag, tagged_candidates, least_from, IsMember, IsReading, member_of, reading_from}
 use Rattle.table_walk.specs.Errors.{missing_before, is_member_over}
+use Rattle.table_walk.specs.declared.state.Placed.{Placed}
 use Rattle.table_walk.specs.Steps.{IsShaped, member_in, missing_in, is_over_in, pairs_after, members_from, pairs_from, GoesOn, GoOnAlike}
 use Rattle.table_walk.proofs.Least.{least_same}
 use Rattle.table_walk.proofs.Readings.{member_is, reading_more}
@@ -141,9 +142,10 @@ module _ (nodes : List Node) where
 
   -- a reading goes on as its pairs tell
   pub goes_on : (table : IsTable nodes) (tags : List (Option Tag)) (placed : List (Option ℕ)) → IsReading nodes tags placed → (tag : Option Tag) (pairs : List (ℕ × ℕ)) → pairs_of nodes placed ≡ pairs
-      → (member : Option ℕ) → member ≡ member_in nodes pairs tag → (passed : List ℕ) → passed ≡ missing_in nodes pairs member → (over : Bool) → over ≡ is_over_in nodes pairs member
-      → (after : List (ℕ × ℕ)) → after ≡ pairs_after nodes pairs member → GoesOn nodes tags placed tag member passed over after
-  goes_on table tags placed reading tag pairs same member found passed passed_is over over_is_in after after_is =
+      → (next : Placed) → next.entry ≡ member_in nodes pairs tag → next.missing.items ≡ missing_in nodes pairs next.entry → next.over ≡ is_over_in nodes pairs next.entry
+      → next.state ≡ pairs_after nodes pairs next.entry → GoesOn nodes tags placed tag next
+  goes_on table tags placed reading tag pairs same next found passed_is over_is_in after_is =
+      let member = next.entry in
       let sound = sound_reading nodes table tags placed reading in
       let found_of : member_of nodes placed tag ≡ member = member_same table placed sound tag ∙ ap (λ ps. member_in nodes ps tag) same ∙ sym found in
       let is : IsMember nodes placed tag member = subst (IsMember nodes placed tag) found_of (member_is nodes placed tag) in

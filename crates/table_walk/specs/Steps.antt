@@ -7,6 +7,7 @@ use Rattle.edi_tables.specs.Walk.{is_group_at, groups_round, candidates_of, miss
 use Rattle.edi_tables.specs.Pairs.{pairs_of, pairs_next, entry_in, over_in, rank_in}
 use Rattle.table_walk.specs.Reading.{has_tag, least_from, reading_from, IsReading}
 use Rattle.table_walk.specs.Errors.{missing_before, is_member_over}
+use Rattle.table_walk.specs.declared.state.Placed.{Placed}
 
 -- pairs belong to a table: they have the groups round one of its entries, outermost first, and the entry
 pub record IsShaped (nodes : List Node) (pairs : List (ℕ × ℕ)) : Type 0 where
@@ -60,8 +61,8 @@ GoOnAlike nodes one two = (tags : List (Option Tag))
 -- a reading goes on with one segment more: where it is, what is missing before it, whether it is over, and the pairs
 -- after it
 pub record GoesOn (nodes : List Node) (tags : List (Option Tag)) (placed : List (Option ℕ)) (tag : Option Tag)
-    (member : Option ℕ) (passed : List ℕ) (too_many : Bool) (after : List (ℕ × ℕ)) : Type 0 where
-  pub reading : IsReading nodes (tags ++ tag ∷ []) (placed ++ member ∷ [])
-  pub missing : passed ≡ missing_before nodes placed member
-  pub over : too_many ≡ is_member_over nodes placed member
-  pub pairs : after ≡ pairs_of nodes (placed ++ member ∷ [])
+    (next : Placed) : Type 0 where
+  pub reading : IsReading nodes (tags ++ tag ∷ []) (placed ++ next.entry ∷ [])
+  pub missing : next.missing.items ≡ missing_before nodes placed next.entry
+  pub over : next.over ≡ is_member_over nodes placed next.entry
+  pub pairs : next.state ≡ pairs_of nodes (placed ++ next.entry ∷ [])

@@ -90,7 +90,7 @@ impl State {
             (λ next. (tags : List (Option Tag))
             (before : List (Option ℕ)) → IsReading table.now tags before
             → pairs_of table.now before ≡ self.now
-            → GoesOn table.now tags before tag next.entry next.missing.items next.over next.state) }
+            → GoesOn table.now tags before tag next) }
     {
         placed.tick();
         let position = Position::of(table, self.pairs());

@@ -2,6 +2,7 @@ use Rattle.std.proofs.Common.{◌≡◌, ◌+◌, ℕ, false, List, Some, None, 
 use Rattle.edi_tables.specs.declared.table.Node.{Node}
 use Rattle.edi_tables.specs.Pairs.{pairs_of}
 use Rattle.table_walk.specs.Reading.{IsReading}
+use Rattle.table_walk.specs.declared.state.Placed.{Placed}
 use Rattle.table_walk.specs.Steps.{IsShaped, AreCountsUpTo, member_in, pairs_after, GoesOn}
 use Rattle.table_walk.proofs.Placing.{nowhere, member_entry, shaped_after, counts_after}
 use Rattle.table_walk.proofs.Onward.{goes_on}
@@ -47,13 +48,11 @@ pub returns-in_ok-gather-in-Some-clause-reading : goal.returns-in_ok-gather-in-S
 returns-in_ok-gather-in-Some-clause-reading g c tags before =
     let at = c.of-position.result in
     let pairs_same = c.of-position.ensures.pairs ∙ c.pairs.ensures in
-    subst
-    (λ (t : List Node). IsReading t tags before → pairs_of t before ≡ c.args.self.now
-    → GoesOn t tags before c.args.tag (Some c.in-Some.entry) c.in_ok-gather-in-Some.field-0.items c.is_over.result c.in_ok-pairs_next-in-Some.field-0.items)
+    let next : Placed = record { state = c.in_ok-pairs_next-in-Some.field-0.items; entry = Some c.in-Some.entry; over = c.is_over.result; missing = c.in_ok-gather-in-Some.field-0 } in
+    subst (λ (t : List Node). IsReading t tags before → pairs_of t before ≡ c.args.self.now → GoesOn t tags before c.args.tag next)
     c.of-position.ensures.table
-    (λ reading same. goes_on at.table.now at.lawful tags before reading c.args.tag at.pairs.now (same ∙ sym pairs_same) (Some c.in-Some.entry) (sym c.in-Some.is ∙ c.member.ensures)
-    c.in_ok-gather-in-Some.field-0.items (c.in_ok-gather-in-Some.ensures ∙ c.missing.ensures) c.is_over.result c.is_over.ensures
-    c.in_ok-pairs_next-in-Some.field-0.items (c.in_ok-pairs_next-in-Some.ensures))
+    (λ reading same. goes_on at.table.now at.lawful tags before reading c.args.tag at.pairs.now (same ∙ sym pairs_same) next (sym c.in-Some.is ∙ c.member.ensures)
+    (c.in_ok-gather-in-Some.ensures ∙ c.missing.ensures) c.is_over.ensures c.in_ok-pairs_next-in-Some.ensures)
 
 pub returns-in_ok-share-in-None-clause-nowhere : goal.returns-in_ok-share-in-None-clause-nowhere
 returns-in_ok-share-in-None-clause-nowhere g c =
@@ -66,9 +65,8 @@ pub returns-in_ok-share-in-None-clause-reading : goal.returns-in_ok-share-in-Non
 returns-in_ok-share-in-None-clause-reading g c tags before =
     let at = c.of-position.result in
     let pairs_same = c.of-position.ensures.pairs ∙ c.pairs.ensures in
-    subst
-    (λ (t : List Node). IsReading t tags before → pairs_of t before ≡ c.args.self.now
-    → GoesOn t tags before c.args.tag None c.new.result.items false c.in_ok-share-in-None.field-0)
+    let next : Placed = record { state = c.in_ok-share-in-None.field-0; entry = None; over = false; missing = c.new.result } in
+    subst (λ (t : List Node). IsReading t tags before → pairs_of t before ≡ c.args.self.now → GoesOn t tags before c.args.tag next)
     c.of-position.ensures.table
-    (λ reading same. goes_on at.table.now at.lawful tags before reading c.args.tag at.pairs.now (same ∙ sym pairs_same) None (sym c.in-None.is ∙ c.member.ensures)
-    c.new.result.items c.new.ensures.items false refl c.in_ok-share-in-None.field-0 (c.in_ok-share-in-None.ensures ∙ sym pairs_same))
+    (λ reading same. goes_on at.table.now at.lawful tags before reading c.args.tag at.pairs.now (same ∙ sym pairs_same) next (sym c.in-None.is ∙ c.member.ensures)
+    c.new.ensures.items refl (c.in_ok-share-in-None.ensures ∙ sym pairs_same))

@@ -24,8 +24,8 @@ pub struct Text {
 impl Model for Text {
     ghost use Rattle.std.specs.Prelude.{List, ℕ, ◌≤◌, length};
     ghost use Rattle.std.specs.List.{concat};
-    ghost use Rattle.edi_octets.specs.declared.octets.TheConstants.{LONGEST_TEXT};
     ghost use Rattle.piece_text.specs.Pieces.{AreFull};
+    ghost use Rattle.edi_octets.specs.declared.octets.TheConstants.{LONGEST_TEXT};
 
     ghost Value = { List ℕ };
 

@@ -244,6 +244,10 @@ impl<T: Measured> Seq<T> {
     }
 }
 
+// From so many items on, the room of those that were taken out of a list is given back: so the list and the leaves together
+// take little more than the list did.
+const WORTH_GIVING_BACK: usize = 16_384;
+
 /// A tree of the last `n` items of a list, which are taken out of it. Each leaf has a list of its own, and all but the last
 /// leaf are full.
 fn build<T: Measured>(alloc: Global, items: &mut Vec<T>, n: usize) -> Result<Tree<T>, AllocError>
@@ -261,6 +265,9 @@ fn build<T: Measured>(alloc: Global, items: &mut Vec<T>, n: usize) -> Result<Tre
     // About half of them, in full leaves.
     let first = (n / 2).div_ceil(LONGEST_RUN) * LONGEST_RUN;
     let right = build(alloc, items, n - first)?;
+    if n >= WORTH_GIVING_BACK {
+        items.shrink_to_fit();
+    }
     let left = build(alloc, items, first)?;
     let tree = join(alloc, &left, &right)?;
     Ok(tree)

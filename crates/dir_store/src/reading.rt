@@ -1,5 +1,5 @@
 //! A directory from its store.
-ghost use Rattle.std.specs.Prelude.{◌≡◌, ◌≤◌, IfOk, length};
+ghost use Rattle.std.specs.Prelude.{◌≡◌, ◌≤◌, Ok, IfOk, length};
 ghost use Rattle.edi_tables.specs.First.{IsVerdict};
 ghost use Rattle.dir_compile.specs.declared.parts.Parts.{Parts};
 ghost use Rattle.dir_compile.specs.Directory.{IsDirectory};
@@ -17,7 +17,7 @@ use crate::label_line::read_labels;
 use crate::line::read_line;
 use crate::line_stop::Stop;
 use crate::stop::StoreStop;
-use dir_compile::{Directory, Parts, compile};
+use dir_compile::{CompileStop, Directory, Parts, compile};
 use edi_octets::Labels;
 use edi_tables::{CompositeDef, ElementDef, List, SegmentDef};
 use std::alloc::Global;
@@ -32,6 +32,9 @@ pub fn read_store(alloc: Global, file: &[u8]) -> Result<Directory, StoreStop>
         → IsVerdict (λ directory. directory) fault_in result (Ok parts) }
     // Which fault it is.
     ensures answers { IsVerdict (λ directory. directory) fault_in result (store_of file.now) }
+    // Nothing else is a store: the octets of one are the spelling of a directory.
+    ensures only { (parts : Parts) → store_of file.now ≡ Ok parts
+        → (file.now ≡ store_text parts) × IsDirectory parts }
 {
     let parts = match read_parts(alloc, file) {
         Ok(parts) => parts,
@@ -39,7 +42,9 @@ pub fn read_store(alloc: Global, file: &[u8]) -> Result<Directory, StoreStop>
     };
     match compile(alloc, parts) {
         Ok(directory) => Ok(directory),
-        Err(_) => Err(StoreStop::Memory),
+        Err(CompileStop::Memory) => Err(StoreStop::Memory),
+        // The parts that a store spells are a directory, and nothing in it is at fault.
+        Err(CompileStop::Fault { .. }) => unreachable!(),
     }
 }
 

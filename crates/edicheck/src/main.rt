@@ -1,6 +1,8 @@
 //! The program: its words, its input, its output and its folder, handed to the one call that does the work.
 #![tactic(auto)]
 
+ghost use Rattle.std.specs.Prelude.{◌≡◌, [], IfOk, IsUtf8};
+
 use edi_ports::{FolderShelf, StdSink, StdSource};
 use edi_tables::Chunk;
 use edicheck_core::{refuse_memory, run};
@@ -9,8 +11,14 @@ use std::env::FillError;
 use std::process::ExitCode;
 use std::rt::Env;
 
-// A longer word is of no form: the longest that counts is a file's name of 128 octets.
+// The longest word that counts is a file's name.
+const LONGEST_NAME: usize = 128;
+
+// A longer word is of no form.
 const LONGEST_WORD: usize = 256;
+
+// A name fits.
+const _: () = prove!(LONGEST_NAME <= LONGEST_WORD);
 
 fn main(rt: HostRuntime) -> ExitCode {
     let alloc = rt.alloc();
@@ -41,7 +49,11 @@ fn read_words(rt: &impl Env, alloc: Global) -> Result<Vec<Chunk>, AllocError> {
     Ok(words)
 }
 
-fn read_word(alloc: Global, word: &[u8]) -> Result<Chunk, AllocError> {
+// A word that is text, as it is; else the empty word.
+fn read_word(alloc: Global, word: &[u8]) -> Result<Chunk, AllocError>
+    ensures text { IsUtf8 word.now → IfOk result (λ chunk. chunk ≡ word.now) }
+    ensures other { ¬ IsUtf8 word.now → IfOk result (λ chunk. chunk ≡ []) }
+{
     if str::from_utf8(word).is_ok() {
         Chunk::of(alloc, word)
     } else {

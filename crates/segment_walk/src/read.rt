@@ -6,7 +6,7 @@ ghost use Rattle.seg_lexer.specs.Context.{context_of};
 ghost use Rattle.seg_lexer.specs.Segments.{IsBoundary};
 ghost use Rattle.seg_lexer.specs.Service.{IsUsable};
 ghost use Rattle.seg_lexer.specs.Whole.{at_start};
-ghost use Rattle.segment_records.specs.Laws.{ForgetsBefore, WholeThenMore};
+ghost use Rattle.segment_records.specs.Laws.{ForgetsBefore, StepsAreModes, StepsTellFaults, StepsTellPlaces, WholeIsBody, WholeThenMore};
 ghost use Rattle.segment_records.specs.Records.{IsModeOf, records_from};
 ghost use Rattle.segment_records.specs.Segments.{Segment, segments_by};
 ghost use Rattle.segment_walk.specs.Count.{segment_count_of};
@@ -27,7 +27,7 @@ const SHORT_SEGMENT: usize = 16;
 
 /// The records of the octets after the boundary `from` of a text, in order, after a mode. Each call of the lexer and of the
 /// walk is counted. Only want of memory is an error.
-#[tactic(auto, using(segment_records::proofs::BodyLaws::whole_then_more, segment_records::proofs::Forgets::forgets_before))]
+#[tactic(auto, using(segment_records::proofs::ModeLaws::steps_are_modes, segment_records::proofs::FaultLaws::steps_tell_faults, segment_records::proofs::PlaceLaws::steps_tell_places, segment_records::proofs::BodyLaws::whole_is_body, segment_records::proofs::BodyLaws::whole_then_more, segment_records::proofs::Forgets::forgets_before))]
 pub fn read_records<O: Octets, L: Ledger, M: Ledger>(
     alloc: Global,
     directory: &Directory,
@@ -45,6 +45,12 @@ pub fn read_records<O: Octets, L: Ledger, M: Ledger>(
     requires mode { IsModeOf directory.now from before.now }
     ensures records { IfOk result (λ records. records.items
         ≡ records_from directory.now context.now before.now (drop from (O.octets text.now))) }
+    // The records of a whole text are those of its body, from outside of messages on.
+    ensures whole { WholeIsBody directory.now context.now (O.octets text.now) }
+    // Going segment by segment comes to the modes, the structure errors and the places that the extents of messages tell.
+    ensures modes { (segments : List Segment) → StepsAreModes directory.now segments }
+    ensures faults { (segments : List Segment) → StepsTellFaults directory.now segments }
+    ensures places { (segments : List Segment) → StepsTellPlaces directory.now segments }
     // Octets after whole segments are read by themselves, and a segment that bounds an extent forgets the mode before it.
     ensures apart { (front back : List ℕ)
         → WholeThenMore directory.now context.now before.now front back }
@@ -54,6 +60,8 @@ pub fn read_records<O: Octets, L: Ledger, M: Ledger>(
     ensures placed { placed.new ≤ placed.old
         + length (segments_by (at_start context.now.service) (drop from (O.octets text.now))) }
 {
+    // The modes, structure errors and places are those of a directory without a fault.
+    let _parts = directory.parts();
     let room = text.len().saturating_sub(from) / SHORT_SEGMENT;
     let mut records = Vec::with_capacity(alloc, room)?;
     let mut clean = CleanSegments::none(alloc)?;

@@ -2,8 +2,11 @@ use Rattle.std.proofs.Common.{◌≡◌, ◌+◌, ◌++◌, List, [], drop, refl
 use Rattle.segment_records.specs.Records.{IsModeOf, Kept, kept_of, records_from}
 use Rattle.segment_records.specs.Segments.{segment_read}
 use Rattle.segment_records.specs.declared.mode.Mode.{Mode}
-use Rattle.segment_records.proofs.BodyLaws.{whole_then_more}
+use Rattle.segment_records.proofs.BodyLaws.{whole_is_body, whole_then_more}
+use Rattle.segment_records.proofs.FaultLaws.{steps_tell_faults}
 use Rattle.segment_records.proofs.Forgets.{forgets_before}
+use Rattle.segment_records.proofs.ModeLaws.{steps_are_modes}
+use Rattle.segment_records.proofs.PlaceLaws.{steps_tell_places}
 use Rattle.segment_walk.proofs.Counts.{mode_more}
 use Rattle.segment_walk.proofs.LastMode.{last_mode, last_mode_more, last_mode_same}
 use Rattle.segment_walk.proofs.Rests.{boundary_next, count_next, none_found, read_all, read_next}
@@ -73,6 +76,10 @@ returns g c =
     let boundary = c.loop-start.invariant.boundary in
     let last = none_found c.args.context.now.service text boundary.0 _ c.next_segment.result c.in_default.not-Ended (c.next_segment.ensures.lexed boundary.0 boundary.1) in
     record {
+      whole = whole_is_body c.args.directory.now c.args.context.now text;
+      modes = steps_are_modes c.args.directory.now c.parts-parts.ensures.directory;
+      faults = steps_tell_faults c.args.directory.now c.parts-parts.ensures.directory;
+      places = steps_tell_places c.args.directory.now c.parts-parts.ensures.directory;
       apart = λ front back. whole_then_more c.args.directory.now c.args.context.now c.args.before.now front back;
       forgets = λ segment. forgets_before c.args.directory.now segment;
       records = read_all c.args.directory.now c.args.context.now text c.requires.usable (last_mode c.args.before.now c.loop-start.records.items) _ boundary last c.loop-start.records.items _ c.loop-start.invariant.records;

@@ -1,9 +1,15 @@
-//! Each call that can want memory answers in each of its branches, and what is printed of a sequence.
+//! Each call that can want memory answers in each of its branches, what is found at places and weights, and what is printed
+//! of a sequence.
+
+ghost use Rattle.std.specs.Prelude.{◌≡◌, ◌<◌};
 
 use seq_tree::{Measured, Seq};
 use std::alloc::{AllocError, Global};
+use std::marker::Brand;
 use std::process::Abort;
+use std::sync::ledger::{Blank, Ledger};
 use std::test::Fail;
+use step_counter::Steps;
 
 /// A weight that weighs itself.
 #[derive(Debug, Drop)]
@@ -45,6 +51,46 @@ fn edits_at_each_place(rt: HostRuntime) -> Result<(), Fail> {
             edit_at(&rt, rt.alloc(), &whole, i)?;
         }
     }
+    Ok(())
+}
+
+/// The item at place `i`, the weight before it, and the place where a weight falls.
+fn look(whole: &Seq<Gram>, i: usize, bound: u64) -> Option<(u32, u64, usize)> {
+    look_counted::<Brand>(whole, i, bound, Blank::new(1))
+}
+
+fn look_counted<L: Ledger>(
+    whole: &Seq<Gram>,
+    i: usize,
+    bound: u64,
+    blank: Blank,
+) -> Option<(u32, u64, usize)>
+    requires name { blank.name ≡ L.name }
+    requires parts { blank.parts ≡ L.parts }
+    requires some { 0 < blank.parts }
+{
+    if i >= whole.len() || bound >= whole.total() {
+        return None;
+    }
+    let mut visited = Steps::<L>::start(blank);
+    let Gram(weight) = whole.at(i, &mut visited);
+    let before = whole.before(i, &mut visited);
+    Some((*weight, before, whole.find(bound, &mut visited)))
+}
+
+#[test]
+fn places_and_weights(rt: HostRuntime) -> Result<(), Fail> {
+    let whole = seq_of(&rt, rt.alloc(), 40)?;
+    assert!(rt; 3 <= whole.len() && whole.len() < 1000);
+    // The weights 0, 1, 0, 9, 1, 0, 1, 0 and so on.
+    let longer = whole.insert(rt.alloc(), 3, Gram(9))?;
+    assert_eq!(rt; look(&whole, 0, 0), Some((0, 0, 1)));
+    assert_eq!(rt; look(&whole, 16, 19), Some((0, 8, 39)));
+    assert_eq!(rt; look(&whole, 37, 18), Some((1, 18, 37)));
+    assert_eq!(rt; look(&whole, 40, 0), None);
+    assert_eq!(rt; look(&whole, 0, 20), None);
+    assert_eq!(rt; look(&longer, 3, 9), Some((9, 1, 3)));
+    assert_eq!(rt; look(&longer, 20, 18), Some((1, 18, 20)));
     Ok(())
 }
 

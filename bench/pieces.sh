@@ -2,24 +2,30 @@
 # Prints the time of `next_segment` over a text of 4 MiB of orders: in one slice, over a view of one piece, and over a view
 # of some 10,000 pieces; and the time of 40,000 edits of one octet in it: at one place, typed one after the other, and
 # spread over the text, with the pieces that are left. It is processor time, the least of seven runs.
+# Then the time and the peak memory of a sequence of 300,000 items, each as large as the record of a segment, and of 60
+# splices that each put a new tail into it, one item further on than the last.
 # usage: bench/pieces.sh   (everything below the program is proved first)
 set -eu
 top=$(cd "$(dirname "$0")/.." && pwd)
 . "$top/bench/program.sh"
-new_program piece_text seg_lexer step_counter edi_octets
+new_program piece_text seg_lexer seq_tree step_counter edi_octets
 cat >"$work/repository/crates/bench/src/main.rt" <<'P'
 //! Times readings and edits of the text in the file `text`: processor time of this thread, the least of several runs.
-//! Each line has a name, how often something was done, how many pieces there are, and nanoseconds.
+//! Each line has a name, how often something was done, how many pieces there are, and nanoseconds. With a word after its
+//! name, it times splices instead.
 #![tactic(auto)]
 
 mod segments;
+mod splices;
 
 use anyhow::{Result, ensure};
 use edi_octets::{Flat, LONGEST_TEXT, Octets};
 use piece_text::Text;
 use segments::count_all;
+use splices::time_splices;
 use std::alloc::Global;
 use std::fs;
+use std::rt::Env;
 use std::time::{CpuClock, Duration};
 
 const RUNS: u32 = 7;
@@ -35,6 +41,10 @@ struct Edits {
 }
 
 fn main(rt: HostRuntime) -> Result<()> {
+    let mut word = [0; 16];
+    if rt.arg(1, &mut word).is_ok() {
+        return time_splices(&rt, rt.alloc());
+    }
     let octets = fs::read(&rt, "text")?;
     let alloc = rt.alloc();
     let text = of_bytes(alloc, &octets)?;
@@ -190,6 +200,74 @@ fn count_pieces(text: &Text) -> usize {
     pieces
 }
 P
+cat >"$work/repository/crates/bench/src/splices.rt" <<'P'
+//! Splices of a new tail: each version has one item more of those before it.
+
+use anyhow::{Result, ensure};
+use seq_tree::{Measured, Seq};
+use std::alloc::Global;
+use std::time::CpuClock;
+
+const ITEMS: u32 = 300_000;
+
+const SPLICES: u32 = 60;
+
+/// As large as the record of a segment.
+#[derive(Debug, Drop)]
+struct Item {
+    weight: u32,
+    rest: [u64; 11],
+}
+
+impl Measured for Item {
+    ghost measure = { λ item. item.weight };
+
+    fn weight(&self) -> u32 {
+        self.weight
+    }
+}
+
+/// Prints the time of a sequence of `ITEMS` items, and that of `SPLICES` splices: the first puts a new tail after the
+/// first item, and each other one after one item more.
+pub fn time_splices(rt: &(impl CpuClock + Print), alloc: Global) -> Result<()> {
+    let begin = rt.thread_cpu_time()?;
+    let mut whole = make(alloc, ITEMS)?;
+    let made = rt.thread_cpu_time()?;
+    println!(rt; "made 1 {ITEMS} {}", made.saturating_sub(begin).as_nanos())?;
+    for from in 1..SPLICES + 1 {
+        whole = with_tail(alloc, &whole, from)?;
+    }
+    let took = rt.thread_cpu_time()?.saturating_sub(made);
+    println!(rt; "spliced {SPLICES} {} {}", whole.len(), took.as_nanos())?;
+    Ok(())
+}
+
+fn make(alloc: Global, count: u32) -> Result<Seq<Item>> {
+    let mut items = Vec::with_capacity(alloc, count as usize)?;
+    for weight in 0..count {
+        let item = Item {
+            weight,
+            rest: [0; 11],
+        };
+        items.push(item)?;
+    }
+    ensure!(items.len() <= ITEMS as usize, "there are too many items");
+    Ok(Seq::of_items(alloc, items)?)
+}
+
+/// The items before the place `from`, and as many new ones as there were from there on.
+fn with_tail(alloc: Global, whole: &Seq<Item>, from: u32) -> Result<Seq<Item>> {
+    let len = whole.len();
+    let from = from as usize;
+    ensure!(
+        from <= len && len <= ITEMS as usize,
+        "the place is outside of the sequence"
+    );
+    let tail = make(alloc, (len - from) as u32)?;
+    ensure!(tail.len() <= ITEMS as usize, "the tail is too long");
+    Ok(whole.splice(alloc, from, len, &tail)?)
+}
+P
 build_program
 cd "$work"
 python3 "$top/bench/orders.py" 0 >text
@@ -200,3 +278,11 @@ for line in sys.stdin:
     done = "segments" if what in ("flat", "view") else "edits"
     print(f"{what:10} {count:>7} {done:8} {pieces:>6} pieces {int(time) / 1e6:8.2f} ms {int(time) / int(count):8.0f} ns each")
 '
+python3 - "$program" <<'P'
+import resource, subprocess, sys
+out = subprocess.run([sys.argv[1], "splices"], stdout=subprocess.PIPE, check=True, text=True).stdout
+for line in out.splitlines():
+    what, count, items, time = line.split()
+    print(f"{what:10} {count:>7} times    {items:>6} items  {int(time) / 1e6:8.2f} ms {int(time) / int(count) / 1e6:8.2f} ms each")
+print(f"peak memory {resource.getrusage(resource.RUSAGE_CHILDREN).ru_maxrss // 1024} MiB")
+P

@@ -17,8 +17,8 @@ use step_counter::Steps;
 /// Weighed items in order, fewer than 2^32 of them, seen as their list.
 ///
 /// A call that edits makes a new version and leaves the old one as it was: the two share their nodes, and no item is cloned.
-/// So after an error each version is still what it was. Items lie in lists of at most 16: a version keeps no others alive than
-/// those in the lists of its own items.
+/// So after an error each version is still what it was. Items lie in lists of at most 16, and a version keeps such a list for
+/// as long as it has an item of it.
 pub struct Seq<T: Measured> {
     root: Option<Tree<T>>,
 }

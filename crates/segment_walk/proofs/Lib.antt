@@ -10,6 +10,7 @@ pub mod Nearby
 pub mod Nodes
 pub mod Rests
 pub mod Spanned
+pub mod StepLaws
 pub mod Stretches
 pub mod Tails
 pub mod TreePlaces

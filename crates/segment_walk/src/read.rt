@@ -27,7 +27,7 @@ const SHORT_SEGMENT: usize = 16;
 
 /// The records of the octets after the boundary `from` of a text, in order, after a mode. Each call of the lexer and of the
 /// walk is counted. Only want of memory is an error.
-#[tactic(auto, using(segment_records::proofs::ModeLaws::steps_are_modes, segment_records::proofs::FaultLaws::steps_tell_faults, segment_records::proofs::PlaceLaws::steps_tell_places, segment_records::proofs::BodyLaws::whole_is_body, segment_records::proofs::BodyLaws::whole_then_more, segment_records::proofs::Forgets::forgets_before))]
+#[tactic(auto, using(crate::proofs::StepLaws::step_laws))]
 pub fn read_records<O: Octets, L: Ledger, M: Ledger>(
     alloc: Global,
     directory: &Directory,

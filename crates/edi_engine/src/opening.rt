@@ -15,13 +15,14 @@ ghost use Rattle.segment_walk.specs.Told.{components_seen};
 ghost use Rattle.seg_lexer.specs.Segments.{tail_of};
 ghost use Rattle.segment_records.specs.Segments.{segments_of_text};
 ghost use Rattle.segment_walk.specs.Count.{segment_count_of};
-ghost use Rattle.text_reading.specs.Errors.{advice_lines, syntax_lines, tail_lines};
+ghost use Rattle.text_reading.specs.Errors.{advice_lines, syntax_lines, tail_lines, untagged};
 ghost use Rattle.edi_octets.specs.declared.octets.TheConstants.{LONGEST_TEXT};
 
 use crate::parties::copy_party;
 use crate::tail::find_tail;
 use contrl_segments::{Opening, Party};
 use edi_octets::Octets;
+use envelope_check::SegmentMark;
 use error_ledger::{ErrorLine, Kind};
 use seg_lexer::{Context, Fields, Service, Value};
 use segment_records::{copy_value, is_named};
@@ -140,9 +141,16 @@ pub(crate) fn put_advice(kept: &KeptText<'_>, list: &mut Vec<ErrorLine>) -> Resu
         ≡ list.old.items ++ advice_lines (service_of kept.now.text).sound) }
 {
     if !kept.service().sound {
-        list.push(error_with(0, 0, None, 0, 0, Kind::BadUna))?;
+        list.push(error_with(0, untagged(0), 0, 0, Kind::BadUna))?;
     }
     Ok(())
+}
+
+// A place of a text where no tag is read.
+fn untagged(start: u32) -> SegmentMark
+    ensures { result ≡ untagged start }
+{
+    SegmentMark { start, tag: None }
 }
 
 // Puts that something is left after the last segment.
@@ -159,7 +167,7 @@ pub(crate) fn put_tail(kept: &KeptText<'_>, list: &mut Vec<ErrorLine>) -> Result
     );
     if let Some(start) = tail {
         let number = kept.segment_count() + 1;
-        list.push(error_with(number, start, None, 0, 0, Kind::Tail))?;
+        list.push(error_with(number, untagged(start), 0, 0, Kind::Tail))?;
     }
     Ok(())
 }

@@ -147,7 +147,7 @@ module _ (dir : Parts) (directory : IsDirectory dir) (context : Context) (segmen
 
   local_alike : local_seen seen ≡ local_lines dir context (i + 1) segment
   local_alike =
-      ap (λ (n : ℕ). map (λ (error : LocalError). error_with (i + 1) n segment.tag error.element error.component error.kind) (local_errors_of dir context segment.components)) start_is
+      ap (λ (n : ℕ). map (λ (error : LocalError). error_with (i + 1) (record { start = n; tag = segment.tag }) error.element error.component error.kind) (local_errors_of dir context segment.components)) start_is
 
   pub lines_alike : lines_seen dir seen ≡ segment_lines dir context segments (i, segment)
   lines_alike =

@@ -1,13 +1,13 @@
 -- The errors of a segment by itself and by its message, as lines of the error list.
-use Rattle.std.specs.Prelude.{ℕ, ◌+◌, Bool, not, ◌&&◌, List, [], ◌∷◌, ◌++◌, map, Option, None, codes, if◌then◌else◌}
+use Rattle.std.specs.Prelude.{ℕ, ◌+◌, Bool, not, ◌&&◌, List, [], ◌∷◌, ◌++◌, map, None, codes, if◌then◌else◌}
 use Rattle.std.specs.List.{list_any}
 use Rattle.std.specs.Str.{bytes_eq}
 use Rattle.dir_compile.specs.Directory.{Directory}
 use Rattle.edi_tables.specs.Octets.{Octets}
 use Rattle.edi_tables.specs.declared.table.Node.{Node}
-use Rattle.edi_tables.specs.declared.tag.Tag.{Tag}
 use Rattle.edi_tables.specs.Walk.{entry_for, is_group_at, is_trigger_at, tag_at}
 use Rattle.seg_lexer.specs.declared.context.Context.{Context}
+use Rattle.envelope_check.specs.declared.head.SegmentMark.{SegmentMark}
 use Rattle.error_ledger.specs.declared.error.ErrorLine.{ErrorLine}
 use Rattle.error_ledger.specs.declared.kind.Kind.{Kind}
 use Rattle.error_ledger.specs.declared.kind.Kind.TheVariants as kind
@@ -18,13 +18,14 @@ use Rattle.table_walk.specs.Errors.Fault.{Missing, Over, Unplaced}
 use Rattle.segment_records.specs.Segments.{Segment}
 use Rattle.segment_records.specs.Messages.{Position, nodes_at, position_at, structure_errors_at}
 use Rattle.segment_records.specs.Messages.Position.{Outside, Untabled, Within}
+use Rattle.segment_walk.specs.Heads.{mark_of}
 
--- an error of segment k, at a component of an element; 0 is the whole segment, or the whole element
-abbrev pub error_with : ℕ → ℕ → Option Tag → ℕ → ℕ → Kind → ErrorLine
-error_with k start tag element component found = record {
+-- an error of segment k, which has this mark, at a component of an element; 0 is the whole segment, or the whole element
+abbrev pub error_with : ℕ → SegmentMark → ℕ → ℕ → Kind → ErrorLine
+error_with k mark element component found = record {
   segment = k;
-  start = start;
-  tag = tag;
+  start = mark.start;
+  tag = mark.tag;
   element = element;
   component = component;
   kind = found;
@@ -33,7 +34,7 @@ error_with k start tag element component found = record {
 }
 
 abbrev pub error_of : ℕ → Segment → ℕ → ℕ → Kind → ErrorLine
-error_of k segment element component found = error_with k segment.start segment.tag element component found
+error_of k segment element component found = error_with k (mark_of segment) element component found
 
 -- a local error of segment k
 abbrev pub local_line : ℕ → Segment → LocalError → ErrorLine

@@ -60,6 +60,10 @@ head_at dir p = option_map (head_of dir p.0 p.1) (kind_of p.1.tag)
 unfoldable pub heads_of : Directory → List Segment → List Head
 heads_of dir segments = filter_map (head_at dir) (enumerate_from 1 segments)
 
+-- the mark of a segment: its first octet and its tag
+abbrev pub mark_of : Segment → SegmentMark
+mark_of segment = record { start = segment.start; tag = segment.tag }
+
 -- the first octet and the tag of each segment
 abbrev pub marks_of : List Segment → List SegmentMark
-marks_of segments = map (λ segment. record { start = segment.start; tag = segment.tag }) segments
+marks_of segments = map mark_of segments

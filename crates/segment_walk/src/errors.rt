@@ -5,25 +5,18 @@ ghost use Rattle.segment_walk.specs.Line.{seen_error};
 ghost use Rattle.segment_walk.specs.Look.{seen_of};
 
 use crate::walked_segment::WalkedSegment;
-use edi_tables::Tag;
+use envelope_check::SegmentMark;
 use error_ledger::{ErrorLine, Kind};
 
-/// An error of segment `k`, from 1, whose first octet and tag are these, at a component of an element, both from 1: 0 is the
+/// An error of segment `k`, from 1, which has this mark, at a component of an element, both from 1: 0 is the
 /// whole segment, or the whole element. An error of the text itself is of segment 0.
-pub fn error_with(
-    k: u32,
-    start: u32,
-    tag: Option<Tag>,
-    element: u32,
-    component: u32,
-    kind: Kind,
-) -> ErrorLine
-    ensures { result ≡ error_with k start tag element component kind }
+pub fn error_with(k: u32, mark: SegmentMark, element: u32, component: u32, kind: Kind) -> ErrorLine
+    ensures { result ≡ error_with k mark element component kind }
 {
     ErrorLine {
         segment: k,
-        start,
-        tag,
+        start: mark.start,
+        tag: mark.tag,
         element,
         component,
         kind,
@@ -37,13 +30,10 @@ impl WalkedSegment<'_> {
     pub fn error(&self, element: u32, component: u32, kind: Kind) -> ErrorLine
         ensures { result ≡ seen_error (seen_of self.now) element component kind }
     {
-        error_with(
-            self.number,
-            self.start(),
-            self.record.tag(),
-            element,
-            component,
-            kind,
-        )
+        let mark = SegmentMark {
+            start: self.start(),
+            tag: self.record.tag(),
+        };
+        error_with(self.number, mark, element, component, kind)
     }
 }

@@ -74,8 +74,8 @@ module _ (dir : Parts) (directory : IsDirectory dir) (text : List ℕ) where
     -- what is wrong with the opening, by the components at its places
     abbrev opening_by : List Component → ℕ → List ErrorLine
     opening_by components start =
-        when (is_unknown (value_in components 1 1) levels) (error_with 1 start found.0.tag 1 1 kind.Syntax)
-        ++ when (is_unknown (value_in components 1 2) versions) (error_with 1 start found.0.tag 1 2 kind.Syntax)
+        when (is_unknown (value_in components 1 1) levels) (error_with 1 (record { start = start; tag = found.0.tag }) 1 1 kind.Syntax)
+        ++ when (is_unknown (value_in components 1 2) versions) (error_with 1 (record { start = start; tag = found.0.tag }) 1 2 kind.Syntax)
 
     pub opening_is : has_name (codes "UNB") seen.kept.tag ≡ true → opening_seen (service_of text) text seen ≡ syntax_lines (slice_get (segments_of_text text) 0)
     opening_is named =

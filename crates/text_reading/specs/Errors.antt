@@ -11,10 +11,15 @@ use Rattle.seg_lexer.specs.declared.context.Context.{Context}
 use Rattle.error_ledger.specs.declared.error.ErrorLine.{ErrorLine}
 use Rattle.error_ledger.specs.declared.kind.Kind.TheVariants as kind
 use Rattle.envelope_check.specs.Envelope.{envelope_errors_of}
+use Rattle.envelope_check.specs.declared.head.SegmentMark.{SegmentMark}
 use Rattle.segment_records.specs.Segments.{Segment, segments_of_text, value_in}
 use Rattle.segment_walk.specs.Errors.{error_of, error_with, is_unknown, levels, segment_lines, versions}
 use Rattle.segment_walk.specs.Heads.{heads_of, marks_of}
 use Rattle.error_ledger.specs.Order.{in_order}
+
+-- a place of a text where no tag is read
+abbrev pub untagged : ℕ → SegmentMark
+untagged start = record { start = start; tag = None }
 
 -- UNB names a level (0001) or a version (0002) that there isn't
 abbrev pub opening_lines : Segment → List ErrorLine
@@ -30,11 +35,11 @@ syntax_lines (Some segment) = if has_name (codes "UNB") segment.tag then opening
 -- what is left after the last segment
 abbrev pub tail_lines : ℕ → Option ℕ → List ErrorLine
 tail_lines count None = []
-tail_lines count (Some start) = error_with (count + 1) start None 0 0 kind.Tail ∷ []
+tail_lines count (Some start) = error_with (count + 1) (untagged start) 0 0 kind.Tail ∷ []
 
 -- a service string advice that can't be used
 abbrev pub advice_lines : Bool → List ErrorLine
-advice_lines sound = when (not sound) (error_with 0 0 None 0 0 kind.BadUna)
+advice_lines sound = when (not sound) (error_with 0 (untagged 0) 0 0 kind.BadUna)
 
 -- the errors of a text with these segments and this context
 abbrev pub errors_in : Directory → Context → List Segment → Option ℕ → List ErrorLine

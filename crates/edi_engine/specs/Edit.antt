@@ -1,7 +1,6 @@
 -- What an edit of a text comes to.
 use Rattle.std.specs.Prelude.{◌≡◌, ◌+◌, ◌-◌, ℕ, nat_lt, length, Option, Some, None, Result, Ok, Err, if◌then◌else◌}
 use Rattle.edi_tables.specs.Octets.{Octets}
-use Rattle.text_reading.specs.Edit.{reading_with}
 use Rattle.text_reading.specs.Reading.{Reading}
 use Rattle.edi_engine.specs.declared.edit.EditStop.{EditStop}
 use Rattle.edi_engine.specs.declared.edit.EditStop.TheVariants.{Range, TooLong, Memory}
@@ -17,13 +16,11 @@ stop_by length at cut put =
 abbrev pub stop_of : Octets → ℕ → ℕ → Octets → Option EditStop
 stop_of text at cut put = stop_by (length text) at cut (length put)
 
--- what an edit comes to: the text of the edit, with its length; or the reading as it was, where the edit isn't made, or
--- memory was refused for one that may be made
-abbrev pub IsEdit : Reading → ℕ → ℕ → Octets → Reading → Result ℕ EditStop → Type 0
-IsEdit before at cut put now (Ok n) =
-    (stop_of before.text at cut put ≡ None)
-    × (now ≡ reading_with before at cut put)
-    × (n ≡ length now.text)
-IsEdit before at cut put now (Err Range) = (stop_of before.text at cut put ≡ Some Range) × (now ≡ before)
-IsEdit before at cut put now (Err TooLong) = (stop_of before.text at cut put ≡ Some TooLong) × (now ≡ before)
-IsEdit before at cut put now (Err Memory) = (stop_of before.text at cut put ≡ None) × (now ≡ before)
+-- what an edit comes to, by why it isn't made, if it isn't, and by the reading that it would give: that reading, with
+-- the length of its text; or the reading as it was, where the edit isn't made, or memory was refused for one that may be
+-- made
+abbrev pub IsEdit : Option EditStop → Reading → Reading → Reading → Result ℕ EditStop → Type 0
+IsEdit stop edited before now (Ok n) = (stop ≡ None) × (now ≡ edited) × (n ≡ length now.text)
+IsEdit stop edited before now (Err Range) = (stop ≡ Some Range) × (now ≡ before)
+IsEdit stop edited before now (Err TooLong) = (stop ≡ Some TooLong) × (now ≡ before)
+IsEdit stop edited before now (Err Memory) = (stop ≡ None) × (now ≡ before)

@@ -2,7 +2,7 @@
 ghost use Rattle.std.specs.Prelude.{◌≡◌, ◌+◌, ◌≤◌, ◌⊎◌, None};
 ghost use Rattle.segment_walk.specs.Count.{segment_count_of};
 ghost use Rattle.edi_engine.specs.Edit.{IsEdit, stop_by, stop_of};
-ghost use Rattle.text_reading.specs.Edit.{text_with};
+ghost use Rattle.text_reading.specs.Edit.{reading_with, text_with};
 
 use crate::Engine;
 use edi_octets::LONGEST_TEXT;
@@ -45,7 +45,8 @@ impl<'d> Engine<'d> {
         lexed: &mut Steps<L>,
         placed: &mut Steps<M>,
     ) -> Result<u64, EditStop>
-        ensures edit { IsEdit self.old at cut put.now self.new result }
+        ensures edit { IsEdit (stop_of self.old.text at cut put.now)
+            (reading_with self.old at cut put.now) self.old self.new result }
         ensures lexed { lexed.new ≤ lexed.old
             + (segment_count_of (text_with self.old.text at cut put.now) + 2) }
         ensures placed { placed.new ≤ placed.old

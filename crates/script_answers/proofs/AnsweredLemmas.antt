@@ -1,11 +1,11 @@
 -- Commands that are answered one after the other, with the text that they lead to.
-use Rattle.std.proofs.Common.{◌≡◌, ◌⊎◌, ◌++◌, ◌<◌, ◌≤◌, ℕ, List, [], ◌∷◌, length, take, refl, sym, ap, ◌∙◌, subst, inl, inr}
+use Rattle.std.proofs.Common.{◌≡◌, ◌⊎◌, ◌++◌, ◌<◌, ℕ, List, [], ◌∷◌, length, take, refl, sym, ap, ◌∙◌, subst, inl, inr}
 use Rattle.std.proofs.lemmas.List.{append_assoc, append-nil}
 use Rattle.dir_compile.specs.declared.parts.Parts.{Parts}
 use Rattle.edit_script.specs.declared.command.Command.{Command}
 use Rattle.edit_script.specs.declared.command.Command.TheVariants.{Replace, Errors, Tree, Contrl, Text, End}
 use Rattle.script_answers.specs.Script.{IsOpen, IsEnded}
-use Rattle.script_answers.specs.Reply.{Answers, AnswersCut, IsStep, no_memory, reply_to}
+use Rattle.script_answers.specs.Reply.{Answers, AnswersCut, IsStep}
 
 -- the replies to commands, and the text after them
 abbrev pub AnswersTo : Parts → List ℕ → List Command → List ℕ → List ℕ → Type 0
@@ -13,11 +13,6 @@ AnswersTo dir text [] out end = (out ≡ []) × (text ≡ end)
 AnswersTo dir text (c ∷ cs) out end =
     (reply : List ℕ) × (after : List ℕ) × (rest : List ℕ)
     × IsStep dir text c reply after × AnswersTo dir after cs rest end × (out ≡ reply ++ rest)
-
--- where there is room for the reply of the text, and for want of memory, there is room for the reply
-pub step_fits : (dir : Parts) (text : List ℕ) (c : Command) (reply after : List ℕ) (n : ℕ) → IsStep dir text c reply after → length (reply_to dir text c) ≤ n → length no_memory ≤ n → length reply ≤ n
-step_fits dir text c reply after n (inl is) fits least = subst (λ (xs : List ℕ). length xs ≤ n) (sym is.0) fits
-step_fits dir text c reply after n (inr lacks) fits least = subst (λ (xs : List ℕ). length xs ≤ n) (sym lacks.1) least
 
 -- one command more
 pub answers_more : (dir : Parts) (text : List ℕ) (cs : List Command) (out end : List ℕ) (c : Command) (reply next : List ℕ) → AnswersTo dir text cs out end → IsStep dir end c reply next → AnswersTo dir text (cs ++ c ∷ []) (out ++ reply) next

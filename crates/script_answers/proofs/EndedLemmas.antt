@@ -31,27 +31,35 @@ abbrev pub StillLeft : Option (List ℕ) → Option (List ℕ) → ℕ → Type 
 StillLeft before now left =
     (cs : List Command) (more : List ℕ) → before ≡ Some (script_text cs ++ more) → AreCommands cs → IsEnded cs → length (script_text cs) ≤ longest_script → IsLeft more now left
 
-left_next : (cs : List Command) (more : List ℕ) (mid now : Option (List ℕ)) (reader after : Reader) (c : Command) → AreCommands cs → IsEnded cs → mid ≡ Some (script_text cs ++ more) → length (script_text cs) ≤ reader.left → IsNext mid now reader after (Ok c) → (c ≡ End → ⊥) → IsLeft more now after.left
-left_next [] more mid now reader after c lawful ended same short next not =
+-- the command that was taken is the first of those that were left
+pub first_taken : (cs : List Command) (more : List ℕ) (mid now : Option (List ℕ)) (reader after : Reader) (c : Command) → AreCommands cs → IsEnded cs → mid ≡ Some (script_text cs ++ more) → IsNext mid now reader after (Ok c) → (ds : List Command) × (cs ≡ c ∷ ds) × (now ≡ Some (script_text ds ++ more))
+first_taken [] more mid now reader after c lawful ended same next =
     let some = ended_some [] ended in let no : [] ≡ some.0 ∷ some.1 = some.2 in absurd (cc)
-left_next (d ∷ cs) more mid now reader after c lawful ended same short next not =
+first_taken (d ∷ cs) more mid now reader after c lawful ended same next =
     let took = took_of (script_text (d ∷ cs) ++ more) mid now reader after same next in
     let is : next.taken ≡ command_text c = next.answer.1 in
     let along : command_text c ++ took.0 ≡ command_text d ++ (script_text cs ++ more) = ap (λ (xs : List ℕ). xs ++ took.0) (sym is) ∙ sym took.1.left_is ∙ append_assoc (command_text d) (script_text cs) more in
     let one = same_command c d took.0 (script_text cs ++ more) next.answer.0 lawful.0 along in
-    let size : length next.taken ≡ length (command_text d) = ap length is ∙ ap (λ (e : Command). length (command_text e)) one.0 in (
-      cs,
-      lawful.1,
-      ended_next d cs ended (λ (end : d ≡ End). not (one.0 ∙ end)),
-      took.1.now_is ∙ ap Some one.1,
-      omega (arith, next.left, size, short, length-append (command_text d) (script_text cs)),
+    (cs, ap (λ (e : Command). e ∷ cs) (sym one.0), took.1.now_is ∙ ap Some one.1)
+
+-- it isn't `end`, and the others are left
+pub left_next : (cs ds : List Command) (more : List ℕ) (mid now : Option (List ℕ)) (reader after : Reader) (c : Command) → AreCommands cs → IsEnded cs → length (script_text cs) ≤ reader.left → IsNext mid now reader after (Ok c) → (c ≡ End → ⊥) → cs ≡ c ∷ ds → AreCommands ds × IsEnded ds × (length (script_text ds) ≤ after.left)
+left_next cs ds more mid now reader after c lawful ended short next not is =
+    let lawful' : AreCommands (c ∷ ds) = subst AreCommands is lawful in
+    let size = ap length next.answer.1 in
+    let whole = ap (λ (es : List Command). length (script_text es)) is in (
+      lawful'.1,
+      ended_next c ds (subst IsEnded is ended) not,
+      omega (arith, next.left, size, whole, short, length-append (command_text c) (script_text ds)),
     )
 
 -- a command that isn't `end` was taken
 pub left_more : (before mid now : Option (List ℕ)) (reader after : Reader) (c : Command) → StillLeft before mid reader.left → IsNext mid now reader after (Ok c) → (c ≡ End → ⊥) → StillLeft before now after.left
 left_more before mid now reader after c still next not cs more same lawful ended short =
     let is = still cs more same lawful ended short in
-    left_next is.0 more mid now reader after c is.1 is.2 is.3 is.4 next not
+    let first = first_taken is.0 more mid now reader after c is.1 is.2 is.3 next in
+    let rest = left_next is.0 first.0 more mid now reader after c is.1 is.2 is.4 next not first.1 in
+    (first.0, rest.0, rest.1, first.2, rest.2)
 
 -- where a command is there and may be taken, only a fault or want of memory stops a reader
 why_of : (d : Command) (behind taken rest : List ℕ) (mid now : Option (List ℕ)) (reader : Reader) (why : ScriptStop) → IsCommand d → length (command_text d) ≤ reader.left → mid ≡ Some (command_text d ++ behind) → command_text d ++ behind ≡ taken ++ rest → now ≡ Some rest → IsAnswer reader taken (IsAtEnd mid now) (Err why) → (why ≡ stop.Fault) ⊎ (why ≡ stop.Memory)
@@ -70,7 +78,8 @@ why_of d behind taken rest mid now reader stop.TooLong lawful short told same is
 why_of d behind taken rest mid now reader stop.Fault lawful short told same is answer = inl refl
 why_of d behind taken rest mid now reader stop.Memory lawful short told same is answer = inr refl
 
-left_stop : (cs : List Command) (more : List ℕ) (mid now : Option (List ℕ)) (reader after : Reader) (why : ScriptStop) → AreCommands cs → IsEnded cs → mid ≡ Some (script_text cs ++ more) → length (script_text cs) ≤ reader.left → IsNext mid now reader after (Err why) → (why ≡ stop.Fault) ⊎ (why ≡ stop.Memory)
+-- so it is where commands are left
+pub left_stop : (cs : List Command) (more : List ℕ) (mid now : Option (List ℕ)) (reader after : Reader) (why : ScriptStop) → AreCommands cs → IsEnded cs → mid ≡ Some (script_text cs ++ more) → length (script_text cs) ≤ reader.left → IsNext mid now reader after (Err why) → (why ≡ stop.Fault) ⊎ (why ≡ stop.Memory)
 left_stop [] more mid now reader after why lawful ended same short next =
     let some = ended_some [] ended in let no : [] ≡ some.0 ∷ some.1 = some.2 in absurd (cc)
 left_stop (d ∷ cs) more mid now reader after why lawful ended same short next =

@@ -1,3 +1,4 @@
 mod AnsweredLemmas
 mod EndedLemmas
+pub mod RoomLemmas
 mod RunLemmas

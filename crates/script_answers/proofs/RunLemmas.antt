@@ -1,5 +1,5 @@
 -- A script that is read and answered, command by command.
-use Rattle.std.proofs.Common.{◌≡◌, ⊎_elim, ◌+◌, ◌++◌, ◌<◌, ℕ, Bool, true, false, List, [], ◌∷◌, length, take, Option, Some, None, Result, Ok, Err, IfSome, decimal, refl, sym, ap, ◌∙◌, subst, inl, inr, arith, length-append}
+use Rattle.std.proofs.Common.{◌≡◌, ⊎_elim, ◌+◌, ◌++◌, ◌<◌, ◌≤◌, ℕ, Bool, true, false, List, [], ◌∷◌, length, take, Option, Some, None, Result, Ok, Err, IfSome, decimal, refl, sym, ap, ◌∙◌, subst, inl, inr, arith, length-append}
 use Rattle.std.proofs.lemmas.List.{append_assoc}
 use Rattle.std.specs.Prelude.{codes}
 use Rattle.edi_ports.specs.Faults.{HasRisen}
@@ -19,10 +19,11 @@ use Rattle.edit_script.proofs.ScriptLemmas.{are_more, script_more}
 use Rattle.run_outcome.specs.declared.status.Status.{Status}
 use Rattle.run_outcome.specs.declared.status.Status.TheVariants.{Done, WriteFault}
 use Rattle.run_outcome.specs.Finish.{Grew, IsFinish}
-use Rattle.script_answers.specs.Script.{IsOpen, IsRest, IsRow, IsStopped, longest_script, stopped_by}
+use Rattle.script_answers.specs.Script.{Account, IsOpen, IsRest, IsRow, IsStopped, longest_script, stopped_by}
 use Rattle.run_outcome.specs.Held.{Held}
 use Rattle.run_outcome.specs.Put.{IsPutOut}
-use Rattle.script_answers.specs.Replied.{IsAnswered}
+use Rattle.script_answers.specs.Replied.{IsAnswered, TakesAll}
+use Rattle.script_answers.specs.Reply.{IsStep}
 use Rattle.script_answers.proofs.AnsweredLemmas.{AnswersTo, answers_cut, answers_forget, answers_more, ended_more, open_more, open_or_ended}
 
 -- ---- the line that tells why a script was stopped
@@ -58,12 +59,12 @@ abbrev pub IsProgress : Parts → List ℕ → List ℕ → Reader → Option (L
 IsProgress dir text end reader before now held held' =
     IfSome before (λ whole. IfSome held (λ octets. Progress dir text end reader whole octets now held'))
 
--- what a run comes to, where input and sink tell what they hold
-abbrev pub IsRun : Parts → List ℕ → Status → Option (List ℕ) → Option (List ℕ) → Option (List ℕ) → Option (List ℕ) → Type 0
-IsRun dir text status before now held held' =
+-- what a run did, where input and sink tell what they hold
+abbrev pub IsRun : Parts → List ℕ → Type 0 → Status → Option (List ℕ) → Option (List ℕ) → Option (List ℕ) → Option (List ℕ) → Type 0
+IsRun dir text Failed status before now held held' =
     IfSome before (λ whole. IfSome held (λ octets.
-    (script : List ℕ) × (left : List ℕ) × (put : List ℕ)
-    × (whole ≡ script ++ left) × (now ≡ Some left) × (held' ≡ Some (octets ++ put)) × IsRow dir text status script left put))
+    (account : Account) × (whole ≡ account.script ++ account.left) × (length account.script ≤ longest_script)
+    × (now ≡ Some account.left) × (held' ≡ Some (octets ++ account.put)) × IsRow dir text Failed status account))
 
 -- what the next call took of what was left
 pub record Took (left taken after : List ℕ) (now : Option (List ℕ)) : Type 0 where
@@ -98,7 +99,7 @@ script_length cs c taken is =
     ap length (script_more cs c) ∙ length-append (script_text cs) (command_text c) ∙ ap (λ (xs : List ℕ). length (script_text cs) + length xs) (sym is)
 
 -- a command that isn't `end` was taken and answered
-pub progress_more : (dir : Parts) (text end next : List ℕ) (reader after : Reader) (before mid now held put held' : Option (List ℕ)) (c : Command) → IsProgress dir text end reader before mid held put → IsNext mid now reader after (Ok c) → IsAnswered dir end c next put held' true → (c ≡ End → ⊥) → IsProgress dir text next after before now held held'
+pub progress_more : (dir : Parts) (text end next : List ℕ) (reader after : Reader) (before mid now held put held' : Option (List ℕ)) (c : Command) → IsProgress dir text end reader before mid held put → IsNext mid now reader after (Ok c) → IsAnswered dir end c next (λ (reply : List ℕ). IsPutOut put held' reply true) → (c ≡ End → ⊥) → IsProgress dir text next after before now held held'
 progress_more dir text end next reader after None mid now held put held' c p taken answered not = tt
 progress_more dir text end next reader after (Some whole) mid now None put held' c p taken answered not = tt
 progress_more dir text end next reader after (Some whole) mid now (Some octets) put held' c p taken answered not =
@@ -120,17 +121,16 @@ progress_more dir text end next reader after (Some whole) mid now (Some octets) 
     }
 
 -- `end` was taken and answered
-pub run_done : (dir : Parts) (text end next : List ℕ) (reader after : Reader) (before mid now held put held' : Option (List ℕ)) (c : Command) → IsProgress dir text end reader before mid held put → IsNext mid now reader after (Ok c) → IsAnswered dir end c next put held' true → c ≡ End → IsRun dir text Done before now held held'
-run_done dir text end next reader after None mid now held put held' c p taken answered is_end = tt
-run_done dir text end next reader after (Some whole) mid now None put held' c p taken answered is_end = tt
-run_done dir text end next reader after (Some whole) mid now (Some octets) put held' c p taken answered is_end =
+pub run_done : (dir : Parts) (text end next : List ℕ) (Failed : Type 0) (reader after : Reader) (before mid now held put held' : Option (List ℕ)) (c : Command) → IsProgress dir text end reader before mid held put → IsNext mid now reader after (Ok c) → IsAnswered dir end c next (λ (reply : List ℕ). IsPutOut put held' reply true) → c ≡ End → IsRun dir text Failed Done before now held held'
+run_done dir text end next Failed reader after None mid now held put held' c p taken answered is_end = tt
+run_done dir text end next Failed reader after (Some whole) mid now None put held' c p taken answered is_end = tt
+run_done dir text end next Failed reader after (Some whole) mid now (Some octets) put held' c p taken answered is_end =
     let took = took_of p.left mid now reader after p.now_is taken in
     let is : taken.taken ≡ command_text c = taken.answer.1 in
     let longer = script_length p.commands c taken.taken is in (
-      script_text (p.commands ++ c ∷ []),
-      took.0,
-      p.out ++ answered.0,
+      record { script = script_text (p.commands ++ c ∷ []); left = took.0; put = p.out ++ answered.0 },
       script_grown p.commands c whole p.left taken.taken took.0 p.whole_is took.1.left_is is,
+      omega (arith, taken.left, p.allowed, longer),
       took.1.now_is,
       put_whole octets p.out answered.0 put held' p.held_is answered.2,
       (
@@ -138,23 +138,22 @@ run_done dir text end next reader after (Some whole) mid now (Some octets) put h
         are_more p.commands c p.lawful taken.answer.0,
         ended_more p.commands c p.are_open is_end,
         refl,
-        omega (arith, taken.left, p.allowed, longer),
         answers_forget dir text (p.commands ++ c ∷ []) (p.out ++ answered.0) next (answers_more dir text p.commands p.out end c answered.0 next p.answers answered.1),
       ),
     )
 
 -- a command was taken, and the sink failed in its reply
-pub run_cut : (dir : Parts) (text end next : List ℕ) (reader after : Reader) (before mid now held put held' : Option (List ℕ)) (c : Command) → IsProgress dir text end reader before mid held put → IsNext mid now reader after (Ok c) → IsAnswered dir end c next put held' false → IsRun dir text WriteFault before now held held'
-run_cut dir text end next reader after None mid now held put held' c p taken answered = tt
-run_cut dir text end next reader after (Some whole) mid now None put held' c p taken answered = tt
-run_cut dir text end next reader after (Some whole) mid now (Some octets) put held' c p taken answered =
+pub run_cut : (dir : Parts) (text end next : List ℕ) (Failed : Type 0) (reader after : Reader) (before mid now held put held' : Option (List ℕ)) (c : Command) → IsProgress dir text end reader before mid held put → IsNext mid now reader after (Ok c) → IsAnswered dir end c next (λ (reply : List ℕ). IsPutOut put held' reply false) → IsRun dir text Failed WriteFault before now held held'
+run_cut dir text end next Failed reader after None mid now held put held' c p taken answered = tt
+run_cut dir text end next Failed reader after (Some whole) mid now None put held' c p taken answered = tt
+run_cut dir text end next Failed reader after (Some whole) mid now (Some octets) put held' c p taken answered =
     let took = took_of p.left mid now reader after p.now_is taken in
     let is : taken.taken ≡ command_text c = taken.answer.1 in
+    let longer = script_length p.commands c taken.taken is in
     let cut = put_part octets p.out answered.0 put held' p.held_is answered.2 in (
-      script_text (p.commands ++ c ∷ []),
-      took.0,
-      p.out ++ take cut.0 answered.0,
+      record { script = script_text (p.commands ++ c ∷ []); left = took.0; put = p.out ++ take cut.0 answered.0 },
       script_grown p.commands c whole p.left taken.taken took.0 p.whole_is took.1.left_is is,
+      omega (arith, taken.left, p.allowed, longer),
       took.1.now_is,
       cut.2,
       inl (
@@ -178,45 +177,58 @@ rest_of stop.Fault commands script taken left count mid now reader same is numbe
 rest_of stop.Memory commands script taken left count mid now reader same is numbered allowed answer = inl answer
 
 -- the row of a stop whose line was put whole
-stopped_row : (dir : Parts) (text : List ℕ) (why : ScriptStop) (status : Status) (script left out put : List ℕ) → status ≡ (stopped_by why).status → IsStopped dir text why script left out → put ≡ out ++ (stopped_by why).output → IsRow dir text status script left put
-stopped_row dir text why status script left out put is stopped put_is =
-    subst (λ (s : Status). IsRow dir text s script left put) (sym is) (row_of why stopped put_is)
+stopped_row : (dir : Parts) (text : List ℕ) (Failed : Type 0) (why : ScriptStop) (status : Status) (account : Account) → status ≡ (stopped_by why).status → IsStopped dir text why (stopped_by why).output account → IsRow dir text Failed status account
+stopped_row dir text Failed why status account is stopped =
+    subst (λ (s : Status). IsRow dir text Failed s account) (sym is) (row_of why stopped)
   where
-    row_of : (why : ScriptStop) → IsStopped dir text why script left out → put ≡ out ++ (stopped_by why).output → IsRow dir text (stopped_by why).status script left put
-    row_of (stop.BadLine number) stopped put_is = (stop.BadLine number, out, refl, stopped, put_is)
-    row_of (stop.CutShort number) stopped put_is = (stop.CutShort number, out, refl, stopped, put_is)
-    row_of stop.TooLong stopped put_is = (stop.TooLong, out, refl, stopped, put_is)
-    row_of stop.Fault stopped put_is = (stop.Fault, out, refl, stopped, put_is)
-    row_of stop.Memory stopped put_is = (stop.Memory, out, refl, stopped, put_is)
+    row_of : (why : ScriptStop) → IsStopped dir text why (stopped_by why).output account → IsRow dir text Failed (stopped_by why).status account
+    row_of (stop.BadLine number) stopped = (stop.BadLine number, refl, stopped)
+    row_of (stop.CutShort number) stopped = (stop.CutShort number, refl, stopped)
+    row_of stop.TooLong stopped = (stop.TooLong, refl, stopped)
+    row_of stop.Fault stopped = (stop.Fault, refl, stopped)
+    row_of stop.Memory stopped = (stop.Memory, refl, stopped)
 
 -- no command was taken, and why was told, or the sink failed there
-pub run_stopped : (dir : Parts) (text end : List ℕ) (reader after : Reader) (before mid now held : Option (List ℕ)) (put held' : Held) (why : ScriptStop) (status : Status) → IsProgress dir text end reader before mid held put.octets → IsNext mid now reader after (Err why) → IsFinish (stopped_by why) put held' status → IsRun dir text status before now held held'.octets
-run_stopped dir text end reader after None mid now held put held' why status p next finish = tt
-run_stopped dir text end reader after (Some whole) mid now None put held' why status p next finish = tt
-run_stopped dir text end reader after (Some whole) mid now (Some octets) put held' why status p next finish =
+pub run_stopped : (dir : Parts) (text end : List ℕ) (Failed : Type 0) (reader after : Reader) (before mid now held : Option (List ℕ)) (put held' : Held) (why : ScriptStop) (status : Status) → IsProgress dir text end reader before mid held put.octets → IsNext mid now reader after (Err why) → (why ≡ stop.Fault → Failed) → IsFinish (stopped_by why) put held' status → IsRun dir text Failed status before now held held'.octets
+run_stopped dir text end Failed reader after None mid now held put held' why status p next failed finish = tt
+run_stopped dir text end Failed reader after (Some whole) mid now None put held' why status p next failed finish = tt
+run_stopped dir text end Failed reader after (Some whole) mid now (Some octets) put held' why status p next failed finish =
     let took = took_of p.left mid now reader after p.now_is next in
     let script : List ℕ = script_text p.commands ++ next.taken in
-    let stopped : IsStopped dir text why script took.0 p.out = (
+    let stopped : (line : List ℕ) → IsStopped dir text why line (record { script = script; left = took.0; put = p.out ++ line }) = λ line. (
       p.commands,
       next.taken,
+      p.out,
       p.lawful,
       p.are_open,
       refl,
       subst (λ (n : ℕ). IsRest why (length p.commands) next.taken n took.0) (sym (length-append (script_text p.commands) next.taken))
           (rest_of why p.left (script_text p.commands) next.taken took.0 (length p.commands) mid now reader p.now_is took.1.now_is p.numbered p.allowed next.answer),
       answers_forget dir text p.commands p.out end p.answers,
+      refl,
     ) in
     let whole_is : whole ≡ script ++ took.0 = p.whole_is ∙ ap (λ (xs : List ℕ). script_text p.commands ++ xs) took.1.left_is ∙ sym (append_assoc (script_text p.commands) next.taken took.0) in
+    let short : length script ≤ longest_script = omega (arith, next.left, p.allowed, length-append (script_text p.commands) next.taken) in
     ⊎_elim
     (λ (put_whole_line : (status ≡ (stopped_by why).status) × Grew put.octets held'.octets (stopped_by why).output).
-    (script, took.0, p.out ++ (stopped_by why).output, whole_is, took.1.now_is, put_whole octets p.out (stopped_by why).output put.octets held'.octets p.held_is put_whole_line.1, stopped_row dir text why status script took.0 p.out (p.out ++ (stopped_by why).output) put_whole_line.0 stopped refl))
+    let account : Account = record { script = script; left = took.0; put = p.out ++ (stopped_by why).output } in
+    (account, whole_is, short, took.1.now_is, put_whole octets p.out (stopped_by why).output put.octets held'.octets p.held_is put_whole_line.1, stopped_row dir text Failed why status account put_whole_line.0 (stopped (stopped_by why).output)))
     (λ (put_cut : (status ≡ WriteFault) × HasRisen put.faults held'.faults × IsCut put.octets held'.octets (stopped_by why).output).
     let cut = put_part octets p.out (stopped_by why).output put.octets held'.octets p.held_is put_cut.2 in
-    (script, took.0, p.out ++ take cut.0 (stopped_by why).output, whole_is, took.1.now_is, cut.2, subst (λ (s : Status). IsRow dir text s script took.0 (p.out ++ take cut.0 (stopped_by why).output)) (sym put_cut.0) (inr (why, p.out, cut.0, stopped, cut.1, refl))))
+    let account : Account = record { script = script; left = took.0; put = p.out ++ take cut.0 (stopped_by why).output } in
+    (account, whole_is, short, took.1.now_is, cut.2, subst (λ (s : Status). IsRow dir text Failed s account) (sym put_cut.0) (inr (why, cut.0, failed, cut.1, stopped (take cut.0 (stopped_by why).output)))))
     finish
 
--- an answer by the directory that a run began with
-pub answered_at : (dir begun : Parts) (text : List ℕ) (c : Command) (next : List ℕ) (held held' : Option (List ℕ)) (whole told : Bool) → dir ≡ begun → whole ≡ told → IsAnswered dir text c next held held' whole → IsAnswered begun text c next held held' told
-answered_at dir begun text c next held held' whole told same is answered =
-    subst (λ (d : Parts). IsAnswered d text c next held held' told) same
-    (subst (λ (b : Bool). IsAnswered dir text c next held held' b) is answered)
+-- an answer by the directory that a run began with, of which one thing more is known
+pub answered_at : (dir begun : Parts) (text : List ℕ) (c : Command) (next : List ℕ) (IsTaken IsTold : List ℕ → Type 0) → dir ≡ begun → ((reply : List ℕ) → IsTaken reply → IsTold reply) → IsAnswered dir text c next IsTaken → IsAnswered begun text c next IsTold
+answered_at dir begun text c next IsTaken IsTold same tells answered =
+    (answered.0, subst (λ (d : Parts). IsStep d text c answered.0 next) same answered.1, tells answered.0 answered.2)
+
+-- what was put of a reply, and how much room is left, where it is told whether all of it was put
+pub put_told : (dir begun : Parts) (text : List ℕ) (c : Command) (next : List ℕ) (held held' : Option (List ℕ)) (room room' : ℕ → Type 0) (whole told : Bool) → dir ≡ begun → whole ≡ told → IsAnswered dir text c next (λ (reply : List ℕ). IsPutOut held held' reply whole × TakesAll room room' whole reply) → IsAnswered begun text c next (λ (reply : List ℕ). IsPutOut held held' reply told)
+put_told dir begun text c next held held' room room' whole told same is answered =
+    answered_at dir begun text c next (λ (reply : List ℕ). IsPutOut held held' reply whole × TakesAll room room' whole reply) (λ (reply : List ℕ). IsPutOut held held' reply told) same (λ reply taken. subst (λ (b : Bool). IsPutOut held held' reply b) is taken.0) answered
+
+pub room_told : (dir begun : Parts) (text : List ℕ) (c : Command) (next : List ℕ) (held held' : Option (List ℕ)) (room room' : ℕ → Type 0) (whole told : Bool) → dir ≡ begun → whole ≡ told → IsAnswered dir text c next (λ (reply : List ℕ). IsPutOut held held' reply whole × TakesAll room room' whole reply) → IsAnswered begun text c next (TakesAll room room' told)
+room_told dir begun text c next held held' room room' whole told same is answered =
+    answered_at dir begun text c next (λ (reply : List ℕ). IsPutOut held held' reply whole × TakesAll room room' whole reply) (TakesAll room room' told) same (λ reply taken. subst (λ (b : Bool). TakesAll room room' b reply) is taken.1) answered

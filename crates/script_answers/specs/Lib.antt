@@ -1,3 +1,4 @@
+pub mod Ran
 pub mod Replied
 pub mod Reply
 pub mod Script

@@ -2,7 +2,6 @@
 use Rattle.std.specs.Prelude.{◌≡◌, ◌⊎◌, ◌<◌, ◌≤◌, ◌+◌, ⊤, ℕ, List, [], ◌∷◌, ◌++◌, length, take, Option, Some, IfSome, codes, decimal}
 use Rattle.dir_compile.specs.Directory.{Directory}
 use Rattle.edi_tables.specs.Octets.{Octets}
-use Rattle.edi_ports.specs.Faults.{HasRisen}
 use Rattle.edit_script.specs.Command.{IsCommandText, IsPart, IsBadLine}
 use Rattle.edit_script.specs.Script.{AreCommands, script_text}
 use Rattle.edit_script.specs.declared.command.Command.{Command}
@@ -11,8 +10,8 @@ use Rattle.edit_script.specs.declared.stop.ScriptStop.{ScriptStop}
 use Rattle.edit_script.specs.declared.stop.ScriptStop.TheVariants as stop
 use Rattle.run_outcome.specs.declared.status.Status.{Status}
 use Rattle.run_outcome.specs.declared.status.Status.TheVariants.{Done, BadScript, Memory, ReadFault, WriteFault}
-use Rattle.run_outcome.specs.Held.{Held}
 use Rattle.run_outcome.specs.Outcome.{Outcome, memory_refused, read_failed, refused, too_large}
+use Rattle.script_answers.specs.Ran.{HasInputFailed, HasSinkFailed, Ran}
 use Rattle.script_answers.specs.Reply.{Answers, AnswersCut}
 
 -- how many octets a script may have
@@ -49,29 +48,39 @@ IsRest stop.TooLong commands rest taken left = IsPart rest × (taken ≡ longest
 IsRest stop.Fault commands rest taken left = IsPart rest × (taken < longest_script)
 IsRest stop.Memory commands rest taken left = IsPart rest ⊎ IsCommandText rest
 
--- a script was stopped: what was taken of it is commands without `end`, which are answered, and what made it stop
-abbrev pub IsStopped : Directory → Octets → ScriptStop → Octets → Octets → Octets → Type 0
-IsStopped dir text why script left out =
-    (cs : List Command) × (rest : Octets) × AreCommands cs × IsOpen cs × (script ≡ script_text cs ++ rest)
-    × IsRest why (length cs) rest (length script) left × Answers dir text cs out
+-- what a run did: the octets that it took of a script, those that it left on the input, and those that it put
+pub record Account : Type 0 where
+  pub script : Octets
+  pub left : Octets
+  pub put : Octets
 
--- the sink failed: in the reply to the last command that was taken, or in the line that tells why the script stopped
-abbrev pub IsCutOff : Directory → Octets → Octets → Octets → Octets → Type 0
-IsCutOff dir text script left put =
-    ((cs : List Command) × AreCommands cs × (IsOpen cs ⊎ IsEnded cs) × (script ≡ script_text cs)
-    × AnswersCut dir text cs put)
-    ⊎ ((why : ScriptStop) × (out : Octets) × (n : ℕ) × IsStopped dir text why script left out
-    × (n < length (stopped_by why).output) × (put ≡ out ++ take n (stopped_by why).output))
+-- a script was stopped: what was taken of it is commands without `end`, which are answered, and what made it stop; and
+-- these octets were put after the replies
+abbrev pub IsStopped : Directory → Octets → ScriptStop → Octets → Account → Type 0
+IsStopped dir text why line account =
+    (cs : List Command) × (rest : Octets) × (out : Octets) × AreCommands cs × IsOpen cs
+    × (account.script ≡ script_text cs ++ rest)
+    × IsRest why (length cs) rest (length account.script) account.left
+    × Answers dir text cs out × (account.put ≡ out ++ line)
 
--- what was taken of a script, what is left on the input, and what was put, by the status
-abbrev pub IsRow : Directory → Octets → Status → Octets → Octets → Octets → Type 0
-IsRow dir text Done script left put =
-    (cs : List Command) × AreCommands cs × IsEnded cs × (script ≡ script_text cs)
-    × (length script ≤ longest_script) × Answers dir text cs put
-IsRow dir text WriteFault script left put = IsCutOff dir text script left put
-IsRow dir text status script left put =
-    (why : ScriptStop) × (out : Octets) × (status ≡ (stopped_by why).status)
-    × IsStopped dir text why script left out × (put ≡ out ++ (stopped_by why).output)
+-- the sink failed: in the reply to the last command that was taken, or in the line that tells why the script stopped;
+-- that is the line of a read fault only where the input failed
+abbrev pub IsCutOff : Directory → Octets → Type 0 → Account → Type 0
+IsCutOff dir text InputFailed account =
+    ((cs : List Command) × AreCommands cs × (IsOpen cs ⊎ IsEnded cs) × (account.script ≡ script_text cs)
+    × AnswersCut dir text cs account.put)
+    ⊎ ((why : ScriptStop) × (n : ℕ) × (why ≡ stop.Fault → InputFailed) × (n < length (stopped_by why).output)
+    × IsStopped dir text why (take n (stopped_by why).output) account)
+
+-- what a run did, by its status
+abbrev pub IsRow : Directory → Octets → Type 0 → Status → Account → Type 0
+IsRow dir text InputFailed Done account =
+    (cs : List Command) × AreCommands cs × IsEnded cs × (account.script ≡ script_text cs)
+    × Answers dir text cs account.put
+IsRow dir text InputFailed WriteFault account = IsCutOff dir text InputFailed account
+IsRow dir text InputFailed status account =
+    (why : ScriptStop) × (status ≡ (stopped_by why).status)
+    × IsStopped dir text why (stopped_by why).output account
 
 -- a read fault comes only where the input failed, a write fault only where the sink failed
 abbrev pub IsCaused : Type 0 → Type 0 → Status → Type 0
@@ -79,15 +88,14 @@ IsCaused InputFailed SinkFailed ReadFault = InputFailed
 IsCaused InputFailed SinkFailed WriteFault = SinkFailed
 IsCaused InputFailed SinkFailed status = ⊤
 
--- a script was read from an input, of which this was left and is left, and answered, as its row says
-abbrev pub IsScriptAnswered :
-    Directory → Octets → Option Octets → Option Octets → Type 0 → Held → Held → Status → Type 0
-IsScriptAnswered dir text before now Failed held held' status =
-    IsCaused Failed (HasRisen held.faults held'.faults) status
-    × IfSome before (λ whole. IfSome held.octets (λ octets.
-    (script : Octets) × (left : Octets) × (put : Octets)
-    × (whole ≡ script ++ left) × (now ≡ Some left) × (held'.octets ≡ Some (octets ++ put))
-    × IsRow dir text status script left put))
+-- a script was read from an input, no more of it than a script may have, and answered as its row says
+abbrev pub IsScriptAnswered : Directory → Octets → Ran → Type 0
+IsScriptAnswered dir text ran =
+    IsCaused (HasInputFailed ran) (HasSinkFailed ran) ran.status
+    × IfSome ran.input_before.octets (λ whole. IfSome ran.sink_before.octets (λ held.
+    (account : Account) × (whole ≡ account.script ++ account.left) × (length account.script ≤ longest_script)
+    × (ran.input_after.octets ≡ Some account.left) × (ran.sink_after.octets ≡ Some (held ++ account.put))
+    × IsRow dir text (HasInputFailed ran) ran.status account))
 
 -- a script that ends with `end` is answered whole where neither the input nor the sink failed: only memory can be
 -- refused
@@ -96,3 +104,15 @@ IsAnsweredWhole before InputFailed SinkFailed status =
     (cs : List Command) (more : Octets) → before ≡ Some (script_text cs ++ more)
     → AreCommands cs → IsEnded cs → length (script_text cs) ≤ longest_script
     → (InputFailed → ⊥) → (SinkFailed → ⊥) → (status ≡ Done) ⊎ (status ≡ Memory)
+
+-- a sink has room for whatever replies these commands may get, and for the line of want of memory after them
+abbrev pub HasRoomFor : (ℕ → Type 0) → Directory → Octets → List Command → Type 0
+HasRoomFor has_room dir text cs =
+    (n : ℕ) × has_room n × ((out : Octets) → Answers dir text cs out → length out + length memory_refused.output ≤ n)
+
+-- a script that ends with `end` is answered whole where the sink has room for that: only memory can be refused
+abbrev pub IsAnsweredInRoom : Directory → Octets → Option Octets → (ℕ → Type 0) → Status → Type 0
+IsAnsweredInRoom dir text before has_room status =
+    (cs : List Command) (more : Octets) → before ≡ Some (script_text cs ++ more)
+    → AreCommands cs → IsEnded cs → length (script_text cs) ≤ longest_script
+    → HasRoomFor has_room dir text cs → (status ≡ Done) ⊎ (status ≡ Memory)

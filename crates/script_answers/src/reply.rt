@@ -10,8 +10,8 @@ ghost use Rattle.text_reading.specs.Errors.{errors_of};
 ghost use Rattle.text_reading.specs.Summary.{contrl_to};
 ghost use Rattle.text_reading.specs.Tree.{tree_of};
 ghost use Rattle.run_outcome.specs.Put.{IsPutOut};
-ghost use Rattle.script_answers.specs.Replied.{IsAnswered, octets_of};
-ghost use Rattle.script_answers.specs.Reply.{IsStep, contrl_reply, counted, no_memory, reply_to};
+ghost use Rattle.script_answers.specs.Replied.{IsAnswered, TakesAll, octets_of};
+ghost use Rattle.script_answers.specs.Reply.{IsStep, contrl_reply, counted, no_memory};
 
 use contrl_writer::{Contrl, Stamp};
 use edi_engine::{EditStop, Engine};
@@ -46,13 +46,11 @@ pub fn answer_command<L: Ledger, M: Ledger, O: Sink>(
 ) -> bool
     requires { IsCommand command.now }
     ensures answered { IsAnswered engine.old.directory engine.old.text command.now engine.new.text
-        (O.held out.old) (O.held out.new) result }
+        (λ reply. IsPutOut (O.held out.old) (O.held out.new) reply result
+        × TakesAll (O.has_room out.old) (O.has_room out.new) result reply) }
     ensures directory { engine.new.directory ≡ engine.old.directory }
     ensures counted { O.faults out.old ≤ O.faults out.new }
     ensures cause { OnFalse result (HasRisen (O.faults out.old) (O.faults out.new)) }
-    ensures room { (n : ℕ) → O.has_room out.old n
-        → length (reply_to engine.old.directory engine.old.text command.now) ≤ n
-        → length no_memory ≤ n → IsTrue result }
 {
     let reply = reply_to(alloc, engine, command, lexed, placed);
     put_reply(out, &reply)

@@ -1,9 +1,10 @@
 //! The answers to a script.
-ghost use Rattle.std.specs.Prelude.{◌≡◌, ◌≢◌, ◌↔◌, ◌≤◌, ◌-◌, ℕ, IsTrue, length};
+ghost use Rattle.std.specs.Prelude.{◌≡◌, ◌≢◌, ◌↔◌, ◌⊎◌, ◌≤◌, ◌-◌, ℕ, IsTrue, length};
 ghost use Rattle.std.specs.Bool.{OnFalse};
 ghost use Rattle.edi_ports.specs.Faults.{HasRisen};
 ghost use Rattle.run_outcome.specs.Finish.{IsFinish};
-ghost use Rattle.script_answers.specs.Script.{IsAnsweredWhole, IsScriptAnswered, stopped_by};
+ghost use Rattle.script_answers.specs.Ran.{left_of};
+ghost use Rattle.script_answers.specs.Script.{IsAnsweredInRoom, IsAnsweredWhole, IsScriptAnswered, stopped_by};
 ghost use Rattle.run_outcome.specs.Held.{held_of};
 ghost use Rattle.run_outcome.specs.Put.{IsPutOut};
 
@@ -29,13 +30,22 @@ pub fn answer_script<L: Ledger, M: Ledger, I: Source, O: Sink>(
     input: &mut I,
     out: &mut O,
 ) -> Status
-    ensures run { IsScriptAnswered engine.old.directory engine.old.text
-        (I.rest input.old) (I.rest input.new) (HasRisen (I.faults input.old) (I.faults input.new))
-        (held_of O.Sink out.old) (held_of O.Sink out.new) result }
+    ensures run { IsScriptAnswered engine.old.directory engine.old.text (record {
+      input_before = left_of I.Source input.old;
+      input_after = left_of I.Source input.new;
+      sink_before = held_of O.Sink out.old;
+      sink_after = held_of O.Sink out.new;
+      status = result;
+    }) }
     ensures steady { I.is_steady input.old → result ≢ Status.ReadFault }
     ensures complete { IsAnsweredWhole (I.rest input.old)
         (HasRisen (I.faults input.old) (I.faults input.new))
         (HasRisen (O.faults out.old) (O.faults out.new)) result }
+
+    // A script that ends with `end` is answered whole where its input doesn't fail, or didn't, and the sink has room.
+    ensures room { I.is_steady input.old ⊎ (HasRisen (I.faults input.old) (I.faults input.new) → ⊥)
+        → IsAnsweredInRoom engine.old.directory engine.old.text
+        (I.rest input.old) (O.has_room out.old) result }
 {
     let mut reader = ScriptReader::new(LONGEST_SCRIPT);
     'commands: loop {

@@ -1,22 +1,26 @@
-use Rattle.std.proofs.Common.{◌≡◌, ◌∙◌, ap, sym, true, false, Err, arith}
+use Rattle.std.proofs.Common.{◌≡◌, ◌∙◌, ap, sym, true, false, Err, arith, ⊎_elim}
 use Rattle.std.proofs.lemmas.Bool.{false≢true}
+use Rattle.edi_ports.specs.Faults.{HasRisen}
 use Rattle.edit_script.specs.declared.command.Command.TheVariants.{End}
 use Rattle.run_outcome.specs.Held.{held_of}
 use Rattle.run_outcome.proofs.PutLemmas.{risen_later}
 use Rattle.script_answers.proofs.EndedLemmas.{left_more, left_refused, stop_caused}
-use Rattle.script_answers.proofs.RunLemmas.{answered_at, progress_more, run_cut, run_done, run_stopped}
+use Rattle.script_answers.proofs.RoomLemmas.{roomy_more, roomy_stopped, roomy_taken}
+use Rattle.script_answers.proofs.RunLemmas.{progress_more, put_told, room_told, run_cut, run_done, run_stopped}
 use Rattle.script_answers.proofs.script.answer_script.Goals as goal
 
 pub returns-in-Err-clause-run : goal.returns-in-Err-clause-run
 returns-in-Err-clause-run g c = (
   stop_caused _ _ c.in-Err.stop (held_of g.O.Sink c.commands.out) (held_of g.O.Sink c.tell_stop.new.out) c.tell_stop.result
-      (λ fault. risen_later _ _ _ c.commands.invariant.input (c.in-Err.ensures.cause (ap Err fault)))
+      (λ fault. risen_later _ _ _ c.commands.invariant.input (c.in-Err.ensures.fair.cause (ap Err fault)))
       (λ risen. risen_later _ _ _ c.commands.invariant.sink risen)
       c.tell_stop.ensures.finish,
-  run_stopped c.args.engine.now.directory c.args.engine.now.text c.commands.engine.text c.commands.reader c.next_command.new.self
+  run_stopped c.args.engine.now.directory c.args.engine.now.text c.commands.engine.text _ c.commands.reader c.next_command.new.self
       (g.I.Source.rest c.args.input.now) (g.I.Source.rest c.commands.input) (g.I.Source.rest c.next_command.new.input) (g.O.Sink.held c.args.out.now)
       (held_of g.O.Sink c.commands.out) (held_of g.O.Sink c.tell_stop.new.out) c.in-Err.stop c.tell_stop.result
-      c.commands.invariant.progress c.in-Err.ensures.next c.tell_stop.ensures.finish,
+      c.commands.invariant.progress c.in-Err.ensures.next
+      (λ fault. risen_later _ _ _ c.commands.invariant.input (c.in-Err.ensures.fair.cause (ap Err fault)))
+      c.tell_stop.ensures.finish,
 )
 
 pub returns-in-Err-clause-complete : goal.returns-in-Err-clause-complete
@@ -24,28 +28,52 @@ returns-in-Err-clause-complete g c =
     left_refused (g.I.Source.rest c.args.input.now) (g.I.Source.rest c.commands.input) (g.I.Source.rest c.next_command.new.input) c.commands.reader c.next_command.new.self c.in-Err.stop _ _
     (held_of g.O.Sink c.commands.out) (held_of g.O.Sink c.tell_stop.new.out) c.tell_stop.result
     c.commands.invariant.still c.in-Err.ensures.next
-    (λ fault. risen_later _ _ _ c.commands.invariant.input (c.in-Err.ensures.cause (ap Err fault)))
+    (λ fault. risen_later _ _ _ c.commands.invariant.input (c.in-Err.ensures.fair.cause (ap Err fault)))
     (λ risen. risen_later _ _ _ c.commands.invariant.sink risen)
     c.tell_stop.ensures.finish
+
+pub returns-in-Err-clause-room : goal.returns-in-Err-clause-room
+returns-in-Err-clause-room g c = λ sound.
+    roomy_stopped c.args.engine.now.directory c.args.engine.now.text c.commands.engine.text
+    (g.I.Source.rest c.args.input.now) (g.I.Source.rest c.commands.input) (g.I.Source.rest c.next_command.new.input) c.commands.reader c.next_command.new.self
+    (g.O.Sink.has_room c.args.out.now) (g.O.Sink.has_room c.commands.out) c.in-Err.stop c.tell_stop.result
+    c.commands.invariant.roomy c.in-Err.ensures.next
+    (λ fault.
+    ⊎_elim
+    (λ steady. (c.in-Err.ensures.fair.steady (c.commands.invariant.steady steady)).0 (ap Err fault))
+    (λ unfailed. unfailed (risen_later _ _ _ c.commands.invariant.input (c.in-Err.ensures.fair.cause (ap Err fault))))
+    sound)
+    c.tell_stop.ensures.room
 
 pub returns-then-not-answer_command-clause-run : goal.returns-then-not-answer_command-clause-run
 returns-then-not-answer_command-clause-run g c = (
   risen_later _ _ _ c.commands.invariant.sink c.if-not-answer_command.ensures.cause,
-  run_cut c.args.engine.now.directory c.args.engine.now.text c.commands.engine.text c.answer_command.new.engine.text c.commands.reader c.next_command.new.self
+  run_cut c.args.engine.now.directory c.args.engine.now.text c.commands.engine.text c.answer_command.new.engine.text (HasRisen (g.I.Source.faults c.args.input.now) (g.I.Source.faults c.next_command.new.input)) c.commands.reader c.next_command.new.self
       (g.I.Source.rest c.args.input.now) (g.I.Source.rest c.commands.input) (g.I.Source.rest c.next_command.new.input)
       (g.O.Sink.held c.args.out.now) (g.O.Sink.held c.commands.out) (g.O.Sink.held c.answer_command.new.out) c.in-Ok.command
       c.commands.invariant.progress c.in-Ok.ensures.next
-      (answered_at _ _ _ _ _ _ _ c.answer_command.result false c.commands.invariant.directory c.if-not-answer_command.true c.answer_command.ensures.answered),
+      (put_told _ _ _ _ _ _ _ (g.O.Sink.has_room c.commands.out) (g.O.Sink.has_room c.answer_command.new.out) c.answer_command.result false c.commands.invariant.directory c.if-not-answer_command.true c.answer_command.ensures.answered),
 )
+
+pub returns-then-not-answer_command-clause-room : goal.returns-then-not-answer_command-clause-room
+returns-then-not-answer_command-clause-room g c = λ sound cs more same lawful ended short has.
+    absurd (
+    roomy_taken c.args.engine.now.directory c.args.engine.now.text c.commands.engine.text c.answer_command.new.engine.text
+    (g.I.Source.rest c.args.input.now) (g.I.Source.rest c.commands.input) (g.I.Source.rest c.next_command.new.input) c.commands.reader c.next_command.new.self
+    (g.O.Sink.has_room c.args.out.now) (g.O.Sink.has_room c.commands.out) (g.O.Sink.has_room c.answer_command.new.out) c.in-Ok.command
+    c.commands.invariant.roomy c.in-Ok.ensures.next
+    (room_told _ _ _ _ _ _ _ (g.O.Sink.has_room c.commands.out) (g.O.Sink.has_room c.answer_command.new.out) c.answer_command.result false c.commands.invariant.directory c.if-not-answer_command.true c.answer_command.ensures.answered)
+    cs more same lawful ended short has
+    )
 
 pub returns-then-is_end-clause-run : goal.returns-then-is_end-clause-run
 returns-then-is_end-clause-run g c = (
   tt,
-  run_done c.args.engine.now.directory c.args.engine.now.text c.commands.engine.text c.answer_command.new.engine.text c.commands.reader c.next_command.new.self
+  run_done c.args.engine.now.directory c.args.engine.now.text c.commands.engine.text c.answer_command.new.engine.text (HasRisen (g.I.Source.faults c.args.input.now) (g.I.Source.faults c.next_command.new.input)) c.commands.reader c.next_command.new.self
       (g.I.Source.rest c.args.input.now) (g.I.Source.rest c.commands.input) (g.I.Source.rest c.next_command.new.input)
       (g.O.Sink.held c.args.out.now) (g.O.Sink.held c.commands.out) (g.O.Sink.held c.answer_command.new.out) c.in-Ok.command
       c.commands.invariant.progress c.in-Ok.ensures.next
-      (answered_at _ _ _ _ _ _ _ c.answer_command.result true c.commands.invariant.directory c.if-not-answer_command.false c.answer_command.ensures.answered)
+      (put_told _ _ _ _ _ _ _ (g.O.Sink.has_room c.commands.out) (g.O.Sink.has_room c.answer_command.new.out) c.answer_command.result true c.commands.invariant.directory c.if-not-answer_command.false c.answer_command.ensures.answered)
       (c.is_end.ensures.0 c.if-is_end.true),
 )
 
@@ -58,11 +86,17 @@ commands-preserved g c =
           (g.I.Source.rest c.args.input.now) (g.I.Source.rest c.commands.input) (g.I.Source.rest c.next_command.new.input)
           (g.O.Sink.held c.args.out.now) (g.O.Sink.held c.commands.out) (g.O.Sink.held c.answer_command.new.out) c.in-Ok.command
           c.commands.invariant.progress c.in-Ok.ensures.next
-          (answered_at _ _ _ _ _ _ _ c.answer_command.result true c.commands.invariant.directory c.if-not-answer_command.false c.answer_command.ensures.answered)
+          (put_told _ _ _ _ _ _ _ (g.O.Sink.has_room c.commands.out) (g.O.Sink.has_room c.answer_command.new.out) c.answer_command.result true c.commands.invariant.directory c.if-not-answer_command.false c.answer_command.ensures.answered)
           not_end;
-      input = omega (arith, c.commands.invariant.input, c.next_command.ensures.counted);
+      input = omega (arith, c.commands.invariant.input, c.next_command.ensures.fair.counted);
       sink = omega (arith, c.commands.invariant.sink, c.answer_command.ensures.counted);
-      steady = λ steady. (c.next_command.ensures.steady (c.commands.invariant.steady steady)).1;
+      steady = λ steady. (c.next_command.ensures.fair.steady (c.commands.invariant.steady steady)).1;
       still = left_more (g.I.Source.rest c.args.input.now) (g.I.Source.rest c.commands.input) (g.I.Source.rest c.next_command.new.input) c.commands.reader c.next_command.new.self c.in-Ok.command
           c.commands.invariant.still c.in-Ok.ensures.next not_end;
+      roomy = roomy_more c.args.engine.now.directory c.args.engine.now.text c.commands.engine.text c.answer_command.new.engine.text
+          (g.I.Source.rest c.args.input.now) (g.I.Source.rest c.commands.input) (g.I.Source.rest c.next_command.new.input) c.commands.reader c.next_command.new.self
+          (g.O.Sink.has_room c.args.out.now) (g.O.Sink.has_room c.commands.out) (g.O.Sink.has_room c.answer_command.new.out) c.in-Ok.command
+          c.commands.invariant.roomy c.in-Ok.ensures.next
+          (room_told _ _ _ _ _ _ _ (g.O.Sink.has_room c.commands.out) (g.O.Sink.has_room c.answer_command.new.out) c.answer_command.result true c.commands.invariant.directory c.if-not-answer_command.false c.answer_command.ensures.answered)
+          not_end;
     }

@@ -1,6 +1,7 @@
 use Rattle.std.proofs.Common.{◌≡◌, ◌≤◌}
 use Rattle.script_answers.proofs.RunLemmas.{IsProgress}
 use Rattle.script_answers.proofs.EndedLemmas.{StillLeft}
+use Rattle.script_answers.proofs.RoomLemmas.{StillRoomy}
 use Rattle.script_answers.proofs.script.answer_script.Given as goal
 
 abbrev pub invariant-commands : goal.invariant-commands
@@ -11,6 +12,7 @@ invariant-commands g l = record {
   sink : g.O.Sink.faults l.fn.out ≤ g.O.Sink.faults l.out;
   steady : g.I.Source.is_steady l.fn.input → g.I.Source.is_steady l.input;
   still : StillLeft (g.I.Source.rest l.fn.input) (g.I.Source.rest l.input) l.reader.left;
+  roomy : StillRoomy l.fn.engine.directory l.fn.engine.text l.engine.text (g.I.Source.rest l.fn.input) (g.I.Source.rest l.input) l.reader.left (g.O.Sink.has_room l.fn.out) (g.O.Sink.has_room l.out);
 }
 
 abbrev pub decreases-commands : goal.decreases-commands

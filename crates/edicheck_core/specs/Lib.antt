@@ -8,3 +8,4 @@ pub mod Lawful
 pub mod Made
 pub mod OneOf
 pub mod Plain
+pub mod ProgramRun

@@ -3,7 +3,8 @@ ghost use Rattle.std.specs.Prelude.{◌≡◌, ◌≢◌, ◌⊎◌, ◌≤◌, 
 ghost use Rattle.edi_ports.specs.Faults.{HasRisen};
 ghost use Rattle.run_outcome.specs.Held.{held_of};
 ghost use Rattle.run_outcome.specs.Outcome.{Outcome};
-ghost use Rattle.script_answers.specs.Script.{IsAnsweredWhole};
+ghost use Rattle.script_answers.specs.Ran.{left_of};
+ghost use Rattle.script_answers.specs.Script.{IsAnsweredInRoom, IsAnsweredWhole};
 ghost use Rattle.run_outcome.specs.Opening.{IsToldOpening, Opened};
 ghost use Rattle.edicheck_core.specs.Answer.{IsEdited};
 ghost use Rattle.edicheck_core.specs.Due.{HasFailed};
@@ -33,10 +34,13 @@ pub(crate) fn edit_text<S: Shelf, I: Source, O: Sink>(
     input: &mut I,
     out: &mut O,
 ) -> Status
-    ensures edited { IsEdited manifest.now text.now
-        (inputs_of S.Shelf shelf.old I.Source input.old)
-        (inputs_of S.Shelf shelf.new I.Source input.new)
-        (held_of O.Sink out.old) (held_of O.Sink out.new) result }
+    ensures edited { IsEdited manifest.now text.now (record {
+      before = inputs_of S.Shelf shelf.old I.Source input.old;
+      after = inputs_of S.Shelf shelf.new I.Source input.new;
+      sink_before = held_of O.Sink out.old;
+      sink_after = held_of O.Sink out.new;
+      status = result;
+    }) }
     ensures files { S.files shelf.new ≡ S.files shelf.old }
     ensures steady { I.is_steady input.old → S.is_steady shelf.old → result ≢ Status.ReadFault }
 
@@ -55,6 +59,16 @@ pub(crate) fn edit_text<S: Shelf, I: Source, O: Sink>(
         (inputs_of S.Shelf shelf.old I.Source input.old)
         (inputs_of S.Shelf shelf.new I.Source input.new))
         (HasRisen (O.faults out.old) (O.faults out.new)) result }
+
+    // So it is with objects that don't fail, or didn't, and a sink that has room for whatever replies it may get.
+    ensures room { (begun : Opened)
+        → IsToldOpening manifest.now text.now (S.files shelf.old) begun
+        → (I.is_steady input.old × S.is_steady shelf.old)
+        ⊎ (HasFailed (Some (Edit manifest.now text.now))
+        (inputs_of S.Shelf shelf.old I.Source input.old)
+        (inputs_of S.Shelf shelf.new I.Source input.new) → ⊥)
+        → IsAnsweredInRoom begun.directory begun.text
+        (I.rest input.old) (O.has_room out.old) result }
 {
     match open_both(alloc, manifest, text, shelf) {
         Ok(opening) => edit_opened(alloc, &opening.directory, &opening.text, input, out),
@@ -71,13 +85,20 @@ fn edit_opened<I: Source, O: Sink>(
     out: &mut O,
 ) -> Status
     requires { length octets.now ≤ LONGEST_TEXT }
-    ensures run { IsScriptBegun directory.now octets.now (I.rest input.old) (I.rest input.new)
-        (I.faults input.old) (I.faults input.new)
-        (held_of O.Sink out.old) (held_of O.Sink out.new) result }
+    ensures run { IsScriptBegun directory.now octets.now (record {
+      input_before = left_of I.Source input.old;
+      input_after = left_of I.Source input.new;
+      sink_before = held_of O.Sink out.old;
+      sink_after = held_of O.Sink out.new;
+      status = result;
+    }) }
     ensures steady { I.is_steady input.old → result ≢ Status.ReadFault }
     ensures complete { IsAnsweredWhole (I.rest input.old)
         (HasRisen (I.faults input.old) (I.faults input.new))
         (HasRisen (O.faults out.old) (O.faults out.new)) result }
+    ensures room { I.is_steady input.old ⊎ (HasRisen (I.faults input.old) (I.faults input.new) → ⊥)
+        → IsAnsweredInRoom directory.now octets.now
+        (I.rest input.old) (O.has_room out.old) result }
 {
     edit_counted::<Brand, Brand, I, O>(
         alloc,
@@ -106,13 +127,20 @@ fn edit_counted<L: Ledger, M: Ledger, I: Source, O: Sink>(
     requires placing_name { placing.name ≡ M.name }
     requires placing_parts { placing.parts ≡ M.parts }
     requires placing_some { 0 < placing.parts }
-    ensures run { IsScriptBegun directory.now octets.now (I.rest input.old) (I.rest input.new)
-        (I.faults input.old) (I.faults input.new)
-        (held_of O.Sink out.old) (held_of O.Sink out.new) result }
+    ensures run { IsScriptBegun directory.now octets.now (record {
+      input_before = left_of I.Source input.old;
+      input_after = left_of I.Source input.new;
+      sink_before = held_of O.Sink out.old;
+      sink_after = held_of O.Sink out.new;
+      status = result;
+    }) }
     ensures steady { I.is_steady input.old → result ≢ Status.ReadFault }
     ensures complete { IsAnsweredWhole (I.rest input.old)
         (HasRisen (I.faults input.old) (I.faults input.new))
         (HasRisen (O.faults out.old) (O.faults out.new)) result }
+    ensures room { I.is_steady input.old ⊎ (HasRisen (I.faults input.old) (I.faults input.new) → ⊥)
+        → IsAnsweredInRoom directory.now octets.now
+        (I.rest input.old) (O.has_room out.old) result }
 {
     let mut lexed = Steps::<L>::start(lexing);
     let mut placed = Steps::<M>::start(placing);

@@ -5,7 +5,7 @@ ghost use Rattle.edi_ports.specs.Faults.{HasRisen};
 ghost use Rattle.run_outcome.specs.Finish.{IsFinish};
 ghost use Rattle.run_outcome.specs.Held.{held_of};
 ghost use Rattle.run_outcome.specs.Outcome.{Outcome, memory_refused};
-ghost use Rattle.script_answers.specs.Script.{IsAnsweredWhole};
+ghost use Rattle.script_answers.specs.Script.{IsAnsweredInRoom, IsAnsweredWhole};
 ghost use Rattle.run_outcome.specs.Opening.{IsToldOpening, Opened};
 ghost use Rattle.edicheck_core.specs.Form.{Asked, Edit, form_of, form_shown, needs_of};
 ghost use Rattle.edicheck_core.specs.Lawful.{IsLawful};
@@ -46,10 +46,13 @@ pub fn run<S: Shelf, I: Source, O: Sink>(
     out: &mut O,
 ) -> Status
     // What each status says: what was taken, what is in the sink, and the cause of a refusal.
-    ensures answer { IsAnswer (form_of words.now)
-        (inputs_of S.Shelf shelf.old I.Source input.old)
-        (inputs_of S.Shelf shelf.new I.Source input.new)
-        (held_of O.Sink out.old) (held_of O.Sink out.new) result }
+    ensures answer { IsAnswer (form_of words.now) (record {
+      before = inputs_of S.Shelf shelf.old I.Source input.old;
+      after = inputs_of S.Shelf shelf.new I.Source input.new;
+      sink_before = held_of O.Sink out.old;
+      sink_after = held_of O.Sink out.new;
+      status = result;
+    }) }
 
     // What the words don't need is left alone, and the files of the shelf stay.
     ensures shelf { (needs_of (form_of words.now)).shelf ≡ false → shelf.new ≡ shelf.old }
@@ -85,6 +88,16 @@ pub fn run<S: Shelf, I: Source, O: Sink>(
         (HasFailed (form_of words.now) (inputs_of S.Shelf shelf.old I.Source input.old)
         (inputs_of S.Shelf shelf.new I.Source input.new))
         (HasRisen (O.faults out.old) (O.faults out.new)) result }
+
+    // So it is with objects that don't fail, or didn't, and a sink that has room for whatever replies it may get.
+    ensures room { (manifest name : List ℕ) (begun : Opened)
+        → form_of words.now ≡ Some (Edit manifest name)
+        → IsToldOpening manifest name (S.files shelf.old) begun
+        → (I.is_steady input.old × S.is_steady shelf.old)
+        ⊎ (HasFailed (form_of words.now) (inputs_of S.Shelf shelf.old I.Source input.old)
+        (inputs_of S.Shelf shelf.new I.Source input.new) → ⊥)
+        → IsAnsweredInRoom begun.directory begun.text
+        (I.rest input.old) (O.has_room out.old) result }
 {
     match read_form(words) {
         Some(Form::Edit { manifest, text }) => edit_text(alloc, manifest, text, shelf, input, out),
@@ -112,10 +125,13 @@ fn settle<S: Shelf, I: Source, O: Sink>(
 ) -> Status
     requires plain { IsPlain (option_map form_shown form) }
     requires lawful { IfSome form (λ form. IsLawful (form_shown form)) }
-    ensures answer { IsSettled (option_map form_shown form.entry)
-        (inputs_of S.Shelf shelf.old I.Source input.old)
-        (inputs_of S.Shelf shelf.new I.Source input.new)
-        (held_of O.Sink out.old) (held_of O.Sink out.new) result }
+    ensures answer { IsSettled (option_map form_shown form.entry) (record {
+      before = inputs_of S.Shelf shelf.old I.Source input.old;
+      after = inputs_of S.Shelf shelf.new I.Source input.new;
+      sink_before = held_of O.Sink out.old;
+      sink_after = held_of O.Sink out.new;
+      status = result;
+    }) }
     ensures shelf { (needs_of (option_map form_shown form.entry)).shelf ≡ false
         → shelf.new ≡ shelf.old }
     ensures input { (needs_of (option_map form_shown form.entry)).input ≡ false

@@ -78,7 +78,8 @@ positions_of m = range_with_len 1 (min 999999 (m.last + 1 - m.first))
 
 -- the blocks of a message with these errors, segment by segment
 abbrev pub message_blocks : MessageHead → List Levelled → List (List Segment)
-message_blocks m errors = flat_map (λ position. segment_blocks position (errors_of_position m position errors)) (positions_of m)
+message_blocks m errors =
+    flat_map (λ position. segment_blocks position (errors_of_position m position errors)) (positions_of m)
 
 -- the report of a message with these errors: at most 999 blocks
 unfoldable pub report : MessageHead → List Levelled → List Segment

@@ -18,7 +18,8 @@ use Rattle.dir_compile.specs.InOrder.{ordered_parts}
 abbrev pub Directory : Type 0
 Directory = Parts
 
--- parts are a directory: fewer than 4,000,000,000 messages, all of good form, without fault, in ascending order of names
+-- parts are a directory: fewer than 4,000,000,000 messages, all of good form, without fault, in ascending order of
+-- names
 pub record IsDirectory (parts : Parts) : Type 0 where
   pub few : length parts.messages < 4000000000
   pub forms : HasForms parts

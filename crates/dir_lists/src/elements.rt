@@ -21,7 +21,8 @@ use std::alloc::Global;
 /// `bad-repr` at a `Repr:` line without a representation, `no-repr` at the head of an entry without one.
 pub fn read_elements(alloc: Global, file: &[u8]) -> Result<Vec<ElementDef>, DirStop>
     requires { length file.now ≤ LONGEST_TEXT }
-    ensures answers { IsVerdict (λ elements. elements.items) fault_in result (elements_in file.now) }
+    ensures answers { IsVerdict (λ elements. elements.items) fault_in result
+        (elements_in file.now) }
     ensures forms { IfOk result (λ elements. list_all is_element_formed elements.items ≡ true) }
 {
     let mut elements = Vec::new(alloc);

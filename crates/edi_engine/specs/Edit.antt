@@ -17,8 +17,8 @@ abbrev pub stop_of : Octets → ℕ → ℕ → Octets → Option EditStop
 stop_of text at cut put = stop_by (length text) at cut (length put)
 
 -- what an edit comes to, by why it isn't made, if it isn't, and by the reading that it would give: that reading, with
--- the length of its text; or the reading as it was, where the edit isn't made, or memory was refused for one that may be
--- made
+-- the length of its text; or the reading as it was, where the edit isn't made, or memory was refused for one that may
+-- be made
 abbrev pub IsEdit : Option EditStop → Reading → Reading → Reading → Result ℕ EditStop → Type 0
 IsEdit stop edited before now (Ok n) = (stop ≡ None) × (now ≡ edited) × (n ≡ length now.text)
 IsEdit stop edited before now (Err Range) = (stop ≡ Some Range) × (now ≡ before)

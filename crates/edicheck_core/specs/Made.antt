@@ -22,7 +22,8 @@ use Rattle.edi_octets.specs.declared.octets.TheConstants.{LONGEST_TEXT}
 
 -- for a text in some detail: its listing, unless it has over 4,194,304 octets
 abbrev pub listed : Detail → Octets → Outcome
-listed detail text = if nat_lt LONGEST_TEXT (length text) then too_large (codes "-") else done (printed_text detail text)
+listed detail text =
+    if nat_lt LONGEST_TEXT (length text) then too_large (codes "-") else done (printed_text detail text)
 
 -- for the tables of a directory
 abbrev pub tabled : Result Directory Refusal → Outcome
@@ -46,7 +47,8 @@ made_by (Some (Text detail)) before = option_map (listed detail) before.rest
 made_by (Some (Tables name)) before = option_map (λ files. tabled (load_of files name)) before.files
 made_by (Some (Compile name)) before = option_map (λ files. compiled (load_of files name)) before.files
 made_by (Some (About question name text)) before =
-    option_map (λ files. asked_about question text (load_of files name) (octets_named LONGEST_TEXT files text)) before.files
+    option_map (λ files. asked_about question text (load_of files name) (octets_named LONGEST_TEXT files text))
+    before.files
 made_by (Some (Edit name text)) before =
     option_and_then (λ files. refused_opening (opened_by name text files)) before.files
 made_by (Some (Drill messages edits number)) before = Some (done (drill_text messages edits number))

@@ -99,7 +99,8 @@ fn take_replace<I: Source>(
     alloc: Global,
     input: &mut I,
 ) -> Result<Command, Halt>
-    ensures reads { Reads (IsRestText name.Replace) (supply_of I.Source input.old allowance.old.left)
+    ensures reads { Reads (IsRestText name.Replace)
+        (supply_of I.Source input.old allowance.old.left)
         (supply_of I.Source input.new allowance.new.left) result }
     ensures fair { IsFair I.faults I.is_steady input.old input.new (IsErrOf result Halt.Fault) }
 {

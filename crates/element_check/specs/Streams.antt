@@ -101,12 +101,14 @@ parts_errors rules element c (part ∷ parts) values =
 
 abbrev pub composite_errors : SegmentRules → ℕ → Bool → List PartDef → List Octets → List LocalError
 composite_errors rules element must parts values =
-    if list_any has_octet values then parts_errors (part_rules rules (is_list_named parts values)) element 1 parts values
+    if list_any has_octet values
+    then parts_errors (part_rules rules (is_list_named parts values)) element 1 parts values
     else when must (error_at element 0 Missing)
 
 abbrev pub alone_errors : SegmentRules → ℕ → PartDef → List Octets → List LocalError
 alone_errors rules element part values =
-    part_errors (part_rules rules false) element 0 part (first_value values) ++ surplus_components element 2 (later_values values)
+    part_errors (part_rules rules false) element 0 part (first_value values)
+    ++ surplus_components element 2 (later_values values)
 
 -- the errors of an element that has an item
 abbrev pub item_errors : SegmentRules → ℕ → ItemDef → List Octets → List LocalError

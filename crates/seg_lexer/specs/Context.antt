@@ -53,4 +53,5 @@ context_in s opening = record {
 
 -- the context of a text, which no segment but the first settles
 unfoldable pub context_of : Octets → Context
-context_of text = let s = service_of text in context_in s (opening_components_of s text (slice_get (segments_of s text) 0))
+context_of text =
+    let s = service_of text in context_in s (opening_components_of s text (slice_get (segments_of s text) 0))

@@ -20,7 +20,7 @@ use Rattle.segment_records.specs.Messages.{Position, nodes_at, position_at, stru
 use Rattle.segment_records.specs.Messages.Position.{Outside, Untabled, Within}
 use Rattle.segment_walk.specs.Heads.{mark_of}
 
--- an error of segment k, which has this mark, at a component of an element; 0 is the whole segment, or the whole element
+-- an error of segment k, which has this mark, at a component of an element; 0 is the whole segment, or the element
 abbrev pub error_with : ℕ → SegmentMark → ℕ → ℕ → Kind → ErrorLine
 error_with k mark element component found = record {
   segment = k;

@@ -50,4 +50,5 @@ IsMessagePlaced nodes tags shown = IsFirstPlaced nodes tags shown × IsOnlyDeriv
 abbrev pub AreMessagesPlaced : Directory → Octets → Type 0
 AreMessagesPlaced dir text =
     (i table : ℕ) (e : Extent) → position_at dir (segments_of_text text) i ≡ Within table e
-    → IsMessagePlaced (nodes_at dir table) (tags_of_message (segments_of_text text) e) (entries_shown (tree_of dir text) e)
+    → IsMessagePlaced (nodes_at dir table) (tags_of_message (segments_of_text text) e)
+    (entries_shown (tree_of dir text) e)

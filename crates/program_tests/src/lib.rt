@@ -6,8 +6,6 @@
 #[cfg(test)]
 mod drill_printer_calls;
 #[cfg(test)]
-mod edi_engine_calls;
-#[cfg(test)]
 mod edicheck_core_calls;
 #[cfg(test)]
 mod edit_script_calls;

@@ -1,0 +1,64 @@
+//! An engine over the interchange of a drill: UNB, UNH, BGM, DTM, two lines of LIN and QTY, UNS, UNT, UNZ.
+use contrl_segments::{Opening, Summary};
+use dir_compile::{Directory, compile};
+use drill_maker::{make_interchange, reduced_parts};
+use edi_engine::{Engine, Mode};
+use std::alloc::Global;
+use std::test::Fail;
+
+fn read_drill<'d>(alloc: Global, directory: &'d Directory) -> Result<Engine<'d>, Fail> {
+    let text = make_interchange(alloc, 1, 1)?;
+    Ok(Engine::read(alloc, directory, text.octets().to_vec(alloc)?)?)
+}
+
+// In the first line of the order: at QTY, node 8, once, in group 2, node 6, for the first time. CONTRL has table 0, and the
+// order, which is the only message of the reduced directory, table 1.
+fn is_at_first_quantity(mode: &Mode) -> bool {
+    match mode {
+        Mode::Within { table, state } => {
+            *table == 1 && state.pairs() == [(6, 1), (8, 1)].as_slice()
+        }
+        _ => false,
+    }
+}
+
+fn is_outside(mode: &Mode) -> bool {
+    matches!(mode, Mode::Outside)
+}
+
+#[test]
+fn modes_are_those_of_the_message(rt: HostRuntime) -> Result<(), Fail> {
+    let alloc = rt.alloc();
+    let directory = compile(alloc, reduced_parts(alloc)?)?;
+    let engine = read_drill(alloc, &directory)?;
+    assert_eq!(rt; engine.segment_count(), 11);
+    assert!(rt; is_outside(engine.state_after(1)));
+    assert!(rt; is_at_first_quantity(engine.state_after(6)));
+    assert!(rt; is_outside(engine.state_after(10)));
+    Ok(())
+}
+
+// The interchange R1 without groups, one order from segment 2 to segment 10, and no error.
+fn tells_the_order(summary: &Summary) -> bool {
+    let is_named = match &summary.opening {
+        Opening::Good { reference, .. } => reference.octets() == b"R1".as_slice(),
+        _ => false,
+    };
+    let is_one = match summary.messages.items() {
+        [message] => {
+            (message.first, message.last) == (2, 10)
+                && message.kind.octets() == b"TSTORD".as_slice()
+        }
+        _ => false,
+    };
+    is_named && is_one && summary.groups.items().is_empty() && summary.errors.items().is_empty()
+}
+
+#[test]
+fn a_summary_has_the_message(rt: HostRuntime) -> Result<(), Fail> {
+    let alloc = rt.alloc();
+    let directory = compile(alloc, reduced_parts(alloc)?)?;
+    let summary = read_drill(alloc, &directory)?.summary(alloc)?;
+    assert!(rt; tells_the_order(&summary));
+    Ok(())
+}

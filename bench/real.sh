@@ -12,8 +12,8 @@ if [ ! -d "$package" ]; then
     echo "there is no package in examples/out: run examples/real first" >&2
     exit 1
 fi
-(cd "$top/crates/edicheck" && rt run </dev/null >/dev/null 2>&1) || true
-program=$top/crates/edicheck/out/edicheck
+. "$top/tests/build.sh"
+need_program || exit 1
 work=$(mktemp -d)
 trap 'rm -rf "$work"' EXIT
 

@@ -38,7 +38,7 @@ fn modes_are_those_of_the_message(rt: HostRuntime) -> Result<(), Fail> {
     Ok(())
 }
 
-// The interchange R1 without groups, one order from segment 2 to segment 10, and no error.
+// The reference of a drill's interchange, no group, one order from segment 2 to segment 10, and no error.
 fn tells_the_order(summary: &Summary) -> bool {
     let is_named = match &summary.opening {
         Opening::Good { reference, .. } => reference.octets() == b"R1".as_slice(),

@@ -106,7 +106,7 @@ module _ (s : Service) (front rest : List ℕ) where
 
 -- what is kept of a segment doesn't depend on where it is
 module _ (dir : Parts) (context : Context) (n : ℕ) where
-  step_moved : (before : Mode) (segment : Segment)
+  pub step_moved : (before : Mode) (segment : Segment)
       → step_of dir before (moved_on n segment) ≡ step_of dir before segment
   unfolding step_of
   step_moved Outside segment = refl

@@ -1,15 +1,18 @@
 -- The cases of a step, as its code tells them apart, and the mode after a segment of a message.
-use Rattle.std.proofs.Common.{◌≡◌, ℕ, ◌<◌, Bool, true, false, List, length, sym, subst, ap, ◌∙◌}
+use Rattle.std.proofs.Common.{◌≡◌, ℕ, ◌<◌, Bool, true, false, List, [], Option, length, refl, sym, subst, ap, ◌∙◌}
 use Rattle.std.specs.Prelude.{codes, if◌then◌else◌}
+use Rattle.edi_tables.specs.declared.tag.Tag.{Tag}
 use Rattle.dir_compile.specs.declared.parts.Parts.{Parts}
 use Rattle.dir_compile.specs.Directory.{tables_of}
+use Rattle.seg_lexer.specs.Fields.{Component}
 use Rattle.table_walk.specs.Steps.{AreCountsUpTo, IsShaped}
 use Rattle.segment_records.specs.Messages.{nodes_at, table_for}
 use Rattle.segment_records.specs.Records.{IsModeOf}
 use Rattle.segment_records.specs.Segments.{Segment}
 use Rattle.segment_records.specs.Steps.{inner_step, is_named, is_no_part, opening_step, plain_step, step_of}
+use Rattle.segment_records.specs.Taken.{read_as}
 use Rattle.segment_records.specs.declared.mode.Mode.{Mode}
-use Rattle.segment_records.specs.declared.mode.Mode.TheVariants.{Outside, Within}
+use Rattle.segment_records.specs.declared.mode.Mode.TheVariants.{Outside, Untabled, Within}
 
 module _ (dir : Parts) (before : Mode) (segment : Segment) where
   pub step_at_unh : is_named (codes "UNH") segment ≡ true → step_of dir before segment ≡ opening_step dir (table_for dir segment.components)
@@ -27,6 +30,13 @@ module _ (dir : Parts) (before : Mode) (segment : Segment) where
 
   pub step_inside : is_named (codes "UNH") segment ≡ false → is_no_part segment ≡ false → step_of dir before segment ≡ inner_step dir before segment
   step_inside is out = step_after_unh is ∙ ap (λ (b : Bool). if b then plain_step Outside else inner_step dir before segment) out
+
+-- a segment that neither opens nor leaves a message is placed by its tag alone
+pub inner_read : (dir : Parts) (before : Mode) (tag : Option Tag) (components : List Component)
+    → inner_step dir before (read_as tag []) ≡ inner_step dir before (read_as tag components)
+inner_read dir Outside tag components = refl
+inner_read dir Untabled tag components = refl
+inner_read dir (Within table pairs) tag components = refl
 
 -- the mode of a message with a table, unless a segment closes it
 pub mode_unless : (dir : Parts) (most table : ℕ) (pairs : List (ℕ × ℕ)) (closes : Bool) (after : Mode) → after ≡ (if closes then Outside else Within table pairs)

@@ -1,4 +1,6 @@
 //! What one segment leaves to the next.
+ghost use Rattle.std.specs.Prelude.{◌≡◌, ◌↔◌, IsTrue};
+
 use table_walk::State;
 
 /// Where a text is after one of its segments: outside of messages, inside a message that the directory has no segment
@@ -10,6 +12,26 @@ pub enum Mode {
     Outside,
     Untabled,
     Within { table: u32, state: State },
+}
+
+impl Mode {
+    /// Whether two modes are one. Inside a table they are where the table is the same, and each pair of the walk with its
+    /// count.
+    pub fn same(&self, other: &Mode) -> bool
+        ensures { IsTrue result ↔ (self.now ≡ other.now) }
+    {
+        match (self, other) {
+            (Mode::Outside, Mode::Outside) | (Mode::Untabled, Mode::Untabled) => true,
+            (
+                Mode::Within { table, state },
+                Mode::Within {
+                    table: other_table,
+                    state: other_state,
+                },
+            ) => table == other_table && state.same(other_state),
+            _ => false,
+        }
+    }
 }
 
 // Written by hand so that a drop is one call to its caller's proof, and no case of the mode.

@@ -1,15 +1,17 @@
 //! What is kept of one segment.
-ghost use Rattle.std.specs.Prelude.{◌≡◌, ◌+◌, ◌<◌, ◌≤◌, ℕ, length, IfOk};
+ghost use Rattle.std.specs.Prelude.{◌≡◌, ◌+◌, ◌<◌, ◌≤◌, [], ℕ, length, IfOk};
 ghost use Rattle.edi_octets.specs.declared.octets.Octets.{Ghosts};
 ghost use Rattle.seg_lexer.specs.Service.{IsUsable};
 ghost use Rattle.clean_segments.specs.Clean.{AreClean};
 ghost use Rattle.segment_records.specs.Records.{IsModeOf, kept_of};
 ghost use Rattle.segment_records.specs.RecordView.{local_in, missing_in};
 ghost use Rattle.segment_records.specs.Segments.{segment_read};
+ghost use Rattle.segment_records.specs.Steps.{inner_step};
+ghost use Rattle.segment_records.specs.Taken.{read_as};
 ghost use Rattle.edi_octets.specs.declared.octets.TheConstants.{LONGEST_TEXT};
 
 use crate::mode::Mode;
-use crate::step::take_step;
+use crate::step::{take_inner_step, take_step};
 use clean_segments::CleanSegments;
 use dir_compile::Directory;
 use edi_octets::Octets;
@@ -131,6 +133,41 @@ impl Record {
             over: step.over,
             mode: step.after,
             faults: keep_faults(alloc, local, step.missing)?,
+        })
+    }
+
+    /// The same segment placed after another mode, by its tag alone: its octets, line ends, tag and local errors stay as they
+    /// are. At most one call of the walk is counted. Only want of memory is an error.
+    ///
+    /// It is for segments of other tags than UNH, UNB, UNG, UNE and UNZ. What is kept of those five is the same after any mode,
+    /// and this isn't their step: the caller stops before them.
+    pub fn placed_again<L: Ledger>(
+        &self,
+        alloc: Global,
+        directory: &Directory,
+        before: &Mode,
+        placed: &mut Steps<L>,
+    ) -> Result<Record, AllocError>
+        requires mode { IsModeOf directory.now 4194303 before.now }
+        ensures kept { IfOk result (λ kept. kept
+            ≡ record self.now {
+              step = inner_step directory.now before.now (read_as self.now.tag []);
+            }) }
+        ensures mode { (most : ℕ)
+            → IsModeOf directory.now most before.now
+            → IfOk result (λ kept. IsModeOf directory.now (most + 1) kept.step.after) }
+        ensures counted { placed.new ≤ placed.old + 1 }
+    {
+        let again = take_inner_step(alloc, directory, before, self.tag, placed)?;
+        let local = SmallVec::from_slice(alloc, self.local())?;
+        Ok(Record {
+            octets: self.octets,
+            breaks: self.breaks,
+            tag: self.tag,
+            entry: again.entry,
+            over: again.over,
+            mode: again.after,
+            faults: keep_faults(alloc, local, again.missing)?,
         })
     }
 

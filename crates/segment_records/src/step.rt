@@ -54,6 +54,26 @@ pub(crate) fn take_step<O: Octets, L: Ledger>(
     if is_no_part(tag) {
         return Ok(plain_step(alloc, Mode::Outside));
     }
+    take_inner_step(alloc, directory, before, tag, placed)
+}
+
+/// The step of a segment with this tag after this mode, where the tag is none of UNH, UNB, UNG, UNE and UNZ: what it says
+/// doesn't matter. At most one call of the walk is counted.
+pub(crate) fn take_inner_step<L: Ledger>(
+    alloc: Global,
+    directory: &Directory,
+    before: &Mode,
+    tag: Option<Tag>,
+    placed: &mut Steps<L>,
+) -> Result<Step, AllocError>
+    requires mode { IsModeOf directory.now 4194303 before.now }
+    ensures step { IfOk result
+        (λ step. taken step ≡ inner_step directory.now before.now (read_as tag [])) }
+    ensures mode { (most : ℕ)
+        → IsModeOf directory.now most before.now
+        → IfOk result (λ step. IsModeOf directory.now (most + 1) step.after) }
+    ensures counted { placed.new ≤ placed.old + 1 }
+{
     match before {
         Mode::Outside => Ok(plain_step(alloc, Mode::Outside)),
         Mode::Untabled => Ok(plain_step(alloc, unless_closed(tag, Mode::Untabled))),

@@ -37,18 +37,17 @@ struct Clean {
 /// error either, and isn't checked anew. Most texts have many that are spelled alike.
 #[derive(Drop, Debug)]
 pub struct CleanSegments {
+    // `PLACES` of them, or none where nothing is remembered.
     places: Vec<Option<Clean>>,
 }
 
 impl Model for CleanSegments {
-    ghost use Rattle.std.specs.Prelude.{◌≡◌, List, Option, length};
+    ghost use Rattle.std.specs.Prelude.{List, Option};
     ghost use Rattle.clean_segments.specs.declared.clean.Clean.{Clean};
 
     ghost Value = { List (Option Clean) };
 
     ghost view = { λ c. c.places.items };
-
-    ghost invariant = { λ c. length c.places.items ≡ 1024 };
 }
 
 impl CleanSegments {
@@ -61,6 +60,16 @@ impl CleanSegments {
         Ok(CleanSegments {
             places: Vec::from_elem(alloc, None, PLACES)?,
         })
+    }
+
+    /// A list that stays empty: nothing is remembered, and no memory is taken. For a few segments that costs less.
+    pub fn forgetful(alloc: Global) -> CleanSegments
+        ensures { (directory : Parts) (context : Context) (text : List ℕ)
+            → AreClean directory context text result }
+    {
+        CleanSegments {
+            places: Vec::new(alloc),
+        }
     }
 
     /// The tag of the segment `start..end` of a text, and its local errors, by a directory and the context of the text, in
@@ -92,7 +101,7 @@ impl CleanSegments {
             return check_alone(alloc, directory, context, text, start, end);
         };
         let place = slot_of(octets);
-        if let Some(clean) = self.places[place] {
+        if let Some(Some(clean)) = self.places.get(place) {
             if is_spelled(text, clean.start, clean.end, octets) {
                 return Ok((Some(clean.tag), SmallVec::new(alloc)));
             }
@@ -104,12 +113,13 @@ impl CleanSegments {
         check_alone(alloc, directory, context, text, start, end)
     }
 
-    // Remembers a segment at a place.
+    // Remembers a segment at a place, if there is such a place.
     fn put(&mut self, place: usize, clean: Clean)
-        requires { place < 1024 }
         ensures { self.new ≡ set self.old place (Some clean) }
     {
-        self.places[place] = Some(clean);
+        if let Some(known) = self.places.get_mut(place) {
+            *known = Some(clean);
+        }
     }
 }
 

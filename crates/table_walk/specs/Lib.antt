@@ -1,4 +1,5 @@
 pub mod Bodies
 pub mod Errors
 pub mod Reading
+pub mod StateView
 pub mod Steps

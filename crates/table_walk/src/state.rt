@@ -10,27 +10,37 @@ ghost use Rattle.table_walk.specs.Reading.{IsReading};
 ghost use Rattle.table_walk.specs.Steps.{AreCountsUpTo, GoOnAlike, GoesOn, IsShaped, is_over_in, member_in, missing_in, pairs_after, tagged_in};
 
 use crate::position::{Pairs, Position};
+use arrayvec::ArrayVec;
 use edi_tables::{Missing, Table, Tag};
 use smallvec::SmallVec;
 use std::alloc::{AllocError, Global};
 use std::marker::Model;
+use std::rc::RcSlice;
 use std::sync::ledger::Ledger;
 use step_counter::Steps;
 
 /// The groups round the entry placed last, outermost first, and that entry, each with its count.
 ///
-/// It is seen as this list of pairs. Four of them lie in it; more are in memory of its own.
+/// It is seen as this list of pairs. Up to four of them lie in it; more are in a slice that states share.
 #[derive(Debug, Drop)]
 pub struct State {
-    pairs: Pairs,
+    pairs: Held,
+}
+
+// How a state holds its pairs.
+#[derive(Debug, Drop)]
+enum Held {
+    Few(ArrayVec<(u16, u32), 4>),
+    Many(RcSlice<(u16, u32)>),
 }
 
 impl Model for State {
     ghost use Rattle.std.specs.Prelude.{ℕ, List};
+    ghost use Rattle.table_walk.specs.StateView.{pairs_held};
 
     ghost Value = { List (ℕ × ℕ) };
 
-    ghost view = { λ s. s.pairs.items };
+    ghost view = { λ s. pairs_held s.pairs };
 }
 
 /// Where a segment is: at an entry or at none, with what is missing before it, and the state after it.
@@ -43,24 +53,40 @@ pub struct Placed {
 }
 
 /// The state after UNH.
-pub fn start(alloc: Global, table: &Table) -> Result<State, AllocError>
+pub fn start(_alloc: Global, table: &Table) -> Result<State, AllocError>
     ensures pairs { IfOk result (λ state. state ≡ pairs_of table.now (Some 0 ∷ [])) }
     ensures shaped { IfOk result (λ state. IsShaped table.now state) }
     ensures counts { IfOk result (λ state. AreCountsUpTo 1 state) }
 {
     // UNH is the first entry of each table, and in no group.
     prove!(table.len() > 0);
-    let mut pairs = SmallVec::new(alloc);
-    pairs.push((0, 1))?;
-    Ok(State { pairs })
+    let mut pairs = ArrayVec::new();
+    pairs.push((0, 1));
+    Ok(State {
+        pairs: Held::Few(pairs),
+    })
 }
 
 impl State {
+    // The state that has these pairs.
+    fn holding(pairs: Pairs) -> Result<State, AllocError>
+        ensures { IfOk result (λ state. state ≡ pairs.items) }
+    {
+        let held = match ArrayVec::try_from(pairs.as_slice()) {
+            Ok(few) => Held::Few(few),
+            Err(_) => Held::Many(RcSlice::from_vec(pairs.into_vec()?)?),
+        };
+        Ok(State { pairs: held })
+    }
+
     /// Its pairs: the number of a node, and its count.
     pub fn pairs(&self) -> &[(u16, u32)]
         ensures { result.now ≡ self.now }
     {
-        self.pairs.as_slice()
+        match &self.pairs {
+            Held::Few(pairs) => pairs.as_slice(),
+            Held::Many(pairs) => pairs.as_slice(),
+        }
     }
 
     /// Where the next segment is, and the state after it. The call is counted.
@@ -96,9 +122,7 @@ impl State {
         let position = Position::of(table, self.pairs());
         match position.member(tag) {
             Some(entry) => Ok(Placed {
-                state: State {
-                    pairs: position.pairs_next(alloc, entry)?,
-                },
+                state: State::holding(position.pairs_next(alloc, entry)?)?,
                 entry: Some(entry),
                 over: position.is_over(entry),
                 missing: gather(alloc, position.missing(entry))?,
@@ -144,13 +168,15 @@ impl State {
         self.pairs() == other.pairs()
     }
 
-    /// The same state once more. It takes memory only where there are more than four pairs.
+    /// The same state once more. It takes no memory: the error is that of an `Rc` whose count is full.
     pub fn share(&self) -> Result<State, AllocError>
         ensures { IfOk result (λ state. state ≡ self.now) }
     {
-        Ok(State {
-            pairs: SmallVec::from_slice(*self.pairs.allocator(), self.pairs())?,
-        })
+        let pairs = match &self.pairs {
+            Held::Few(pairs) => Held::Few(pairs.clone()?),
+            Held::Many(pairs) => Held::Many(pairs.clone()?),
+        };
+        Ok(State { pairs })
     }
 }
 

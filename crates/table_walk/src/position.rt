@@ -1,5 +1,5 @@
 //! One step of a walk, by the pairs of the entry placed last.
-ghost use Rattle.std.specs.Prelude.{◌≡◌, ◌<◌, ◌≤◌, Some, All, AllPairs, IfOk, filter, nat_le, nat_lt, length, if◌then◌else◌};
+ghost use Rattle.std.specs.Prelude.{◌≡◌, ◌<◌, ◌≤◌, Some, All, AllPairs, IfOk, filter, nat_le, nat_lt, length, IfSome, if◌then◌else◌};
 ghost use Rattle.edi_tables.specs.Rows.{IsTable};
 ghost use Rattle.edi_tables.specs.Walk.{max_at, missing_between, missing_past, reached_node};
 ghost use Rattle.edi_tables.specs.Filled.{is_filled};
@@ -7,12 +7,12 @@ ghost use Rattle.edi_tables.specs.Pairs.{count_in, entry_in, entry_next, group_n
 ghost use Rattle.table_walk.specs.Reading.{has_tag, least_from};
 ghost use Rattle.table_walk.specs.Steps.{AreCountsUpTo, IsShaped, member_in};
 
+use arrayvec::ArrayVec;
 use edi_tables::{Candidates, Missing, Table, Tag};
-use smallvec::SmallVec;
 use std::alloc::{AllocError, Global};
 
-/// The pairs of a walk: the number of a node, and its count. Most entries have at most three groups round them.
-pub type Pairs = SmallVec<(u16, u32), 4>;
+/// Few pairs of a walk: the number of a node, and its count. Most entries have at most three groups round them.
+pub type FewPairs = ArrayVec<(u16, u32), 4>;
 
 /// The best candidate so far, and its rank: 4, which is more than each rank, where there is none.
 #[derive(Clone, Copy)]
@@ -132,14 +132,33 @@ impl<'a> Position<'a> {
         }
     }
 
-    /// The pairs after a candidate.
-    pub fn pairs_next(&self, alloc: Global, candidate: u16) -> Result<Pairs, AllocError>
+    /// The pairs after a candidate, if they are few. It takes no memory.
+    pub fn few_next(&self, candidate: u16) -> Option<FewPairs>
+        requires within { candidate < length self.now.table.now }
+        requires few { AreCountsUpTo 4194303 self.now.pairs.now }
+        ensures { IfSome result
+            (λ pairs. pairs.items ≡ pairs_next self.now.table.now self.now.pairs.now candidate) }
+    {
+        let mut pairs = ArrayVec::new();
+        pairs.push((candidate, self.entry_next(candidate)));
+        for group in self.table.groups_round(usize::from(candidate)) {
+            if pairs.is_full() {
+                return None;
+            }
+            pairs.push((group, self.group_next(candidate, group)));
+        }
+        pairs.as_mut_slice().reverse();
+        Some(pairs)
+    }
+
+    /// The pairs after a candidate, however many they are.
+    pub fn pairs_next(&self, alloc: Global, candidate: u16) -> Result<Vec<(u16, u32)>, AllocError>
         requires within { candidate < length self.now.table.now }
         requires few { AreCountsUpTo 4194303 self.now.pairs.now }
         ensures { IfOk result
             (λ pairs. pairs.items ≡ pairs_next self.now.table.now self.now.pairs.now candidate) }
     {
-        let mut pairs = SmallVec::new(alloc);
+        let mut pairs = Vec::new(alloc);
         pairs.push((candidate, self.entry_next(candidate)))?;
         for group in self.table.groups_round(usize::from(candidate)) {
             pairs.push((group, self.group_next(candidate, group)))?;

@@ -1,15 +1,15 @@
 //! The state of a walk: what one segment leaves to the next.
-ghost use Rattle.std.specs.Prelude.{◌≡◌, ◌+◌, ◌↔◌, ℕ, List, [], ◌∷◌, Option, Some, None, IsTrue, IfOk};
+ghost use Rattle.std.specs.Prelude.{◌≡◌, ◌+◌, ◌<◌, ◌↔◌, ℕ, List, [], ◌∷◌, Option, Some, None, length, IsTrue, IfOk};
 ghost use Rattle.edi_tables.specs.declared.tag.Tag.{Tag};
 ghost use Rattle.edi_tables.specs.declared.table.Node.{Node};
 ghost use Rattle.edi_tables.specs.Rows.{IsTable};
 ghost use Rattle.edi_tables.specs.Walk.{missing_past};
 ghost use Rattle.edi_tables.specs.Placement.{last_placed};
-ghost use Rattle.edi_tables.specs.Pairs.{entry_in, pairs_of};
+ghost use Rattle.edi_tables.specs.Pairs.{entry_in, pairs_next, pairs_of};
 ghost use Rattle.table_walk.specs.Reading.{IsReading};
 ghost use Rattle.table_walk.specs.Steps.{AreCountsUpTo, GoOnAlike, GoesOn, IsShaped, is_over_in, member_in, missing_in, pairs_after, tagged_in};
 
-use crate::position::{Pairs, Position};
+use crate::position::{FewPairs, Position};
 use arrayvec::ArrayVec;
 use edi_tables::{Missing, Table, Tag};
 use smallvec::SmallVec;
@@ -30,7 +30,7 @@ pub struct State {
 // How a state holds its pairs.
 #[derive(Debug, Drop)]
 enum Held {
-    Few(ArrayVec<(u16, u32), 4>),
+    Few(FewPairs),
     Many(RcSlice<(u16, u32)>),
 }
 
@@ -68,17 +68,6 @@ pub fn start(_alloc: Global, table: &Table) -> Result<State, AllocError>
 }
 
 impl State {
-    // The state that has these pairs.
-    fn holding(pairs: Pairs) -> Result<State, AllocError>
-        ensures { IfOk result (λ state. state ≡ pairs.items) }
-    {
-        let held = match ArrayVec::try_from(pairs.as_slice()) {
-            Ok(few) => Held::Few(few),
-            Err(_) => Held::Many(RcSlice::from_vec(pairs.into_vec()?)?),
-        };
-        Ok(State { pairs: held })
-    }
-
     /// Its pairs: the number of a node, and its count.
     pub fn pairs(&self) -> &[(u16, u32)]
         ensures { result.now ≡ self.now }
@@ -122,7 +111,7 @@ impl State {
         let position = Position::of(table, self.pairs());
         match position.member(tag) {
             Some(entry) => Ok(Placed {
-                state: State::holding(position.pairs_next(alloc, entry)?)?,
+                state: state_next(alloc, &position, entry)?,
                 entry: Some(entry),
                 over: position.is_over(entry),
                 missing: gather(alloc, position.missing(entry))?,
@@ -178,6 +167,20 @@ impl State {
         };
         Ok(State { pairs })
     }
+}
+
+// The state after an entry that a position goes to.
+fn state_next(alloc: Global, position: &Position<'_>, entry: u16) -> Result<State, AllocError>
+    requires within { entry < length position.now.table.now }
+    requires few { AreCountsUpTo 4194303 position.now.pairs.now }
+    ensures { IfOk result
+        (λ state. state ≡ pairs_next position.now.table.now position.now.pairs.now entry) }
+{
+    let pairs = match position.few_next(entry) {
+        Some(pairs) => Held::Few(pairs),
+        None => Held::Many(RcSlice::from_vec(position.pairs_next(alloc, entry)?)?),
+    };
+    Ok(State { pairs })
 }
 
 // These nodes as a list.

@@ -8,8 +8,8 @@ use Rattle.table_walk.proofs.Placing.{nowhere, member_entry, shaped_after, count
 use Rattle.table_walk.proofs.Onward.{goes_on}
 use Rattle.table_walk.proofs.state.State.place.Goals as goal
 
-pub pairs_next-requires-clause-within : goal.pairs_next-requires-clause-within
-pairs_next-requires-clause-within g c =
+pub state_next-requires-clause-within : goal.state_next-requires-clause-within
+state_next-requires-clause-within g c =
     let at = c.of-position.result in
     (member_entry at.table.now at.pairs.now c.args.tag at.lawful c.in-Some.entry (sym c.in-Some.is ∙ c.member.ensures)).1
 
@@ -33,14 +33,14 @@ returns-in_ok-gather-in-Some-clause-nowhere g c =
 pub returns-in_ok-gather-in-Some-clause-shaped : goal.returns-in_ok-gather-in-Some-clause-shaped
 returns-in_ok-gather-in-Some-clause-shaped g c =
     let at = c.of-position.result in
-    let after : c.in_ok-holding-in-Some.field-0 ≡ pairs_after at.table.now at.pairs.now (Some c.in-Some.entry) = c.in_ok-holding-in-Some.ensures ∙ c.in_ok-pairs_next-in-Some.ensures in
-    subst (λ (t : List Node). IsShaped t c.in_ok-holding-in-Some.field-0) c.of-position.ensures.table
+    let after : c.in_ok-state_next-in-Some.field-0 ≡ pairs_after at.table.now at.pairs.now (Some c.in-Some.entry) = c.in_ok-state_next-in-Some.ensures in
+    subst (λ (t : List Node). IsShaped t c.in_ok-state_next-in-Some.field-0) c.of-position.ensures.table
     (subst (IsShaped at.table.now) (sym after) (shaped_after at.table.now at.pairs.now c.args.tag at.lawful c.in-Some.entry (sym c.in-Some.is ∙ c.member.ensures)))
 
 pub returns-in_ok-gather-in-Some-clause-counts : goal.returns-in_ok-gather-in-Some-clause-counts
 returns-in_ok-gather-in-Some-clause-counts g c most few =
     let at = c.of-position.result in
-    let after : c.in_ok-holding-in-Some.field-0 ≡ pairs_after at.table.now at.pairs.now (Some c.in-Some.entry) = c.in_ok-holding-in-Some.ensures ∙ c.in_ok-pairs_next-in-Some.ensures in
+    let after : c.in_ok-state_next-in-Some.field-0 ≡ pairs_after at.table.now at.pairs.now (Some c.in-Some.entry) = c.in_ok-state_next-in-Some.ensures in
     subst (AreCountsUpTo (most + 1)) (sym after)
     (counts_after at.table.now at.pairs.now (Some c.in-Some.entry) most (subst (AreCountsUpTo most) (sym (c.of-position.ensures.pairs ∙ c.pairs.ensures)) few))
 
@@ -48,11 +48,11 @@ pub returns-in_ok-gather-in-Some-clause-reading : goal.returns-in_ok-gather-in-S
 returns-in_ok-gather-in-Some-clause-reading g c tags before =
     let at = c.of-position.result in
     let pairs_same = c.of-position.ensures.pairs ∙ c.pairs.ensures in
-    let next : Placed = record { state = c.in_ok-holding-in-Some.field-0; entry = Some c.in-Some.entry; over = c.is_over.result; missing = c.in_ok-gather-in-Some.field-0 } in
+    let next : Placed = record { state = c.in_ok-state_next-in-Some.field-0; entry = Some c.in-Some.entry; over = c.is_over.result; missing = c.in_ok-gather-in-Some.field-0 } in
     subst (λ (t : List Node). IsReading t tags before → pairs_of t before ≡ c.args.self.now → GoesOn t tags before c.args.tag next)
     c.of-position.ensures.table
     (λ reading same. goes_on at.table.now at.lawful tags before reading c.args.tag at.pairs.now (same ∙ sym pairs_same) next (sym c.in-Some.is ∙ c.member.ensures)
-    (c.in_ok-gather-in-Some.ensures ∙ c.missing.ensures) c.is_over.ensures (c.in_ok-holding-in-Some.ensures ∙ c.in_ok-pairs_next-in-Some.ensures))
+    (c.in_ok-gather-in-Some.ensures ∙ c.missing.ensures) c.is_over.ensures c.in_ok-state_next-in-Some.ensures)
 
 pub returns-in_ok-share-in-None-clause-nowhere : goal.returns-in_ok-share-in-None-clause-nowhere
 returns-in_ok-share-in-None-clause-nowhere g c =

@@ -14,7 +14,7 @@ pub fn numbers(alloc: Global, nodes: &[Node]) -> Result<Vec<Option<u16>>, AllocE
     requires { length nodes.now ≤ 2000 }
     ensures { IfOk result (λ numbers. numbers.items ≡ numbers_of nodes.now) }
 {
-    let mut first = HashMap::new(alloc);
+    let mut first = HashMap::with_capacity(alloc, nodes.len())?;
     let mut numbers = Vec::with_capacity(alloc, nodes.len())?;
     for (i, node) in nodes.iter().enumerate() {
         numbers.push(number(&mut first, node, i as u16)?)?;
@@ -54,7 +54,9 @@ fn number(
     let Some(tag) = node.tag else {
         return Ok(None);
     };
-    let number = first.get(&tag.octets).copied().unwrap_or(place);
-    first.insert(tag.octets, number)?;
-    Ok(Some(number))
+    if let Some(number) = first.get(&tag.octets) {
+        return Ok(Some(*number));
+    }
+    first.insert(tag.octets, place)?;
+    Ok(Some(place))
 }

@@ -25,12 +25,12 @@ own_each a (x ∷ xs) all (suc k) within =
     (let here : a + suc k ≡ (a + 1) + k = omega arith in ap (λ (n : ℕ). is_own n (get_or xs k None)) here)
     ∙ own_each (a + 1) xs (and_parts (is_own a x) _ all).1 k (omega arith)
 
-filter_fails : (p : ℕ → Bool) (xs : List ℕ) → All (λ x. p x ≡ false) xs → filter p xs ≡ []
+pub filter_fails : (p : ℕ → Bool) (xs : List ℕ) → All (λ x. p x ≡ false) xs → filter p xs ≡ []
 filter_fails p [] fails = refl
 filter_fails p (x ∷ xs) fails =
     ap (λ b. cond b (x ∷ filter p xs) (filter p xs)) (All-head (λ x. p x ≡ false) x xs fails) ∙ filter_fails p xs (All-tail (λ x. p x ≡ false) x xs fails)
 
-none_made : {A : Type 0} (made : ℕ → List A) (n a : ℕ) → ((k : ℕ) → a ≤ k → k < a + n → made k ≡ []) → flat_map made (range_with_len a n) ≡ []
+pub none_made : {A : Type 0} (made : ℕ → List A) (n a : ℕ) → ((k : ℕ) → a ≤ k → k < a + n → made k ≡ []) → flat_map made (range_with_len a n) ≡ []
 none_made made zero a none = refl
 none_made made (suc n) a none = rw (none a (omega arith) (omega arith)) (none_made made n (a + 1) (λ k from below. none k (omega arith) (omega arith)))
 

@@ -78,6 +78,23 @@ alike octets (Some tag) other has = same_tag_is tag other ∙ ap (λ (o : List �
 differs : {A : Type 0} (x : A) → (x ∷ []) ≡ [] → ⊥
 differs x same = cc
 
+module _ (nodes : List Node) (xs : List ℕ) (none : shared_pairs nodes xs ≡ []) where
+  no_pair : (j : ℕ) → j < length xs → pair_at nodes xs j ≡ []
+  unfolding shared_pairs
+  no_pair j below = flat_none (pair_at nodes xs) (length xs) 0 j none (omega arith) (omega arith)
+
+  -- no two of them have the same tag
+  pub members_differ : (octets : List ℕ) (i k : ℕ) → i < k → k < length xs → has_octets octets (tag_at nodes (slice_index xs i)) ≡ true → has_octets octets (tag_at nodes (slice_index xs k)) ≡ true → ⊥
+  members_differ octets i k less below one two =
+      let second = second_at (λ x. has_octets octets (tag_at nodes x)) xs i k less below one two in
+      let same : pair_at nodes xs second.0 ≡ pair_with (second.3 ∷ []) (slice_index xs second.0) =
+      ap (λ before. pair_with before (slice_index xs second.0))
+      (filter_agree (have_same_tag nodes (slice_index xs second.0)) (λ x. has_octets octets (tag_at nodes x))
+      (λ x. alike octets (tag_at nodes (slice_index xs second.0)) (tag_at nodes x) second.2) (take second.0 xs) ∙ second.4) in
+      let empty = no_pair second.0 second.1 in
+      let filled : ((second.3, slice_index xs second.0) ∷ []) ≡ [] = sym same ∙ empty in
+      absurd (differs (second.3, slice_index xs second.0) filled)
+
 module _ (nodes : List Node) (none : collisions_of nodes ≡ []) (f : ℕ) (within : f < length nodes) (entry : is_group_at nodes f ≡ false) where
   no_pairs : shared_pairs nodes (followers_of nodes f) ≡ []
   unfolding collisions_of
@@ -86,20 +103,7 @@ module _ (nodes : List Node) (none : collisions_of nodes ≡ []) (f : ℕ) (with
       (sym (after_by_pairs nodes f) ∙ sym (ap (λ b. if b then [] else collisions_after nodes f) entry)
       ∙ flat_none (collisions_at nodes) (length nodes) 0 f none (omega arith) (omega arith))
 
-  no_pair : (j : ℕ) → j < length (followers_of nodes f) → pair_at nodes (followers_of nodes f) j ≡ []
-  unfolding shared_pairs
-  no_pair j below = flat_none (pair_at nodes (followers_of nodes f)) (length (followers_of nodes f)) 0 j no_pairs (omega arith) (omega arith)
-
   -- no two followers have the same tag
   pub tags_differ : (octets : List ℕ) (i k : ℕ) → i < k → k < length (followers_of nodes f)
       → has_octets octets (tag_at nodes (slice_index (followers_of nodes f) i)) ≡ true → has_octets octets (tag_at nodes (slice_index (followers_of nodes f) k)) ≡ true → ⊥
-  tags_differ octets i k less below one two =
-      let followers = followers_of nodes f in
-      let second = second_at (λ x. has_octets octets (tag_at nodes x)) followers i k less below one two in
-      let same : pair_at nodes followers second.0 ≡ pair_with (second.3 ∷ []) (slice_index followers second.0) =
-      ap (λ before. pair_with before (slice_index followers second.0))
-      (filter_agree (have_same_tag nodes (slice_index followers second.0)) (λ x. has_octets octets (tag_at nodes x))
-      (λ x. alike octets (tag_at nodes (slice_index followers second.0)) (tag_at nodes x) second.2) (take second.0 followers) ∙ second.4) in
-      let empty = no_pair second.0 second.1 in
-      let filled : ((second.3, slice_index followers second.0) ∷ []) ≡ [] = sym same ∙ empty in
-      absurd (differs (second.3, slice_index followers second.0) filled)
+  tags_differ octets i k less below one two = members_differ nodes (followers_of nodes f) no_pairs octets i k less below one two

@@ -9,3 +9,4 @@ pub mod Ambiguous
 pub mod Marking
 pub mod Meeting
 pub mod AllDiffer
+pub mod GoesOn

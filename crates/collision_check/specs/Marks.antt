@@ -1,12 +1,13 @@
 -- The numbers of a table's tags, and what is known of each tag after an entry. Bodies and their invariants need it
 -- alone.
-use Rattle.std.specs.Prelude.{◌≡◌, ◌≤◌, ℕ, Bool, true, false, ◌==◌, List, Option, Some, None, map, find, cond, length, slice_get, slice_set, unwrap_or, if◌then◌else◌}
+use Rattle.std.specs.Prelude.{◌≡◌, ◌<◌, ◌≤◌, ◌-◌, ℕ, Bool, true, false, not, ◌==◌, ◌&&◌, List, [], Option, Some, None, map, find, cond, length, slice_get, slice_set, unwrap_or, if◌then◌else◌}
 use Rattle.std.specs.List.{range_with_len}
 use Rattle.std.specs.Str.{bytes_eq}
 use Rattle.edi_tables.specs.Octets.{Octets}
 use Rattle.edi_tables.specs.declared.tag.Tag.{Tag}
 use Rattle.edi_tables.specs.declared.table.Node.{Node}
-use Rattle.edi_tables.specs.Walk.{tag_at}
+use Rattle.edi_tables.specs.Walk.{tag_at, is_must_at, is_group_at, are_siblings}
+use Rattle.edi_tables.specs.Collisions.{followers_of, shared_pairs}
 use Rattle.collision_check.specs.declared.marks.Met.{Met}
 use Rattle.collision_check.specs.declared.marks.Met.TheVariants.{Once, Twice}
 use Rattle.collision_check.specs.declared.marks.Mark.{Mark}
@@ -78,3 +79,13 @@ Numbers (Some tag) i old new number =
     (number ≡ Some (unwrap_or (old tag.octets) i))
     × ((octets : Octets)
     → new octets ≡ cond (bytes_eq tag.octets octets) (Some (unwrap_or (old tag.octets) i)) (old octets))
+
+-- the node before is an entry, and no two of its followers share a tag
+pub record IsClear (nodes : List Node) (e : ℕ) : Type 0 where
+  pub some : 0 < e
+  pub entry : is_group_at nodes (e - 1) ≡ false
+  pub none : shared_pairs nodes (followers_of nodes (e - 1)) ≡ []
+
+-- an optional node beside the one before
+abbrev pub goes_on : List Node → ℕ → Bool
+goes_on nodes e = are_siblings nodes (e - 1) e && not (is_must_at nodes e)

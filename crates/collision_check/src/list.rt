@@ -1,12 +1,13 @@
 //! The collisions of a segment table.
-ghost use Rattle.std.specs.Prelude.{◌≡◌, ℕ, List, ◌<◌, ◌+◌, ◌∷◌, [], None, ◌++◌, All, map, length, IfOk};
+ghost use Rattle.std.specs.Prelude.{◌≡◌, ℕ, List, ◌<◌, ◌+◌, ◌∷◌, [], None, ◌++◌, All, map, length, true, IfOk};
 ghost use Rattle.std.specs.List.{filter_map, range_with_len};
+ghost use Rattle.edi_tables.specs.Rows.{IsTable};
 ghost use Rattle.edi_tables.specs.Walk.{tag_at};
 ghost use Rattle.edi_tables.specs.Collisions.{collisions_of};
 ghost use Rattle.edi_tables.specs.Placement.{IsPlacement};
 ghost use Rattle.edi_tables.specs.declared.tag.Tag.{Tag};
 ghost use Rattle.collision_check.specs.Listed.{IsAmbiguous, collision_seen, collisions_at, with_followers};
-ghost use Rattle.collision_check.specs.Marks.{IsFresh, numbers_of};
+ghost use Rattle.collision_check.specs.Marks.{IsClear, IsFresh, goes_on, numbers_of};
 
 use crate::marks::Mark;
 use crate::numbers::{all_differ, numbers};
@@ -46,8 +47,17 @@ pub fn list_collisions(alloc: Global, table: &Table) -> Result<Vec<Collision>, A
     }
     let mut marks = unmarked(alloc, count)?;
     let marks = marks.as_mut_slice();
+    let mut is_clear = false;
     for entry in 0..count {
-        push_collisions(alloc, table, &numbers, marks, entry as u16, &mut collisions)?;
+        is_clear = push_collisions(
+            alloc,
+            table,
+            &numbers,
+            marks,
+            entry as u16,
+            is_clear,
+            &mut collisions,
+        )?;
     }
     Ok(collisions)
 }
@@ -59,32 +69,53 @@ fn unmarked(alloc: Global, count: usize) -> Result<Vec<Option<Mark>>, AllocError
     (0..count).map(|_| None).collect(alloc)
 }
 
-/// Appends the collisions after an entry; a group stands for none.
+/// Appends the collisions after an entry; a group stands for none. Answers whether it is an entry without any.
+///
+/// Where the node before has none and this one is optional and beside it, it has none: what follows it, follows that
+/// node too.
 fn push_collisions(
     alloc: Global,
     table: &Table,
     numbers: &[Option<u16>],
     marks: &mut [Option<Mark>],
     entry: u16,
+    is_clear: bool,
     collisions: &mut Vec<Collision>,
-) -> Result<(), AllocError>
+) -> Result<bool, AllocError>
     requires within { entry < length table.now }
     requires numbers { numbers.now ≡ numbers_of table.now }
     requires marks { length marks.old ≡ length table.now }
     requires fresh { IsFresh entry marks.old }
+    requires clear { is_clear ≡ true → IsClear table.now entry }
     ensures listed { IfOk result (λ _. map collision_seen collisions.new.items
         ≡ map collision_seen collisions.old.items ++ collisions_at table.now entry) }
     ensures fresh { IfOk result (λ _. IsFresh (entry + 1) marks.new) }
+    ensures clear { IfOk result (λ clear. clear ≡ true → IsClear table.now (entry + 1)) }
 {
     if table.is_group(usize::from(entry)) {
-        return Ok(());
+        return Ok(false);
+    }
+    if is_clear && goes_on(table, entry) {
+        return Ok(true);
     }
     let pairs = follow::pairs(alloc, table, numbers, marks, entry)?;
     if pairs.is_empty() {
-        return Ok(());
+        return Ok(true);
     }
     let front = front::front(alloc, table, entry)?;
-    push_pairs(alloc, table, &front, &pairs, collisions)
+    push_pairs(alloc, table, &front, &pairs, collisions)?;
+    Ok(false)
+}
+
+/// Whether this node is optional, and beside the one before.
+fn goes_on(table: &Table, entry: u16) -> bool
+    requires some { 0 < entry }
+    requires within { entry < length table.now }
+    ensures value { result ≡ goes_on table.now entry }
+    ensures lawful { IsTable table.now }
+{
+    let at = usize::from(entry);
+    table.parent(at - 1) == table.parent(at) && !table.node(at).must
 }
 
 /// Appends the collision of each of these pairs of followers.

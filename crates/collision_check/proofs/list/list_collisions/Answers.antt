@@ -1,5 +1,6 @@
 use Rattle.std.proofs.Common.{◌≡◌, ℕ, List, map, length, ◌+◌, Option, None, refl, sym, ap, ◌∙◌, zero, suc, arith}
 use Rattle.std.specs.List.{flat_map, list_all, enumerate_from, range_with_len}
+use Rattle.std.proofs.lemmas.Bool.{false≢true}
 use Rattle.std.proofs.lemmas.List.{length-map}
 use Rattle.std.proofs.lemmas.List.FromFn.{length-range_with_len}
 use Rattle.std.proofs.lemmas.List.Elements.{All-same}
@@ -27,13 +28,15 @@ loop-entry-init c =
       made = ap (map collision_seen) c.new-collisions.ensures.items;
       fresh = λ entry n from. ap (λ (marks : List (Option Mark)). met_in entry (mark_at marks n)) none ∙ ap (met_in entry) (no_mark count 0 n);
       long = ap length none ∙ length-map (range_with_len 0 count) (λ _. None) ∙ length-range_with_len 0 count ∙ c.len-count.ensures.value;
+      clear = λ is. absurd (false≢true is);
     }
 
 pub loop-entry-preserved : goal.loop-entry-preserved
 loop-entry-preserved c = record {
-  made = c.in_ok-push_collisions.ensures.listed ∙ made_step c.args.table.now c.loop-entry.entry (map collision_seen c.loop-entry.collisions.items) c.loop-entry.invariant.made;
-  fresh = c.in_ok-push_collisions.ensures.fresh;
+  made = c.in_ok-is_clear.ensures.listed ∙ made_step c.args.table.now c.loop-entry.entry (map collision_seen c.loop-entry.collisions.items) c.loop-entry.invariant.made;
+  fresh = c.in_ok-is_clear.ensures.fresh;
   long = omega (arith, c.push_collisions.auto.marks, c.loop-entry.invariant.long);
+  clear = c.in_ok-is_clear.ensures.clear;
 }
 
 pub returns-then-all_differ : goal.returns-then-all_differ

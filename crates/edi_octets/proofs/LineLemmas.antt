@@ -15,11 +15,6 @@ pub place-from_search : (octet : ℕ) (text : List ℕ) (k : ℕ) → NoneBefore
 place-from_search octet text k found =
     position_or_len_is (λ x. x == octet) text k 0 (omega (arith, found.0.high)) (λ i lt. false_from_ne_true _ (found.0.before i (omega arith) lt)) (λ _. found.1)
 
--- where it found none, there is none
-pub place-from_no_search : (octet : ℕ) (text : List ℕ) → ((k : ℕ) → 0 ≤ k → k < length text → Passes (is_byte octet) text k → ⊥) → position_or_len (λ x. x == octet) text ≡ length text
-place-from_no_search octet text none =
-    position_or_len_is (λ x. x == octet) text (length text) 0 (omega arith) (λ i lt. false_from_ne_true _ (none i (omega arith) lt)) (λ lt. absurd (omega arith))
-
 abbrev pub is_line_feed : ℕ → Bool
 is_line_feed x = x == 10
 

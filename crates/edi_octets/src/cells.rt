@@ -2,8 +2,6 @@
 ghost use Rattle.std.specs.Prelude.{◌≡◌, ◌≤◌, ◌==◌, length, drop};
 ghost use Rattle.std.specs.List.{prefix_len, position_or_len};
 
-use memchr::memchr;
-
 /// The cells of a line that are left, in order. It takes no memory, and a copy goes on from the same place.
 #[derive(Clone, Copy, Debug)]
 pub struct Cells<'a> {
@@ -55,9 +53,10 @@ fn skip_spaces(line: &[u8]) -> &[u8]
     &line[spaces_in_front(line)..]
 }
 
-/// Where the first space stands; the line's length where there is none.
-fn first_space(line: &[u8]) -> usize
-    ensures { result ≡ position_or_len (λ x. x == 32) line.now }
+/// Where the first space stands; the line's length where there is none. Words are short: octets are looked at one by one.
+pub(crate) fn first_space(line: &[u8]) -> usize
+    ensures place { result ≡ position_or_len (λ x. x == 32) line.now }
+    ensures within { result ≤ length line.now }
 {
-    memchr(b' ', line).unwrap_or(line.len())
+    line.iter().take_while(|octet| **octet != b' ').count()
 }

@@ -4,7 +4,7 @@ ghost use Rattle.std.specs.Option.{option_map};
 ghost use Rattle.edi_octets.specs.Lines.{pieces_in};
 ghost use Rattle.edi_octets.specs.Words.{two_in, three_in, four_in};
 
-use memchr::memchr;
+use crate::cells::first_space;
 
 /// The two words of a line that has exactly two.
 pub fn two_words(line: &[u8]) -> Option<(&[u8], &[u8])>
@@ -50,8 +50,10 @@ fn cut_word(line: &[u8]) -> (&[u8], Option<&[u8]>)
     ensures { MatchOption result.1 (pieces_in line.now ≡ result.0.now ∷ [])
         (λ rest. pieces_in line.now ≡ result.0.now ∷ pieces_in rest.now) }
 {
-    match memchr(b' ', line) {
-        Some(end) => (&line[..end], Some(&line[end + 1..])),
-        None => (line, None),
+    let end = first_space(line);
+    if end < line.len() {
+        (&line[..end], Some(&line[end + 1..]))
+    } else {
+        (line, None)
     }
 }

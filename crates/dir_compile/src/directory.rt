@@ -50,8 +50,8 @@ impl Model for Directory {
 }
 
 impl Directory {
-    /// The directory of these parts.
-    pub(crate) fn of(alloc: Global, parts: Parts) -> Result<Directory, AllocError>
+    /// The directory of parts that are known to be one, and so aren't judged.
+    pub fn of(alloc: Global, parts: Parts) -> Result<Directory, AllocError>
         requires { IsDirectory parts }
         ensures { IfOk result (λ directory. directory ≡ parts) }
     {

@@ -1,9 +1,10 @@
 -- The end of a line.
 use Rattle.std.proofs.Common.{◌≡◌, ◌+◌, ℕ, List, length, take, drop, Ok, Err, eqb, refl, arith}
 use Rattle.std.specs.List.{position_or_len}
-use Rattle.std.proofs.lemmas.Bool.{lt-ltb, le-ltb}
+use Rattle.std.proofs.lemmas.Bool.{lt-ltb, le-ltb, false_from_ne_true}
+use Rattle.std.proofs.lemmas.List.Sums.{position_or_len_is}
 use Rattle.memchr.specs.Find.{NoneBefore, Passes, Nowhere, is_byte}
-use Rattle.edi_octets.proofs.LineLemmas.{place-from_search, place-from_no_search}
+use Rattle.edi_octets.proofs.LineLemmas.{place-from_search}
 use Rattle.dir_store.specs.Lines.{line_at}
 
 -- octets with LF begin with a line, and others have none
@@ -14,5 +15,6 @@ line-cut octets k found =
 
 pub line-none : (octets : List ℕ) → Nowhere (Passes (is_byte 10) octets) 0 (length octets) → line_at octets ≡ Err 0
 line-none octets none =
-    let place : position_or_len (λ x. eqb x 10) octets ≡ length octets = place-from_no_search 10 octets none in
+    let place : position_or_len (λ x. eqb x 10) octets ≡ length octets =
+    position_or_len_is (λ x. eqb x 10) octets (length octets) 0 (omega arith) (λ i lt. false_from_ne_true _ (none i (omega arith) lt)) (λ lt. absurd (omega arith)) in
     rw (place, le-ltb (length octets) (length octets) (omega arith)) refl

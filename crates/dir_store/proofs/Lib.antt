@@ -6,7 +6,6 @@ pub mod KnownLemmas
 pub mod LineLemmas
 pub mod LoopLemmas
 pub mod NumberLemmas
-pub mod OrderLemmas
 pub mod PutLemmas
 pub mod ReprLemmas
 pub mod SearchLemmas

@@ -17,7 +17,7 @@ use crate::label_line::read_labels;
 use crate::line::read_line;
 use crate::line_stop::Stop;
 use crate::stop::StoreStop;
-use dir_compile::{CompileStop, Directory, Parts, compile};
+use dir_compile::{Directory, Parts};
 use edi_octets::Labels;
 use edi_tables::{CompositeDef, ElementDef, List, SegmentDef};
 use std::alloc::Global;
@@ -40,11 +40,10 @@ pub fn read_store(alloc: Global, file: &[u8]) -> Result<Directory, StoreStop>
         Ok(parts) => parts,
         Err(stop) => return Err(StoreStop::of(file.len(), stop)),
     };
-    match compile(alloc, parts) {
+    // The parts that a store spells are a directory.
+    match Directory::of(alloc, parts) {
         Ok(directory) => Ok(directory),
-        Err(CompileStop::Memory) => Err(StoreStop::Memory),
-        // The parts that a store spells are a directory, and nothing in it is at fault.
-        Err(CompileStop::Fault { .. }) => unreachable!(),
+        Err(_) => Err(StoreStop::Memory),
     }
 }
 

@@ -5,7 +5,7 @@ use Rattle.std.specs.List.{position_or_len}
 use Rattle.std.specs.List.Sorted.{IsBinarySearchResult, IsNonDecreasingBy, IsSearchInRange}
 use Rattle.std.specs.declared.cmp.Ordering.TheVariants.{Less, Equal, Greater}
 use Rattle.std.specs.Cmp.Lexicographic.{slice_cmp, texts_ties}
-use Rattle.std.specs.Ordering.{nat_cmp, is_lt, is_eq, ordering_index}
+use Rattle.std.specs.Ordering.{nat_cmp, is_lt, is_eq, ordering_index, ordering_then}
 use Rattle.std.specs.Option.{option_copied}
 use Rattle.std.specs.Result.{result_ok}
 use Rattle.std.specs.Slice.{IsItemAt}
@@ -115,3 +115,27 @@ somewhere xs (Err i) j is = absurd cc
 pub copied-at : {X : Type 0} (xs : List X) (i : ℕ) (r : Option (Bor X)) → IsItemAt xs i r → option_copied r ≡ slice_get xs i
 copied-at xs i None item = sym (slice_get_past xs i item.3)
 copied-at xs i (Some x) item = sym (slice_get_read xs (length xs) i x.now refl item.3.0 item.1)
+
+-- two tags are compared octet by octet
+then_equal : (o : Ordering) → o ≡ ordering_then o Equal
+then_equal Less = refl
+then_equal Equal = refl
+then_equal Greater = refl
+
+abbrev pub by_octets : List ℕ → List ℕ → Ordering
+by_octets a b =
+    ordering_then (nat_cmp (get_or a 0 0) (get_or b 0 0)) (ordering_then (nat_cmp (get_or a 1 0) (get_or b 1 0)) (nat_cmp (get_or a 2 0) (get_or b 2 0)))
+
+other_compared : (x y z : ℕ) (b : List ℕ) → length b ≡ 3 → by_octets (x ∷ y ∷ z ∷ []) b ≡ slice_cmp nat_cmp (x ∷ y ∷ z ∷ []) b
+other_compared x y z [] long = absurd (omega arith)
+other_compared x y z (a ∷ []) long = absurd (omega arith)
+other_compared x y z (a ∷ b ∷ []) long = absurd (omega arith)
+other_compared x y z (a ∷ b ∷ d ∷ []) long = ap (λ o. ordering_then (nat_cmp x a) (ordering_then (nat_cmp y b) o)) (then_equal (nat_cmp z d))
+other_compared x y z (a ∷ b ∷ d ∷ e ∷ more) long = absurd (omega arith)
+
+pub tags_compared : (a b : List ℕ) → length a ≡ 3 → length b ≡ 3 → slice_cmp nat_cmp a b ≡ by_octets a b
+tags_compared [] b long other = absurd (omega arith)
+tags_compared (x ∷ []) b long other = absurd (omega arith)
+tags_compared (x ∷ y ∷ []) b long other = absurd (omega arith)
+tags_compared (x ∷ y ∷ z ∷ []) b long other = sym (other_compared x y z b other)
+tags_compared (x ∷ y ∷ z ∷ w ∷ more) b long other = absurd (omega arith)

@@ -1,6 +1,8 @@
 //! The definitions that the lines of a store may name.
 ghost use Rattle.std.specs.Prelude.{◌≡◌};
+ghost use Rattle.std.specs.Cmp.Lexicographic.{slice_cmp};
 ghost use Rattle.std.specs.Option.{option_copied};
+ghost use Rattle.std.specs.Ordering.{nat_cmp};
 ghost use Rattle.edi_tables.specs.Ascending.{IsAscendingBy};
 ghost use Rattle.dir_compile.specs.Compile.{
   composite_name,
@@ -9,6 +11,7 @@ ghost use Rattle.dir_compile.specs.Compile.{
 };
 
 use edi_tables::{Code, CompositeDef, ElementDef, SegmentDef, Tag};
+use std::cmp::Ordering;
 
 /// The definitions of the sections so far, each kind in ascending order of names. A name is found by halving.
 #[derive(Clone, Copy)]
@@ -51,9 +54,25 @@ impl<'a> EarlierDefinitions<'a> {
     pub fn has_segment(&self, tag: Tag) -> bool
         ensures { result ≡ is_some (named_in segment_name self.now.segments.now tag.octets) }
     {
-        let wanted = tag.octets.as_slice();
         self.segments
-            .binary_search_by(|segment| segment.tag.octets.as_slice().cmp(&wanted))
+            .binary_search_by(|segment| compare_tags(segment.tag, tag))
             .is_ok()
+    }
+}
+
+// The order of two tags. Each row of a message looks its tag up, so no call compares slices of any length here.
+#[inline]
+#[tactic(auto, using(crate::proofs::SearchLemmas::tags_compared))]
+fn compare_tags(tag: Tag, other: Tag) -> Ordering
+    ensures { result ≡ slice_cmp nat_cmp tag.octets other.octets }
+{
+    match tag.octets[0].cmp(&other.octets[0]) {
+        Ordering::Equal => match tag.octets[1].cmp(&other.octets[1]) {
+            Ordering::Equal => tag.octets[2].cmp(&other.octets[2]),
+            Ordering::Less => Ordering::Less,
+            Ordering::Greater => Ordering::Greater,
+        },
+        Ordering::Less => Ordering::Less,
+        Ordering::Greater => Ordering::Greater,
     }
 }

@@ -19,6 +19,10 @@ pub(crate) const POSITION_DIGITS: usize = 4;
 pub(crate) fn type_name<'a>(line: &LineText<'a>) -> Option<&'a [u8]>
     ensures { option_copied result ≡ message.name_on (fields_of line.now.octets.now) }
 {
+    // Few lines begin so, and of the others no further field is looked at.
+    if !line.begins_with(b"Message") {
+        return None;
+    }
     let mut fields = line.fields();
     let message = fields.next()?;
     let kind = fields.next()?;

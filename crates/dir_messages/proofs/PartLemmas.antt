@@ -1,12 +1,12 @@
 -- The parts of a text, and its last part that passes a test.
 use Rattle.std.proofs.Common.{◌≡◌, ℕ, ◌+◌, ◌-◌, ◌<◌, Bool, true, false, not, Some, None, List, [], ◌∷◌, ◌++◌, length, get_or, take, drop, reverse, refl, sym, ap, ◌∙◌, ⊎_elim, arith, one-add, append_assoc, length-append, length-drop, get_or-drop, eqb-true}
 use Rattle.std.specs.List.{onto_first, prefix_len, suffix_len, find, list_any, flat_map, join_with_byte, before_last, after_last}
-use Rattle.std.proofs.lemmas.Bool.{cases_Bool, false_from_ne_true}
+use Rattle.std.proofs.lemmas.Bool.{cases_Bool, eq-eqb, false_from_ne_true}
 use Rattle.std.proofs.lemmas.List.{append-nil, reverse-append, length-reverse, drop_more, take-append-drop, take_at, drop_at}
 use Rattle.std.proofs.lemmas.List.Elements.{All-from_get_or}
 use Rattle.std.proofs.lemmas.List.Folds.{list_any-append}
 use Rattle.std.proofs.lemmas.List.Splits.{slice_split_none}
-use Rattle.memchr.specs.Find.{NoneAfter, Passes, is_byte}
+use Rattle.memchr.specs.Find.{IsLastByte, NoneAfter, Passes, is_byte}
 use Rattle.dir_messages.specs.Parts.{CutsAtLastSpace}
 use Rattle.edi_octets.specs.Lines.{is_space, pieces_in, after_spaces}
 
@@ -36,6 +36,13 @@ pieces_in-append (x ∷ before) behind =
 pub pieces_in-one : (text : List ℕ) → ((k : ℕ) → k < length text → Passes (is_byte 32) text k → ⊥) → pieces_in text ≡ text ∷ []
 pieces_in-one text none =
     slice_split_none is_space text (All-from_get_or (λ x. is_space x ≡ false) text 0 (λ i lt. false_from_ne_true _ (none i lt)))
+
+-- a space at the end of a text is its last one
+pub last_is : (text : List ℕ) (k : ℕ) → k + 1 ≡ length text → get_or text k 0 ≡ 32 → IsLastByte (is_byte 32) text (Some k)
+last_is text k end space = (
+  record { low = omega arith; high = omega (arith, end); after = λ j low high at. omega (arith, end, low, high) },
+  eq-eqb (get_or text k 0) 32 space,
+)
 
 -- a text is cut where its last space was found
 pub CutsAtLastSpace-found : (text : List ℕ) (k : ℕ) → NoneAfter (Passes (is_byte 32) text) 0 (length text) k × Passes (is_byte 32) text k → CutsAtLastSpace text (take k text) (drop (k + 1) text)

@@ -1,6 +1,7 @@
 //! The status of a table line, and what stands round it.
 ghost use Rattle.std.specs.Prelude.{◌≡◌, ◌∷◌, [], false, MatchOption};
 ghost use Rattle.std.specs.List.{slice_split, list_any, position_or_len};
+ghost use Rattle.memchr.specs.Find.{IsLastByte, is_byte};
 ghost use Rattle.dir_messages.specs.Message.{is_status};
 ghost use Rattle.edi_octets.specs.Lines.{is_space};
 ghost use Rattle.dir_messages.specs.Parts.{CutsAtStatus, CutsAtLastSpace};
@@ -45,6 +46,18 @@ fn cut_at_last_space(text: &[u8]) -> Option<(&[u8], &[u8])>
         (slice_split is_space text.now ≡ text.now ∷ [])
         (λ cut. CutsAtLastSpace text.now cut.0.now cut.1.now) }
 {
-    let space = memrchr(b' ', text)?;
+    let space = last_space(text)?;
     Some((&text[..space], &text[space + 1..]))
+}
+
+/// Where the last space of a text stands. A name is padded with spaces, so most texts that are cut end with one.
+#[tactic(auto, using(crate::proofs::PartLemmas::last_is))]
+fn last_space(text: &[u8]) -> Option<usize>
+    ensures { IsLastByte (is_byte 32) text.now result }
+{
+    let length = text.len();
+    if length > 0 && text[length - 1] == b' ' {
+        return Some(length - 1);
+    }
+    memrchr(b' ', text)
 }

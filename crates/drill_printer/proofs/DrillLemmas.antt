@@ -8,7 +8,7 @@ use Rattle.drill_maker.specs.Edit.{cut_of, edit_place_of, put_of}
 use Rattle.drill_maker.specs.Reduced.{reduced}
 use Rattle.drill_maker.proofs.EditLemmas.{place_within, put_cut}
 use Rattle.drill_maker.proofs.ReducedLemmas.{directory_of-reduced}
-use Rattle.text_reading.proofs.Edits.{length_with}
+use Rattle.kept_text.proofs.Edits.{length_with}
 use Rattle.drill_printer.specs.Drill.{drill_directory, error_count, error_sum, text_drilled, text_edited}
 
 ok_same : (one other : Parts) → (let a : Result Parts PartsFault = Ok one in a ≡ Ok other) → one ≡ other

@@ -7,7 +7,7 @@ use Rattle.dir_compile.specs.InOrder.{ordered_parts}
 use Rattle.drill_maker.specs.Edit.{edit_of}
 use Rattle.drill_maker.specs.Interchange.{interchange_text}
 use Rattle.drill_maker.specs.Reduced.{reduced}
-use Rattle.text_reading.specs.Edit.{text_with}
+use Rattle.kept_text.specs.Edit.{text_with}
 use Rattle.text_reading.specs.Errors.{errors_of}
 use Rattle.segment_walk.specs.Count.{segment_count_of}
 

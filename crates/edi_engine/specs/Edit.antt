@@ -1,7 +1,7 @@
 -- What an edit of a text comes to.
 use Rattle.std.specs.Prelude.{◌≡◌, ◌+◌, ◌-◌, ℕ, nat_lt, length, Option, Some, None, Result, Ok, Err, if◌then◌else◌}
 use Rattle.edi_tables.specs.Octets.{Octets}
-use Rattle.text_reading.specs.Reading.{Reading}
+use Rattle.kept_text.specs.Reading.{Reading}
 use Rattle.edi_engine.specs.declared.edit.EditStop.{EditStop}
 use Rattle.edi_engine.specs.declared.edit.EditStop.TheVariants.{Range, TooLong, Memory}
 use Rattle.edi_octets.specs.declared.octets.TheConstants.{LONGEST_TEXT}

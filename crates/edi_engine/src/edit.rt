@@ -2,7 +2,7 @@
 ghost use Rattle.std.specs.Prelude.{◌≡◌, ◌+◌, ◌≤◌, ◌⊎◌, None};
 ghost use Rattle.segment_walk.specs.Count.{segment_count_of};
 ghost use Rattle.edi_engine.specs.Edit.{IsEdit, stop_by, stop_of};
-ghost use Rattle.text_reading.specs.Edit.{reading_with, text_with};
+ghost use Rattle.kept_text.specs.Edit.{reading_with, text_with};
 
 use crate::Engine;
 use edi_octets::LONGEST_TEXT;

@@ -28,7 +28,7 @@ use std::alloc::{AllocError, Global};
 use std::marker::{Brand, Model};
 use std::sync::ledger::{Blank, Ledger};
 use step_counter::Steps;
-use text_reading::KeptText;
+use kept_text::KeptText;
 
 /// The reading of a text by a directory, seen as these two.
 #[derive(Drop)]
@@ -37,7 +37,7 @@ pub struct Engine<'d> {
 }
 
 impl<'d> Model for Engine<'d> {
-    ghost use Rattle.text_reading.specs.Reading.{Reading};
+    ghost use Rattle.kept_text.specs.Reading.{Reading};
 
     ghost Value = { Reading };
 

@@ -19,7 +19,7 @@ use envelope_check::envelope_errors;
 use error_ledger::{ErrorLine, order_errors};
 use segment_walk::WalkedSegment;
 use std::alloc::{AllocError, Global};
-use text_reading::KeptText;
+use kept_text::KeptText;
 
 /// Puts the local errors of a segment. Only want of memory is an error.
 pub(crate) fn put_local(

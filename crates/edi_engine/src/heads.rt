@@ -15,7 +15,7 @@ use seg_lexer::{Fields, Service};
 use segment_records::{copy_two, copy_value};
 use segment_walk::WalkedSegment;
 use std::alloc::{AllocError, Global};
-use text_reading::KeptText;
+use kept_text::KeptText;
 
 /// A segment as a head of this kind, with the values that its kind gives. They are read from its text, by the service
 /// characters of the text. Only want of memory is an error.

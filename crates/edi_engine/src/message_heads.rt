@@ -16,7 +16,7 @@ use seg_lexer::Service;
 use segment_records::{copy_value, is_named};
 use segment_walk::WalkedSegment;
 use std::alloc::{AllocError, Global};
-use text_reading::KeptText;
+use kept_text::KeptText;
 
 /// Puts the message that is open, if there is one, with its last segment, by its number from 1. Only want of memory is an error.
 pub(crate) fn put_message(

@@ -30,7 +30,7 @@ use segment_walk::{WalkedSegment, error_with};
 use std::alloc::{AllocError, Global};
 use std::marker::Brand;
 use std::sync::ledger::Blank;
-use text_reading::KeptText;
+use kept_text::KeptText;
 
 // The levels and the versions of the syntax.
 const LEVELS: [&[u8]; 6] = [b"UNOA", b"UNOB", b"UNOC", b"UNOD", b"UNOE", b"UNOF"];

@@ -1,7 +1,7 @@
 -- How a script on a text that was opened begins.
 use Rattle.std.proofs.Common.{◌≡◌, ℕ, List, Option, subst, inr}
 use Rattle.dir_compile.specs.declared.parts.Parts.{Parts}
-use Rattle.text_reading.specs.Reading.{Reading}
+use Rattle.kept_text.specs.Reading.{Reading}
 use Rattle.text_reading.specs.Placed.{AreMessagesPlaced}
 use Rattle.script_answers.specs.Ran.{Ran}
 use Rattle.script_answers.specs.Script.{IsAnsweredInRoom, IsScriptAnswered}

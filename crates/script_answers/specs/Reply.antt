@@ -8,7 +8,7 @@ use Rattle.contrl_writer.specs.declared.answer.Contrl.TheVariants.{Octets as Wri
 use Rattle.edit_script.specs.declared.command.Command.{Command}
 use Rattle.edit_script.specs.declared.command.Command.TheVariants.{Replace, Errors, Tree, Contrl, Text, End}
 use Rattle.edi_engine.specs.Edit.{stop_of}
-use Rattle.text_reading.specs.Edit.{text_with}
+use Rattle.kept_text.specs.Edit.{text_with}
 use Rattle.text_reading.specs.Errors.{errors_of}
 use Rattle.text_reading.specs.Summary.{contrl_to}
 use Rattle.text_reading.specs.Tree.{tree_of}

@@ -1,16 +1,13 @@
-pub mod Begun
 pub mod Counts
 pub mod Ending
 pub mod Following
 pub mod Headed
-pub mod LastMode
 pub mod Likeness
 pub mod Looking
 pub mod Nearby
 pub mod Nodes
 pub mod Rests
 pub mod Spanned
-pub mod StepLaws
 pub mod Stretches
 pub mod Tails
 pub mod TreePlaces

@@ -22,12 +22,8 @@ use Rattle.segment_records.specs.Segments.{Segment, segment_between, segments_by
 use Rattle.segment_records.specs.Steps.{step_of}
 use Rattle.segment_records.specs.declared.mode.Mode.{Mode}
 use Rattle.segment_records.specs.declared.mode.Mode.TheVariants.{Outside}
-use Rattle.segment_walk.specs.WalkedSegments.{AreStretches, IsFilled, kept_in}
+use Rattle.segment_walk.specs.WalkedSegments.{AreStretches, IsFilled, kept_in, octets_in}
 use Rattle.segment_walk.proofs.Rests.{length_segments}
-
--- how many octets these are of
-abbrev pub octets_in : List Kept → ℕ
-octets_in kept = sum_by (λ (k : Kept). k.octets) kept
 
 -- a segment lies in a text
 pub record IsStretch (text : List ℕ) (segment : Segment) : Type 0 where

@@ -61,6 +61,10 @@ as_segment seen = record {
   tag = seen.kept.tag;
 }
 
+-- how many octets these are of
+abbrev pub octets_in : List Kept → ℕ
+octets_in kept = sum_by (λ k. k.octets) kept
+
 -- what is kept of a segment is of a stretch: it has its terminator after the line ends in front
 abbrev pub IsFilled : Kept → Type 0
 IsFilled kept = kept.breaks < kept.octets
@@ -68,7 +72,7 @@ IsFilled kept = kept.breaks < kept.octets
 -- these stretches come one after the other from a boundary on, in a text that isn't too long
 pub record AreStretches (number from : ℕ) (kept : List Kept) : Type 0 where
   pub filled : All IsFilled kept
-  pub within : from + sum_by (λ k. k.octets) kept ≤ LONGEST_TEXT
+  pub within : from + octets_in kept ≤ LONGEST_TEXT
   pub numbered : number ≤ from + 1
 
 -- what is left to come: the record at hand, and those after it

@@ -5,9 +5,7 @@
 #![tactic(auto)]
 
 mod errors;
-mod read;
 mod walked_segment;
 
 pub use errors::error_with;
-pub use read::{read_records, read_text};
 pub use walked_segment::{Segments, WalkedSegment};

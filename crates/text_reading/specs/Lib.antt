@@ -1,8 +1,5 @@
 pub mod Clean
-pub mod Edit
 pub mod Errors
-pub mod Kept
 pub mod Placed
-pub mod Reading
 pub mod Summary
 pub mod Tree

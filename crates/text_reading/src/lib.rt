@@ -1,7 +1,3 @@
-//! A text kept with the records of its segments, by a directory; and what its errors, its tree and its summary are, with the laws
-//! of these.
+//! What the errors, the tree and the summary of a text are, and laws of these: where a tree places the segments of messages,
+//! and why an acknowledgement has no error itself.
 #![tactic(auto)]
-
-mod kept;
-
-pub use kept::KeptText;

@@ -1,6 +1,6 @@
 use Rattle.std.proofs.Common.{ap}
 use Rattle.std.proofs.lemmas.Result.{on_ok_weaker}
-use Rattle.text_reading.specs.Reading.{Reading}
+use Rattle.kept_text.specs.Reading.{Reading}
 use Rattle.drill_printer.proofs.PartLemmas.{edited_parts}
 use Rattle.drill_printer.proofs.drill.put_edited.Goals as goal
 

@@ -5,6 +5,7 @@ use Rattle.dir_compile.specs.declared.parts.Parts.{Parts}
 use Rattle.segment_walk.specs.Look.{seen_of}
 use Rattle.segment_walk.specs.WalkedSegments.{Follows, seen_in}
 use Rattle.segment_walk.specs.Told.{line_in_tree}
+use Rattle.text_reading.proofs.PlacedLaws.{are_placed}
 use Rattle.text_reading.proofs.Passing.{map_done, map_left, rest_all}
 use Rattle.segment_walk.proofs.TreePlaces.{well_all}
 use Rattle.text_reading.proofs.Treed.{tree_is}
@@ -40,13 +41,13 @@ returns-clause-well c =
     subst (All IsWellPlaced) (sym all) (well_all dir c.segments-seen-items.ensures.lawful c.segments-seen-items.result c.segments-seen-items.ensures.follow)
 
 pub returns-in_err-numbers-clause-placed : goal.returns-in_err-numbers-clause-placed
-returns-in_err-numbers-clause-placed c = c.directory-directory.ensures.lawful_trees c.args.kept.now.text
+returns-in_err-numbers-clause-placed c = are_placed c.args.kept.now.directory c.directory-directory.ensures.lawful c.args.kept.now.text
 
 pub returns-in_err-tree-clause-placed : goal.returns-in_err-tree-clause-placed
-returns-in_err-tree-clause-placed c = c.directory-directory.ensures.lawful_trees c.args.kept.now.text
+returns-in_err-tree-clause-placed c = are_placed c.args.kept.now.directory c.directory-directory.ensures.lawful c.args.kept.now.text
 
 pub returns-in_err-push-clause-placed : goal.returns-in_err-push-clause-placed
-returns-in_err-push-clause-placed c = c.directory-directory.ensures.lawful_trees c.args.kept.now.text
+returns-in_err-push-clause-placed c = are_placed c.args.kept.now.directory c.directory-directory.ensures.lawful c.args.kept.now.text
 
 pub returns-clause-placed : goal.returns-clause-placed
-returns-clause-placed c = c.directory-directory.ensures.lawful_trees c.args.kept.now.text
+returns-clause-placed c = are_placed c.args.kept.now.directory c.directory-directory.ensures.lawful c.args.kept.now.text

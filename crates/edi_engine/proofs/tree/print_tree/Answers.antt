@@ -5,6 +5,7 @@ use Rattle.dir_compile.specs.Directory.{IsDirectory}
 use Rattle.error_ledger.specs.Printing.{IsWellPlaced, ended_lines, tree_lines}
 use Rattle.segment_walk.specs.Look.{seen_of}
 use Rattle.segment_walk.specs.WalkedSegments.{Follows, seen_in}
+use Rattle.text_reading.proofs.PlacedLaws.{are_placed}
 use Rattle.text_reading.proofs.Passing.{rest_all}
 use Rattle.text_reading.proofs.Printed.{all_lines, count_left, lines_few, printed_done, printed_is, printed_lines, text_left, well_first}
 use Rattle.edi_engine.proofs.tree.print_tree.Goals as goal
@@ -56,13 +57,13 @@ returns-clause-printed c =
     ∙ printed_is dir c.segments-seen-items.ensures.lawful text
 
 pub returns-in_err-numbers-clause-placed : goal.returns-in_err-numbers-clause-placed
-returns-in_err-numbers-clause-placed c = c.directory-directory.ensures.lawful_trees c.args.kept.now.text
+returns-in_err-numbers-clause-placed c = are_placed c.args.kept.now.directory c.directory-directory.ensures.lawful c.args.kept.now.text
 
 pub returns-in_err-text-clause-placed : goal.returns-in_err-text-clause-placed
-returns-in_err-text-clause-placed c = c.directory-directory.ensures.lawful_trees c.args.kept.now.text
+returns-in_err-text-clause-placed c = are_placed c.args.kept.now.directory c.directory-directory.ensures.lawful c.args.kept.now.text
 
 pub returns-in_err-lines-clause-placed : goal.returns-in_err-lines-clause-placed
-returns-in_err-lines-clause-placed c = c.directory-directory.ensures.lawful_trees c.args.kept.now.text
+returns-in_err-lines-clause-placed c = are_placed c.args.kept.now.directory c.directory-directory.ensures.lawful c.args.kept.now.text
 
 pub returns-clause-placed : goal.returns-clause-placed
-returns-clause-placed c = c.directory-directory.ensures.lawful_trees c.args.kept.now.text
+returns-clause-placed c = are_placed c.args.kept.now.directory c.directory-directory.ensures.lawful c.args.kept.now.text

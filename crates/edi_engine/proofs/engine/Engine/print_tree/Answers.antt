@@ -1,6 +1,6 @@
 use Rattle.std.proofs.Common.{subst}
 use Rattle.text_reading.specs.Placed.{AreMessagesPlaced}
-use Rattle.text_reading.specs.Reading.{Reading}
+use Rattle.kept_text.specs.Reading.{Reading}
 use Rattle.edi_engine.proofs.engine.Engine.print_tree.Goals as goal
 
 pub returns-clause-placed : goal.returns-clause-placed

@@ -1,0 +1,28 @@
+-- The mode after the last of the records read so far.
+use Rattle.std.proofs.Common.{◌≡◌, ◌-◌, ◌++◌, ℕ, List, [], ◌∷◌, length, Option, Some, refl, ap, ◌∙◌, arith}
+use Rattle.std.proofs.lemmas.List.{length-append}
+use Rattle.std.specs.List.{slice_get}
+use Rattle.std.specs.Option.{option_map_or}
+use Rattle.segment_records.specs.Records.{Kept}
+use Rattle.segment_records.specs.declared.mode.Mode.{Mode}
+use Rattle.kept_text.specs.Again.{last_mode}
+
+at_end : (read : List Kept) (kept : Kept) → slice_get (read ++ kept ∷ []) (length read) ≡ Some kept
+at_end [] kept = refl
+at_end (first ∷ read) kept = at_end read kept
+
+length_end : (read : List Kept) (kept : Kept) → length (read ++ kept ∷ []) - 1 ≡ length read
+length_end read kept = omega (arith, length-append read (kept ∷ []))
+
+-- with one more it is the one after that
+pub last_mode_more : (before : Mode) (read more : List Kept) (kept : Kept) → more ≡ read ++ kept ∷ []
+    → last_mode before more ≡ kept.step.after
+last_mode_more before read more kept more_is =
+    ap (last_mode before) more_is
+    ∙ ap (λ (n : ℕ). option_map_or (λ kept. kept.step.after) (slice_get (read ++ kept ∷ []) n) before) (length_end read kept)
+    ∙ ap (λ (found : Option Kept). option_map_or (λ kept. kept.step.after) found before) (at_end read kept)
+
+-- a mode told of these records is the one of records that are the same
+pub last_mode_same : (before mode : Mode) (told read : List Kept) → mode ≡ last_mode before told → told ≡ read
+    → mode ≡ last_mode before read
+last_mode_same before mode told read is same = is ∙ ap (last_mode before) same

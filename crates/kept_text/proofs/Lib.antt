@@ -1,0 +1,5 @@
+pub mod Begun
+pub mod Edits
+pub mod LastMode
+pub mod Readings
+pub mod StepLaws

@@ -1,0 +1,13 @@
+use Rattle.std.proofs.Common.{◌∙◌, ap, subst}
+use Rattle.seg_lexer.specs.Context.{context_of}
+use Rattle.seg_lexer.specs.Service.{IsUsable}
+use Rattle.kept_text.specs.Reading.{Reading}
+use Rattle.kept_text.proofs.Readings.{service_usable}
+use Rattle.kept_text.proofs.kept.KeptText.context.Goals as goal
+
+pub returns-clause-context : goal.returns-clause-context
+returns-clause-context c = c.self.invariant.context ∙ ap (λ (r : Reading). context_of r.text) c.self.view_is
+
+pub returns-clause-usable : goal.returns-clause-usable
+returns-clause-usable c =
+    subst (λ (r : Reading). IsUsable c.self.inside.context.service r.text) c.self.view_is (service_usable c.self.inside c.self.invariant)

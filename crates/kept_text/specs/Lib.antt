@@ -1,0 +1,6 @@
+pub mod Again
+pub mod Edit
+pub mod Kept
+pub mod Reading
+pub mod Rerun
+pub mod Stretch

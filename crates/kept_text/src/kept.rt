@@ -1,0 +1,204 @@
+//! A text with what is kept of its segments.
+ghost use Rattle.std.specs.Prelude.{◌≡◌, ◌+◌, ◌-◌, ◌≤◌, All, length, slice_index, IfOk};
+ghost use Rattle.dir_compile.specs.Directory.{IsDirectory};
+ghost use Rattle.seg_lexer.specs.Context.{context_of};
+ghost use Rattle.seg_lexer.specs.Segments.{boundaries_of, ends_of};
+ghost use Rattle.seg_lexer.specs.Service.{IsUsable, service_of};
+ghost use Rattle.segment_records.specs.Messages.{mode_after};
+ghost use Rattle.segment_records.specs.Segments.{segments_of_text};
+ghost use Rattle.segment_walk.specs.Count.{segment_count_of};
+ghost use Rattle.segment_walk.specs.WalkedSegments.{Follows, LiesIn, seen_in};
+ghost use Rattle.kept_text.specs.Edit.{reading_with, text_with};
+ghost use Rattle.edi_octets.specs.declared.octets.TheConstants.{LONGEST_TEXT};
+
+use crate::read::read_text;
+use dir_compile::Directory;
+use edi_tables::Chunk;
+use piece_text::{Text, View};
+use seg_lexer::{Context, Service};
+use segment_records::{Mode, Record};
+use segment_walk::Segments;
+use seq_tree::Seq;
+use std::alloc::{AllocError, Global};
+use std::marker::Model;
+use std::sync::ledger::Ledger;
+use step_counter::Steps;
+
+/// A text that is read by a directory, seen as these two.
+///
+/// It keeps the text in pieces, and a record of each segment. Numbers, places and groups are worked out when they are asked
+/// for.
+#[derive(Drop)]
+pub struct KeptText<'d> {
+    directory: &'d Directory,
+    text: Text,
+    context: Context,
+    records: Seq<Record>,
+    // The mode before the first segment.
+    outside: Mode,
+}
+
+impl<'d> Model for KeptText<'d> {
+    ghost use Rattle.kept_text.specs.Reading.{Reading};
+
+    ghost Value = { Reading };
+
+    ghost use Rattle.kept_text.specs.Kept.{IsReading, reading};
+
+    ghost view = { reading };
+
+    ghost invariant = { IsReading };
+}
+
+impl<'d> KeptText<'d> {
+    /// Reads a text, which it keeps. Each call of the lexer and of the walk is counted. Only want of memory is an error.
+    pub fn read<L: Ledger, M: Ledger>(
+        alloc: Global,
+        directory: &'d Directory,
+        octets: Vec<u8>,
+        lexed: &mut Steps<L>,
+        placed: &mut Steps<M>,
+    ) -> Result<KeptText<'d>, AllocError>
+        requires { length octets.items ≤ LONGEST_TEXT }
+        ensures read { IfOk result
+            (λ kept. kept ≡ record { directory = directory.now; text = octets.items }) }
+        ensures lexed { lexed.new ≤ lexed.old + (segment_count_of octets.items + 2) }
+        ensures placed { placed.new ≤ placed.old + segment_count_of octets.items }
+    {
+        // What it keeps is of a directory.
+        let _parts = directory.parts();
+        let (context, records) = read_text(alloc, directory, &octets, lexed, placed)?;
+        let text = Text::of_vec(alloc, octets)?;
+        Ok(KeptText {
+            directory,
+            text,
+            context,
+            records: Seq::of_items(alloc, records)?,
+            outside: Mode::Outside,
+        })
+    }
+
+    /// Its text with octets put in place of the `cut` octets from place `at` on, read again as a whole. Each call of the lexer
+    /// and of the walk is counted. Only want of memory is an error.
+    pub fn edited<L: Ledger, M: Ledger>(
+        &self,
+        alloc: Global,
+        at: usize,
+        cut: usize,
+        put: &[u8],
+        lexed: &mut Steps<L>,
+        placed: &mut Steps<M>,
+    ) -> Result<KeptText<'d>, AllocError>
+        requires inside { at + cut ≤ length self.now.text }
+        requires short { length self.now.text - cut + length put.now ≤ LONGEST_TEXT }
+        ensures edited { IfOk result (λ kept. kept ≡ reading_with self.now at cut put.now) }
+        ensures lexed { lexed.new ≤ lexed.old
+            + (segment_count_of (text_with self.now.text at cut put.now) + 2) }
+        ensures placed { placed.new ≤ placed.old
+            + segment_count_of (text_with self.now.text at cut put.now) }
+    {
+        // What it keeps is of a directory.
+        let _parts = self.directory.parts();
+        let text = self.text.replace(alloc, at, cut, put)?;
+        let whole = text.copy(alloc)?;
+        let (context, records) = read_text(alloc, self.directory, whole.octets(), lexed, placed)?;
+        Ok(KeptText {
+            directory: self.directory,
+            text,
+            context,
+            records: Seq::of_items(alloc, records)?,
+            outside: Mode::Outside,
+        })
+    }
+
+    /// The directory that it checks by.
+    pub fn directory(&self) -> &'d Directory
+        ensures directory { result.now ≡ self.now.directory }
+        ensures lawful { IsDirectory self.now.directory }
+    {
+        self.directory
+    }
+
+    /// How many octets the text has.
+    pub fn text_len(&self) -> u64
+        ensures length { result ≡ length self.now.text }
+        ensures short { result ≤ LONGEST_TEXT }
+    {
+        self.text.len() as u64
+    }
+
+    /// How many segments it has.
+    pub fn segment_count(&self) -> u32
+        ensures { result ≡ segment_count_of self.now.text }
+    {
+        self.records.len() as u32
+    }
+
+    /// A copy of the text.
+    pub fn copy_text(&self, alloc: Global) -> Result<Chunk, AllocError>
+        ensures { IfOk result (λ octets. octets ≡ self.now.text) }
+    {
+        self.text.copy(alloc)
+    }
+
+    /// The mode after the first `k` segments.
+    pub fn state_after(&self, k: u32) -> &Mode
+        requires { k ≤ segment_count_of self.now.text }
+        ensures { result.now ≡ mode_after self.now.directory (segments_of_text self.now.text) k }
+    {
+        if k == 0 {
+            return &self.outside;
+        }
+        let Some(record) = self.records.iter_from(k as usize - 1).next() else {
+            unreachable!();
+        };
+        record.mode()
+    }
+
+    /// Its segments in order, each with its number and place, which are worked out of the records before it.
+    pub fn segments(&self) -> Segments<'_>
+        ensures segments { result ≡ seen_in self.now.directory self.now.text }
+        ensures follow { All (Follows self.now.directory) result }
+        ensures inside { All (LiesIn self.now.text) result }
+        ensures few { length result ≤ LONGEST_TEXT }
+        ensures lawful { IsDirectory self.now.directory }
+    {
+        Segments::of(
+            &self.records,
+            self.context.service.body as u32,
+            &self.outside,
+        )
+    }
+
+    /// The whole text.
+    pub fn whole(&self) -> View<'_>
+        ensures text { result ≡ self.now.text }
+        ensures short { length self.now.text ≤ LONGEST_TEXT }
+    {
+        self.text.view(0, self.text.len())
+    }
+
+    /// The service characters that its segments are read by.
+    pub fn service(&self) -> &Service
+        ensures service { result.now ≡ service_of self.now.text }
+        ensures usable { IsUsable result.now self.now.text }
+    {
+        &self.context.service
+    }
+
+    /// The context that its segments are read and checked by.
+    pub fn context(&self) -> &Context
+        ensures context { result.now ≡ context_of self.now.text }
+        ensures usable { IsUsable result.now.service self.now.text }
+    {
+        &self.context
+    }
+
+    /// The octet after the last segment, or where the first would begin.
+    pub fn last_boundary(&self) -> usize
+        ensures { result ≡ slice_index (boundaries_of (service_of self.now.text) self.now.text)
+            (length (ends_of (service_of self.now.text) self.now.text)) }
+    {
+        self.context.service.body + self.records.total() as usize
+    }
+}

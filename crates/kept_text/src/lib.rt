@@ -1,0 +1,9 @@
+//! A text kept with the records of its segments, by a directory, and its edits.
+#![tactic(auto)]
+
+mod kept;
+mod read;
+mod stretch;
+
+pub use kept::KeptText;
+pub use read::{read_records, read_text};

@@ -1,5 +1,6 @@
 pub mod Begun
 pub mod Edits
+mod Finds
 pub mod LastMode
 mod Places
 pub mod Readings

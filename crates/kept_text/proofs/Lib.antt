@@ -1,3 +1,4 @@
+mod Among
 pub mod Begun
 pub mod Edits
 mod Finds

@@ -5,4 +5,5 @@ mod Finds
 pub mod LastMode
 mod Places
 pub mod Readings
+mod RecordEnds
 pub mod StepLaws

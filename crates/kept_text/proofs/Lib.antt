@@ -2,6 +2,7 @@ mod Among
 pub mod Begun
 pub mod Edits
 mod Finds
+mod Fronts
 pub mod LastMode
 mod Places
 pub mod Readings

@@ -5,6 +5,7 @@ mod Finds
 mod Fronts
 pub mod LastMode
 mod Places
+mod Reached
 pub mod Readings
 mod RecordEnds
 pub mod StepLaws

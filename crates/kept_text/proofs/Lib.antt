@@ -3,6 +3,7 @@ pub mod Begun
 pub mod Edits
 mod Finds
 mod Fronts
+mod KeptEnds
 pub mod LastMode
 mod Places
 mod Reached

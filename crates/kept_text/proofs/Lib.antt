@@ -1,4 +1,5 @@
 mod Among
+mod Begins
 pub mod Begun
 pub mod Edits
 mod Finds

@@ -11,3 +11,4 @@ mod Reached
 pub mod Readings
 mod RecordEnds
 pub mod StepLaws
+mod Stops

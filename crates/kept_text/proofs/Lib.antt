@@ -6,9 +6,11 @@ mod Finds
 mod Fronts
 mod KeptEnds
 pub mod LastMode
+mod Modes
 mod Places
 mod Reached
 pub mod Readings
 mod RecordEnds
+mod Records
 pub mod StepLaws
 mod Stops

@@ -4,6 +4,7 @@ pub mod Begun
 pub mod Edits
 mod Finds
 mod Fronts
+mod Joined
 mod KeptEnds
 pub mod LastMode
 mod Modes
@@ -14,3 +15,4 @@ mod RecordEnds
 mod Records
 pub mod StepLaws
 mod Stops
+mod Taken

@@ -7,6 +7,7 @@ mod Fronts
 mod Joined
 mod KeptEnds
 pub mod LastMode
+mod Later
 mod Modes
 mod Places
 mod Reached

@@ -9,6 +9,7 @@ mod KeptEnds
 pub mod LastMode
 mod Later
 mod Modes
+mod PlacedAgain
 mod Places
 mod Reached
 pub mod Readings

@@ -1,6 +1,8 @@
 mod Among
 mod Begins
 pub mod Begun
+mod Bounded
+mod Edited
 pub mod Edits
 mod Finds
 mod Fronts
@@ -15,6 +17,7 @@ mod Reached
 pub mod Readings
 mod RecordEnds
 mod Records
+mod Rerunning
 pub mod StepLaws
 mod Stops
 mod Taken

@@ -21,3 +21,4 @@ mod Rerunning
 pub mod StepLaws
 mod Stops
 mod Taken
+mod Whole

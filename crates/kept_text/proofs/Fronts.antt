@@ -1,22 +1,18 @@
 -- What comes before the stretch of an edit: it is the same in the text and in the edited text.
-use Rattle.std.proofs.Common.{◌≡◌, ℕ, suc, ◌+◌, ◌<◌, ◌≤◌, List, [], ◌++◌, length, take, drop, Some, inl, inr, refl, sym, ap, ◌∙◌, arith}
+use Rattle.std.proofs.Common.{◌≡◌, ℕ, ◌+◌, ◌<◌, ◌≤◌, List, [], ◌++◌, length, take, drop, Some, inl, inr, refl, sym, ap, ◌∙◌, arith}
 use Rattle.std.specs.List.{slice_get}
 use Rattle.std.proofs.lemmas.Bool.{cases_lt}
-use Rattle.std.proofs.lemmas.Option.{slice_get_within}
-use Rattle.std.proofs.lemmas.List.{length-map, length-take-le, take-append-drop, take-append-le, take-take, take_at}
+use Rattle.std.proofs.lemmas.List.{length-take-le, take-append-drop, take-append-le, take-take}
 use Rattle.seg_lexer.specs.Segments.{boundaries_of, ends_of}
 use Rattle.seg_lexer.specs.Service.{IsUsable}
 use Rattle.seg_lexer.specs.Whole.{after_last}
 use Rattle.seg_lexer.specs.declared.service.Service.{Service}
 use Rattle.seg_lexer.proofs.EndsLemmas.{IsAscending-lower, below-none, ends-ascending, ends-before}
-use Rattle.seg_lexer.proofs.SegmentsLemmas.{boundary-at}
-use Rattle.seg_lexer.proofs.WholeLemmas.{whole-take}
 use Rattle.segment_records.specs.Segments.{segments_by}
-use Rattle.segment_records.proofs.BodyLaws.{segments_append}
-use Rattle.segment_walk.proofs.Rests.{length_segments}
 use Rattle.kept_text.specs.Edit.{Edit, edited}
 use Rattle.kept_text.specs.Stretch.{stretch_from}
-use Rattle.kept_text.proofs.Places.{below, below_start, start_at, start_within}
+use Rattle.kept_text.proofs.Places.{below, start_at, start_within}
+use Rattle.kept_text.proofs.Taken.{segments_taken}
 
 -- how many segments end before an edit's place
 abbrev pub segments_kept : Service → List ℕ → Edit → ℕ
@@ -36,36 +32,6 @@ module _ (s : Service) (text : List ℕ) (place : ℕ) where
       ap (λ (xs : List ℕ). below place (ends_of s xs)) (sym whole)
       ∙ ap (λ (n : ℕ). below n (ends_of s (front ++ rest))) (sym long)
       ∙ ends-before s front rest (omega arith)
-
--- the segments before a boundary are those of the octets before it
-module _ (s : Service) (text : List ℕ) (usable : IsUsable s text) (k from : ℕ)
-    (at : slice_get (boundaries_of s text) k ≡ Some from) where
-  pub ends_taken : below from (ends_of s text) ≡ take k (ends_of s text)
-  unfolding boundaries_of
-  ends_taken = below_start s.body (ends_of s text) k from (ends-ascending s text usable.body) at
-
-  few_before : k ≤ length (ends_of s text)
-  unfolding boundaries_of
-  few_before =
-      let within : k < length (boundaries_of s text) = slice_get_within (boundaries_of s text) k from at in
-      let count : length (boundaries_of s text) ≡ suc (length (ends_of s text)) =
-      ap (λ (n : ℕ). suc n) (length-map (ends_of s text) (λ (e : ℕ). e + 1)) in
-      omega arith
-
-  pub segments_taken : take k (segments_by s text) ≡ segments_by s (take from text)
-  segments_taken =
-      let front : List ℕ = take from text in
-      let bounds = boundary-at s text usable k from at in
-      let low = bounds.low in
-      let long : length front ≡ from = length-take-le from text bounds.high in
-      let ends : take k (ends_of s text) ≡ ends_of s front =
-      sym ends_taken
-      ∙ below_body_front s text from front (drop from text) (take-append-drop from text) long low in
-      let count : length (segments_by s front) ≡ k =
-      length_segments s front ∙ ap length (sym ends) ∙ length-take-le k (ends_of s text) few_before in
-      ap (λ (xs : List ℕ). take k (segments_by s xs)) (sym (take-append-drop from text))
-      ∙ ap (take k) (segments_append s front (drop from text) (whole-take s text usable from (k, at)))
-      ∙ take_at (segments_by s front) _ k count
 
 module _ (s : Service) (text : List ℕ) (edit : Edit) (within : edit.at + edit.cut ≤ length text)
     (usable : IsUsable s text) (usable_too : IsUsable s (edited text edit)) where

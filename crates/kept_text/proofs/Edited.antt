@@ -35,9 +35,7 @@ ascend s text usable i m x y less one other =
     starts_ascend s.body (ends_of s text) i m x y (ends-ascending s text usable.body) less one other
 
 module _ (text : List ℕ) (edit : Edit) (service : service_of (edited text edit) ≡ service_of text) where
-  usable : IsUsable (service_of text) text
-  usable = service_of-usable text
-
+  -- the edited text can be read by the same service characters
   pub usable_too : IsUsable (service_of text) (edited text edit)
   usable_too = subst (λ (s : Service). IsUsable s (edited text edit)) service (service_of-usable (edited text edit))
 

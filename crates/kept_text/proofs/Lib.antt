@@ -10,6 +10,7 @@ mod Joined
 mod KeptEnds
 pub mod LastMode
 mod Later
+pub mod Locating
 mod Modes
 mod PlacedAgain
 mod Places
@@ -20,5 +21,6 @@ mod Records
 mod Rerunning
 pub mod StepLaws
 mod Stops
+pub mod StretchRead
 mod Taken
 mod Whole

@@ -79,7 +79,7 @@ pub fn read_records<O: Octets, L: Ledger, M: Ledger>(
 }
 
 // The mode after the last of these records, or where there is none, the one before.
-fn mode_after<'a>(before: &'a Mode, records: &'a [Record]) -> &'a Mode
+pub(crate) fn mode_after<'a>(before: &'a Mode, records: &'a [Record]) -> &'a Mode
     ensures { result.now ≡ option_map_or (λ kept. kept.step.after)
         (slice_get records.now (length records.now - 1)) before.now }
 {

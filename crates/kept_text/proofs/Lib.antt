@@ -12,8 +12,10 @@ pub mod LastMode
 mod Later
 pub mod Locating
 mod Modes
+mod ModesTaken
 mod PlacedAgain
 mod Places
+mod PlacingAgain
 mod Reached
 pub mod Readings
 mod RecordEnds

@@ -1,5 +1,5 @@
 -- For bodies and their invariants: where the records of a text end, and which of them are placed again.
-use Rattle.std.specs.Prelude.{◌≡◌, ◌+◌, ◌-◌, ◌<◌, ◌≤◌, ◌⊎◌, ℕ, true, false, List, [], ◌∷◌, length, slice_get, take, Option, Some, None}
+use Rattle.std.specs.Prelude.{◌≡◌, ◌+◌, ◌-◌, ◌<◌, ◌≤◌, ◌⊎◌, ℕ, true, false, List, [], ◌∷◌, length, slice_get, take, drop, Option, Some, None}
 use Rattle.std.specs.Option.{ForSome, option_map_or}
 use Rattle.dir_compile.specs.Directory.{Directory}
 use Rattle.segment_records.specs.Records.{Kept}
@@ -25,6 +25,7 @@ abbrev pub NoneBefore : List Kept → ℕ → Span → List ℕ → ℕ × ℕ �
 NoneBefore kept body span ends p =
     (i end j : ℕ) → p.0 ≤ i → i < p.1 → slice_get ends i ≡ Some end → IsEndOf kept body span end j → ⊥
 
+-- one where there is a number
 abbrev pub one_where_some : Option ℕ → ℕ
 one_where_some None = 0
 one_where_some (Some j) = 1
@@ -40,3 +41,14 @@ placed_from dir before (kept ∷ more) =
 abbrev pub StaysAfter : Mode → List Kept → ℕ → Type 0
 StaysAfter mode old q =
     (mode ≡ last_mode mode (take q old)) ⊎ ForSome (slice_get old q) (λ kept. bounds_message kept.tag ≡ true)
+
+-- p records from a number on bound no message
+abbrev pub AreInner : List Kept → ℕ → ℕ → Type 0
+AreInner old next p =
+    (i : ℕ) (kept : Kept) → i < p → slice_get old (next + i) ≡ Some kept → bounds_message kept.tag ≡ false
+
+-- before each of p records from a number on, placed again after another mode, the mode isn't what it was
+abbrev pub AreOthers : Directory → Mode → List Kept → ℕ → ℕ → Type 0
+AreOthers dir mode old next p =
+    (i : ℕ) → i < p
+    → last_mode mode (placed_from dir mode (take i (drop next old))) ≡ last_mode mode (take (next + i) old) → ⊥

@@ -12,6 +12,7 @@ ghost use Rattle.kept_text.specs.Edit.{reading_with, text_with};
 ghost use Rattle.edi_octets.specs.declared.octets.TheConstants.{LONGEST_TEXT};
 
 use crate::read::read_text;
+use crate::rerun::mode_after_first;
 use dir_compile::Directory;
 use edi_tables::Chunk;
 use piece_text::{Text, View};
@@ -146,13 +147,7 @@ impl<'d> KeptText<'d> {
         requires { k ≤ segment_count_of self.now.text }
         ensures { result.now ≡ mode_after self.now.directory (segments_of_text self.now.text) k }
     {
-        if k == 0 {
-            return &self.outside;
-        }
-        let Some(record) = self.records.iter_from(k as usize - 1).next() else {
-            unreachable!();
-        };
-        record.mode()
+        mode_after_first(&self.outside, &self.records, k as usize)
     }
 
     /// Its segments in order, each with its number and place, which are worked out of the records before it.

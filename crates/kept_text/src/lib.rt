@@ -3,6 +3,7 @@
 
 mod kept;
 mod read;
+mod rerun;
 mod stretch;
 
 pub use kept::KeptText;

@@ -78,7 +78,7 @@ pub fn read_records<O: Octets, L: Ledger, M: Ledger>(
     Ok(records)
 }
 
-// The mode after the last of these records, or where there is none, the one before.
+/// The mode after the last of these records, or where there is none, the one before.
 pub(crate) fn mode_after<'a>(before: &'a Mode, records: &'a [Record]) -> &'a Mode
     ensures { result.now ≡ option_map_or (λ kept. kept.step.after)
         (slice_get records.now (length records.now - 1)) before.now }

@@ -16,7 +16,7 @@ use Rattle.segment_records.proofs.ModeLaws.{length_kept}
 use Rattle.segment_walk.specs.WalkedSegments.{kept_in, octets_in}
 use Rattle.segment_walk.proofs.Rests.{length_segments}
 use Rattle.kept_text.specs.Again.{IsEndOf}
-use Rattle.kept_text.specs.Edit.{Edit, edited}
+use Rattle.kept_text.specs.Edit.{Edit}
 use Rattle.kept_text.specs.Stretch.{ends_moved, is_among}
 use Rattle.kept_text.specs.declared.stretch.Span.{Span}
 use Rattle.kept_text.proofs.Among.{among_no, among_yes}

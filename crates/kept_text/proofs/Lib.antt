@@ -2,6 +2,8 @@ mod Among
 mod Begins
 pub mod Begun
 mod Bounded
+mod Changing
+mod ChangingReading
 mod Edited
 pub mod Edits
 mod Finds
@@ -21,6 +23,7 @@ pub mod Readings
 mod RecordEnds
 mod Records
 mod Rerunning
+mod RestCounts
 pub mod StepLaws
 mod Stops
 pub mod StretchRead

@@ -1,4 +1,5 @@
 pub mod Again
+pub mod Change
 pub mod Edit
 pub mod Kept
 pub mod Reading

@@ -7,16 +7,21 @@ ghost use Rattle.seg_lexer.specs.Service.{IsUsable, service_of};
 ghost use Rattle.segment_records.specs.Messages.{mode_after};
 ghost use Rattle.segment_records.specs.Segments.{segments_of_text};
 ghost use Rattle.segment_walk.specs.Count.{segment_count_of};
-ghost use Rattle.segment_walk.specs.WalkedSegments.{Follows, LiesIn, seen_in};
-ghost use Rattle.kept_text.specs.Edit.{reading_with, text_with};
+ghost use Rattle.segment_walk.specs.WalkedSegments.{Follows, LiesIn, kept_in, seen_in};
+ghost use Rattle.kept_text.specs.Change.{changed_by};
+ghost use Rattle.kept_text.specs.Edit.{Edit, edited, reading_with, text_with};
+ghost use Rattle.kept_text.specs.Rerun.{IsRerunBounded, rerun_of};
+ghost use Rattle.kept_text.specs.Stretch.{reach_of};
 ghost use Rattle.edi_octets.specs.declared.octets.TheConstants.{LONGEST_TEXT};
 
-use crate::read::read_text;
-use crate::rerun::mode_after_first;
+use crate::change::Change;
+use crate::read::{mode_after, read_body, read_text};
+use crate::rerun::{Rerun, mode_after_first, place_again};
+use crate::stretch::{Span, Stretch, read_stretch, stretch_start};
 use dir_compile::Directory;
 use edi_tables::Chunk;
 use piece_text::{Text, View};
-use seg_lexer::{Context, Service};
+use seg_lexer::{Context, Service, read_context};
 use segment_records::{Mode, Record};
 use segment_walk::Segments;
 use seq_tree::Seq;
@@ -79,8 +84,9 @@ impl<'d> KeptText<'d> {
         })
     }
 
-    /// Its text with octets put in place of the `cut` octets from place `at` on, read again as a whole. Each call of the lexer
-    /// and of the walk is counted. Only want of memory is an error.
+    /// Its text with octets put in place of the `cut` octets from place `at` on. Where the context of the text stays, only the
+    /// stretch of the edit is read again, and only its rerun is placed again. Each call of the lexer and of the walk is
+    /// counted. Only want of memory is an error.
     pub fn edited<L: Ledger, M: Ledger>(
         &self,
         alloc: Global,
@@ -97,18 +103,130 @@ impl<'d> KeptText<'d> {
             + (segment_count_of (text_with self.now.text at cut put.now) + 2) }
         ensures placed { placed.new ≤ placed.old
             + segment_count_of (text_with self.now.text at cut put.now) }
+        // Where the context stays, only the stretch is read again, and only the rerun is placed again.
+        ensures reach { let edit : Edit = record { at = at; cut = cut; put = put.now } in
+            context_of (edited self.now.text edit) ≡ context_of self.now.text
+            → IfOk result (λ _. lexed.new ≤ lexed.old + (reach_of self.now.text edit + 1)) }
+        ensures rerun { let edit : Edit = record { at = at; cut = cut; put = put.now } in
+            context_of (edited self.now.text edit) ≡ context_of self.now.text
+            → IfOk result (λ _. placed.new ≤ placed.old
+            + rerun_of self.now.directory self.now.text edit) }
+        ensures bounded { let edit : Edit = record { at = at; cut = cut; put = put.now } in
+            context_of (edited self.now.text edit) ≡ context_of self.now.text
+            → IsRerunBounded self.now.directory self.now.text edit }
     {
         // What it keeps is of a directory.
         let _parts = self.directory.parts();
         let text = self.text.replace(alloc, at, cut, put)?;
-        let whole = text.copy(alloc)?;
-        let (context, records) = read_text(alloc, self.directory, whole.octets(), lexed, placed)?;
+        let context = read_context(&whole_of(&text), lexed);
+        let records = self.edited_records(alloc, &text, &context, at, cut, put, lexed, placed)?;
         Ok(KeptText {
             directory: self.directory,
             text,
             context,
-            records: Seq::of_items(alloc, records)?,
+            records,
             outside: Mode::Outside,
+        })
+    }
+
+    // The records of the text as edited, with its context.
+    fn edited_records<L: Ledger, M: Ledger>(
+        &self,
+        alloc: Global,
+        text: &Text,
+        context: &Context,
+        at: usize,
+        cut: usize,
+        put: &[u8],
+        lexed: &mut Steps<L>,
+        placed: &mut Steps<M>,
+    ) -> Result<Seq<Record>, AllocError>
+        requires inside { at + cut ≤ length self.now.text }
+        requires text { text.now ≡ text_with self.now.text at cut put.now }
+        requires short { length text.now ≤ LONGEST_TEXT }
+        requires context { context.now ≡ context_of text.now }
+        ensures records { IfOk result (λ records. records ≡ kept_in self.now.directory text.now) }
+        ensures lexed { lexed.new ≤ lexed.old + (segment_count_of text.now + 1) }
+        ensures placed { placed.new ≤ placed.old + segment_count_of text.now }
+        ensures reach { context_of text.now ≡ context_of self.now.text
+            → IfOk result (λ _. lexed.new ≤ lexed.old
+            + reach_of self.now.text (record { at = at; cut = cut; put = put.now })) }
+        ensures rerun { context_of text.now ≡ context_of self.now.text
+            → IfOk result (λ _. placed.new ≤ placed.old
+            + rerun_of self.now.directory self.now.text
+            (record { at = at; cut = cut; put = put.now })) }
+    {
+        if *context != self.context {
+            return read_whole(alloc, self.directory, context, text, lexed, placed);
+        }
+        let change = self.change(alloc, text, at, cut, put, lexed, placed)?;
+        change.apply(alloc, &self.records)
+    }
+
+    // What an edit that leaves the context puts in place of records: those of its stretch, read in the text as edited, and those
+    // of its rerun.
+    fn change<L: Ledger, M: Ledger>(
+        &self,
+        alloc: Global,
+        text: &Text,
+        at: usize,
+        cut: usize,
+        put: &[u8],
+        lexed: &mut Steps<L>,
+        placed: &mut Steps<M>,
+    ) -> Result<Change, AllocError>
+        requires inside { at + cut ≤ length self.now.text }
+        requires text { text.now ≡ text_with self.now.text at cut put.now }
+        requires short { length text.now ≤ LONGEST_TEXT }
+        requires context { context_of text.now ≡ context_of self.now.text }
+        ensures in_order { IfOk result (λ change. change.first ≤ change.next) }
+        ensures within { IfOk result
+            (λ change. change.next ≤ length (kept_in self.now.directory self.now.text)) }
+        ensures records { IfOk result
+            (λ change. changed_by change (kept_in self.now.directory self.now.text)
+            ≡ kept_in self.now.directory text.now) }
+        ensures lexed { lexed.new ≤ lexed.old + (segment_count_of text.now + 1) }
+        ensures placed { placed.new ≤ placed.old + segment_count_of text.now }
+        ensures reach { IfOk result (λ _. lexed.new ≤ lexed.old
+            + reach_of self.now.text (record { at = at; cut = cut; put = put.now })) }
+        ensures rerun { IfOk result (λ _. placed.new ≤ placed.old
+            + rerun_of self.now.directory self.now.text
+            (record { at = at; cut = cut; put = put.now })) }
+    {
+        let (directory, context, old) = (self.directory, &self.context, &self.records);
+        let span = Span {
+            at,
+            cut,
+            put: put.len(),
+        };
+        let (first, from) = stretch_start(old, context.service.body, at);
+        let before = mode_after_first(&self.outside, old, first);
+        let whole = whole_of(text);
+        let Stretch {
+            records: read,
+            to,
+            next,
+        } = read_stretch(
+            alloc, directory, context, before, &whole, from, old, span, lexed, placed,
+        )?;
+        let Some(next) = next else {
+            return Ok(Change {
+                first,
+                next: old.len(),
+                read,
+                again: Vec::new(alloc),
+            });
+        };
+        let last = mode_after(before, &read);
+        let Rerun {
+            records: again,
+            next,
+        } = place_again(alloc, directory, last, old, next, to, placed)?;
+        Ok(Change {
+            first,
+            next,
+            read,
+            again,
         })
     }
 
@@ -170,7 +288,7 @@ impl<'d> KeptText<'d> {
         ensures text { result ≡ self.now.text }
         ensures short { length self.now.text ≤ LONGEST_TEXT }
     {
-        self.text.view(0, self.text.len())
+        whole_of(&self.text)
     }
 
     /// The service characters that its segments are read by.
@@ -196,4 +314,31 @@ impl<'d> KeptText<'d> {
     {
         self.context.service.body + self.records.total() as usize
     }
+}
+
+// All octets of a text.
+fn whole_of(text: &Text) -> View<'_>
+    ensures { result ≡ text.now }
+{
+    text.view(0, text.len())
+}
+
+// The records of a whole text with this context. It is copied first: octets in one piece are read faster.
+fn read_whole<L: Ledger, M: Ledger>(
+    alloc: Global,
+    directory: &Directory,
+    context: &Context,
+    text: &Text,
+    lexed: &mut Steps<L>,
+    placed: &mut Steps<M>,
+) -> Result<Seq<Record>, AllocError>
+    requires short { length text.now ≤ LONGEST_TEXT }
+    requires context { context.now ≡ context_of text.now }
+    ensures records { IfOk result (λ records. records ≡ kept_in directory.now text.now) }
+    ensures lexed { lexed.new ≤ lexed.old + (segment_count_of text.now + 1) }
+    ensures placed { placed.new ≤ placed.old + segment_count_of text.now }
+{
+    let whole = text.copy(alloc)?;
+    let records = read_body(alloc, directory, context, whole.octets(), lexed, placed)?;
+    Seq::of_items(alloc, records)
 }

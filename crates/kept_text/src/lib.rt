@@ -1,6 +1,7 @@
 //! A text kept with the records of its segments, by a directory, and its edits.
 #![tactic(auto)]
 
+mod change;
 mod kept;
 mod read;
 mod rerun;

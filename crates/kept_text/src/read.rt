@@ -104,12 +104,31 @@ pub fn read_text<L: Ledger, M: Ledger>(
     ensures lexed { lexed.new ≤ lexed.old + (segment_count_of octets.now + 2) }
     ensures placed { placed.new ≤ placed.old + segment_count_of octets.now }
 {
-    let text = Flat { octets };
-    let context = read_context(&text, lexed);
-    let body = context.service.body;
-    let before = Mode::Outside;
-    let records = read_records(
-        alloc, directory, &context, &before, &text, body, lexed, placed,
-    )?;
+    let context = read_context(&Flat { octets }, lexed);
+    let records = read_body(alloc, directory, &context, octets, lexed, placed)?;
     Ok((context, records))
+}
+
+/// The records of all segments of a text with this context. Each call of the lexer and of the walk is counted. Only want of
+/// memory is an error.
+pub(crate) fn read_body<L: Ledger, M: Ledger>(
+    alloc: Global,
+    directory: &Directory,
+    context: &Context,
+    octets: &[u8],
+    lexed: &mut Steps<L>,
+    placed: &mut Steps<M>,
+) -> Result<Vec<Record>, AllocError>
+    requires short { length octets.now ≤ LONGEST_TEXT }
+    requires context { context.now ≡ context_of octets.now }
+    ensures records { IfOk result (λ records. records.items ≡ kept_in directory.now octets.now) }
+    ensures lexed { lexed.new ≤ lexed.old + (segment_count_of octets.now + 1) }
+    ensures placed { placed.new ≤ placed.old + segment_count_of octets.now }
+{
+    let text = Flat { octets };
+    let before = Mode::Outside;
+    let body = context.service.body;
+    read_records(
+        alloc, directory, context, &before, &text, body, lexed, placed,
+    )
 }

@@ -29,3 +29,4 @@ mod Stops
 pub mod StretchRead
 mod Taken
 mod Whole
+mod Worked

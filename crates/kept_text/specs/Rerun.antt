@@ -1,5 +1,5 @@
--- The rerun of an edit: the segments that are placed again, up to where the mode is what it was before the edit. It is used
--- where the two texts have the same context.
+-- The rerun of an edit: the segments that are placed again, up to where the mode is what it was before the edit. It is
+-- used where the two texts have the same context.
 use Rattle.std.specs.Prelude.{◌≡◌, ℕ, ◌+◌, ◌-◌, ◌≤◌, ◌==◌, ◌&&◌, nat_le, Bool, true, false, [], ◌∷◌, length, slice_get, Some, unwrap_or, codes}
 use Rattle.std.specs.Cmp.Lexicographic.{pointwise}
 use Rattle.std.specs.List.{find, list_any}
@@ -59,5 +59,6 @@ IsRerunBounded dir text edit =
     let s = service_of text in
     let new = edited text edit in
     let past = segments_before s new (stretch_to s text edit) in
-    (i : ℕ) (segment : Segment) → slice_get (segments_of_text new) (past + i) ≡ Some segment → bounds_extent segment ≡ true
+    (i : ℕ) (segment : Segment) → slice_get (segments_of_text new) (past + i) ≡ Some segment
+    → bounds_extent segment ≡ true
     → rerun_of dir text edit ≤ past + i + 1 - segments_before s new (stretch_from s text edit)

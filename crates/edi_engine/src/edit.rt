@@ -1,8 +1,11 @@
 //! Edits of the text of an engine.
-ghost use Rattle.std.specs.Prelude.{◌≡◌, ◌+◌, ◌≤◌, ◌⊎◌, None};
+ghost use Rattle.std.specs.Prelude.{◌≡◌, ◌+◌, ◌≤◌, ◌⊎◌, IfOk, None};
+ghost use Rattle.seg_lexer.specs.Context.{context_of};
 ghost use Rattle.segment_walk.specs.Count.{segment_count_of};
 ghost use Rattle.edi_engine.specs.Edit.{IsEdit, stop_by, stop_of};
-ghost use Rattle.kept_text.specs.Edit.{reading_with, text_with};
+ghost use Rattle.kept_text.specs.Edit.{Edit, edited, reading_with, text_with};
+ghost use Rattle.kept_text.specs.Rerun.{IsRerunBounded, rerun_of};
+ghost use Rattle.kept_text.specs.Stretch.{reach_of};
 
 use crate::Engine;
 use edi_octets::LONGEST_TEXT;
@@ -34,8 +37,10 @@ impl From<AllocError> for EditStop {
 }
 
 impl<'d> Engine<'d> {
-    /// Puts octets in place of the `cut` octets of the text from place `at` on, and answers its new length. The whole text is
-    /// read again; each call of the lexer and of the walk is counted. After an error all is as it was.
+    /// Puts octets in place of the `cut` octets of the text from place `at` on, and answers its new length. Where the context of
+    /// the text stays, the segments that the edit touches are read again, and later ones are placed again up to the first mode
+    /// that is what it was; else the whole text is read again. Each call of the lexer and of the walk is counted. After an error
+    /// all is as it was.
     pub fn replace<L: Ledger, M: Ledger>(
         &mut self,
         alloc: Global,
@@ -51,6 +56,17 @@ impl<'d> Engine<'d> {
             + (segment_count_of (text_with self.old.text at cut put.now) + 2) }
         ensures placed { placed.new ≤ placed.old
             + segment_count_of (text_with self.old.text at cut put.now) }
+        // Where the context stays, the lexer is called for the stretch of the edit and for the context, and the walk for its rerun.
+        ensures reach { let edit : Edit = record { at = at; cut = cut; put = put.now } in
+            context_of (edited self.old.text edit) ≡ context_of self.old.text
+            → IfOk result (λ _. lexed.new ≤ lexed.old + (reach_of self.old.text edit + 1)) }
+        ensures rerun { let edit : Edit = record { at = at; cut = cut; put = put.now } in
+            context_of (edited self.old.text edit) ≡ context_of self.old.text
+            → IfOk result (λ _. placed.new ≤ placed.old
+            + rerun_of self.old.directory self.old.text edit) }
+        ensures bounded { let edit : Edit = record { at = at; cut = cut; put = put.now } in
+            context_of (edited self.old.text edit) ≡ context_of self.old.text
+            → IfOk result (λ _. IsRerunBounded self.old.directory self.old.text edit) }
         ensures unread { (stop_of self.old.text at cut put.now ≡ None)
             ⊎ ((lexed.new ≡ lexed.old) × (placed.new ≡ placed.old)) }
     {

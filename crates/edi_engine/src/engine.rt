@@ -23,12 +23,12 @@ use contrl_writer::{Contrl, Stamp, Summary};
 use dir_compile::Directory;
 use edi_tables::Chunk;
 use error_ledger::{ErrorLine, TreeLine};
+use kept_text::KeptText;
 use segment_records::Mode;
 use std::alloc::{AllocError, Global};
 use std::marker::{Brand, Model};
 use std::sync::ledger::{Blank, Ledger};
 use step_counter::Steps;
-use kept_text::KeptText;
 
 /// The reading of a text by a directory, seen as these two.
 #[derive(Drop)]

@@ -17,9 +17,9 @@ use crate::opening::{put_advice, put_syntax, put_tail};
 use crate::structure::put_structure;
 use envelope_check::envelope_errors;
 use error_ledger::{ErrorLine, order_errors};
+use kept_text::KeptText;
 use segment_walk::WalkedSegment;
 use std::alloc::{AllocError, Global};
-use kept_text::KeptText;
 
 /// Puts the local errors of a segment. Only want of memory is an error.
 pub(crate) fn put_local(

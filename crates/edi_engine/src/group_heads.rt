@@ -12,11 +12,11 @@ use crate::parties::copy_party;
 use contrl_segments::GroupHead;
 use edi_octets::Octets;
 use edi_tables::{Chunk, Tag};
+use kept_text::KeptText;
 use seg_lexer::Service;
 use segment_records::{copy_value, is_named, is_no_part};
 use segment_walk::WalkedSegment;
 use std::alloc::{AllocError, Global};
-use kept_text::KeptText;
 
 /// Puts the functional group that is open, if there is one, with its last segment, by its number from 1. Only want of memory is
 /// an error.

@@ -11,11 +11,11 @@ ghost use Rattle.edi_octets.specs.declared.octets.TheConstants.{LONGEST_TEXT};
 use edi_octets::Octets;
 use edi_tables::Chunk;
 use envelope_check::{Head, HeadKind, SegmentMark};
+use kept_text::KeptText;
 use seg_lexer::{Fields, Service};
 use segment_records::{copy_two, copy_value};
 use segment_walk::WalkedSegment;
 use std::alloc::{AllocError, Global};
-use kept_text::KeptText;
 
 /// A segment as a head of this kind, with the values that its kind gives. They are read from its text, by the service
 /// characters of the text. Only want of memory is an error.

@@ -17,6 +17,6 @@ mod tree;
 
 pub use edit::EditStop;
 pub use engine::Engine;
+pub use kept_text::read_records;
 pub use segment_records::Mode;
-pub use segment_walk::read_records;
 pub use tree::PrintedTree;

@@ -12,11 +12,11 @@ use crate::group_heads::{last_by, stops_group};
 use contrl_segments::MessageHead;
 use edi_octets::Octets;
 use edi_tables::Tag;
+use kept_text::KeptText;
 use seg_lexer::Service;
 use segment_records::{copy_value, is_named};
 use segment_walk::WalkedSegment;
 use std::alloc::{AllocError, Global};
-use kept_text::KeptText;
 
 /// Puts the message that is open, if there is one, with its last segment, by its number from 1. Only want of memory is an error.
 pub(crate) fn put_message(

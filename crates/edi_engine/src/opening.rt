@@ -24,13 +24,13 @@ use contrl_segments::{Opening, Party};
 use edi_octets::Octets;
 use envelope_check::SegmentMark;
 use error_ledger::{ErrorLine, Kind};
+use kept_text::KeptText;
 use seg_lexer::{Context, Fields, Service, Value};
 use segment_records::{copy_value, is_named};
 use segment_walk::{WalkedSegment, error_with};
 use std::alloc::{AllocError, Global};
 use std::marker::Brand;
 use std::sync::ledger::Blank;
-use kept_text::KeptText;
 
 // The levels and the versions of the syntax.
 const LEVELS: [&[u8]; 6] = [b"UNOA", b"UNOB", b"UNOC", b"UNOD", b"UNOE", b"UNOF"];

@@ -13,9 +13,9 @@ use crate::message_heads::messages_of;
 use crate::opening::read_opening;
 use contrl_writer::{Contrl, Opening, Stamp, Summary, write_contrl};
 use edi_tables::List;
+use kept_text::KeptText;
 use segment_records::is_named;
 use std::alloc::{AllocError, Global};
-use kept_text::KeptText;
 
 /// How the interchange is opened, its functional groups and messages, and its errors. Only want of memory is an error.
 #[tactic(auto, unfolding(text_reading::specs::Summary::summary_of))]

@@ -14,9 +14,9 @@ use crate::places::{find_place, number_groups};
 use dir_compile::Directory;
 use edi_tables::{Chunk, List};
 use error_ledger::{TreeLine, put_tree_line};
+use kept_text::KeptText;
 use segment_walk::WalkedSegment;
 use std::alloc::{AllocError, Global};
-use kept_text::KeptText;
 
 /// Room for the lines of a segment: most have 8 to 20 octets, and some open a group, which is a line more.
 const SEGMENT_ROOM: usize = 24;

@@ -6,7 +6,7 @@ from . import random_directories, random_texts
 from .acknowledgement import acknowledgement_of
 from .directory import Directory, load
 from .interchange import Reading
-from .random_texts import edit
+from .random_edits import aimed_edit
 from .store import write_store
 from .text import TEXT_LIMIT
 
@@ -219,7 +219,7 @@ def text_after(line, text):
 def command(rng, text):
     roll = rng.random()
     if roll < 0.55:
-        at, cut, put = edit(rng, text)
+        at, cut, put = aimed_edit(rng, text)
         return b"replace %d %d %d\n%s\n" % (at, cut, len(put), put)
     if roll < 0.6:
         at, cut = rng.choice([(len(text), 1), (len(text) + 1, 0), (0, len(text) + 1), (9999999999999999999, 1),

@@ -1,6 +1,7 @@
 """Prints an interchange of usual orders, of almost 4 MiB and 15 segments a message.
-usage: orders.py EVERY [different]
+usage: orders.py EVERY [different] [MESSAGES]
 One quantity in every so many messages is broken; 0: none is. `different`: no segment but UNS is spelled like another one.
+MESSAGES: so many messages at most.
 """
 import sys
 
@@ -26,13 +27,19 @@ def message(number, broken, different):
     return b"UNH+%d+TSTORD:D:96A:UN'%sUNT+%d+%d'" % (number, body, count, number)
 
 
-def interchange(every, different):
+def interchange(every, different=False, most=LIMIT):
     parts, size, number = [OPENING], len(OPENING), 0
-    while size < LIMIT - 400:
+    while size < LIMIT - 400 and number < most:
         number += 1
         parts.append(message(number, every and number % every == 0, different))
         size += len(parts[-1])
     return b"".join(parts) + b"UNZ+%d+R1'" % number
 
 
-sys.stdout.buffer.write(interchange(int(sys.argv[1]), "different" in sys.argv[2:]))
+def main(words):
+    most = [int(word) for word in words[1:] if word != "different"]
+    sys.stdout.buffer.write(interchange(int(words[0]), "different" in words[1:], *most))
+
+
+if __name__ == "__main__":
+    main(sys.argv[1:])

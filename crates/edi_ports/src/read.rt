@@ -7,8 +7,11 @@ use crate::{Shelf, Source, Taken};
 use std::alloc::{AllocError, Global};
 use thiserror::Error;
 
-// So many octets are asked for at a time.
+// So many octets of a source are asked for at a time.
 const BUFFER: usize = 65536;
+
+// So many octets of a file: most files are shorter, and a buffer is cleared for each.
+const FILE_BUFFER: usize = 16384;
 
 /// Why a source was not read to its end.
 #[derive(Clone, Copy, Debug, PartialEq, Eq, Error)]
@@ -57,7 +60,7 @@ pub fn read_file<S: Shelf>(alloc: Global, shelf: &mut S, limit: usize) -> Result
     ensures fair { IsFair S.faults S.is_steady shelf.old shelf.new (IsErrOf result ReadStop.Fault) }
 {
     let mut octets = Vec::new(alloc);
-    let mut buffer = [0u8; BUFFER];
+    let mut buffer = [0u8; FILE_BUFFER];
     loop {
         match shelf.take(&mut buffer) {
             Taken::Got(n) => gather(&mut octets, &buffer[..n], limit)?,

@@ -1,4 +1,4 @@
-//! Tests of public calls of the program: scripts, a drill, and runs over objects that fail.
+//! Tests of public calls of the program: scripts, a drill, runs over objects that fail, and large texts.
 //!
 //! They stand in a crate of their own, over the proved libraries: a crate with tests in it is proved twice.
 #![tactic(auto)]
@@ -9,3 +9,9 @@ mod drill_printer_calls;
 mod edicheck_core_calls;
 #[cfg(test)]
 mod edit_script_calls;
+#[cfg(test)]
+mod large_texts;
+#[cfg(test)]
+mod objects;
+#[cfg(test)]
+mod script_faults;

@@ -4,7 +4,7 @@
 # The cases are those of the last lines of this file.
 # These variables may be set:
 #   spread     edits spread over a text of 4 MiB (100,000)
-#   released   edits at the release characters of a text that has little else (100,000)
+#   released   edits at the release characters of two texts that have little else (100,000)
 #   pieces     edits that each add a piece (40,000)
 #   limit      a run that takes more seconds of the processor is ended (600)
 # Under `ulimit -v`, a run that takes more memory ends with status 8.
@@ -146,11 +146,13 @@ def edits():
     text = usual()
     script = b"".join(b"replace %d 1 1\nA\n" % place(number, len(text)) for number in range(int(spread)))
     measure("spread edits", "edit", "m", "usual", given=script + b"end\n")
-    text = b"?" * (MOST - 4) + b"'"
-    write("t", text)
+    # Each of these edits changes how many release characters there are before a terminator.
     both = b"replace %d 0 1\n?\nreplace %d 1 0\n\n"
-    script = b"".join(both % (2 * (place(number, len(text)),)) for number in range(int(released) // 2))
-    measure("released edits", "edit", "m", "t", given=script + b"end\n")
+    one, short = b"?" * (MOST - 4) + b"'", (b"?" * 62 + b"'") * (MOST // 64)
+    for case, text in (("one segment", one), ("short segments", short)):
+        write("t", text)
+        script = b"".join(both % (2 * (place(number, len(text)),)) for number in range(int(released) // 2))
+        measure(case, "edit", "m", "t", given=script + b"end\n")
 
 
 def added():

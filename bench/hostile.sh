@@ -7,7 +7,7 @@
 #   released   edits at the release characters of two texts that have little else (100,000)
 #   pieces     edits that each add a piece (40,000)
 #   limit      a run that takes more seconds of the processor is ended (600)
-# Under `ulimit -v`, a run that takes more memory ends with status 8.
+#   memory     a run that asks for more MiB is refused them, and ends with status 8 (4,096)
 set -eu
 top=$(cd "$(dirname "$0")/.." && pwd)
 given=${program:-}
@@ -24,8 +24,9 @@ python3 "$top/bench/orders.py" 0 >"$work/usual"
 cat >"$work/hostile.py" <<'P'
 import itertools, os, resource, subprocess, sys
 
-program, folder, spread, released, pieces, limit = sys.argv[1:7]
-chosen = sys.argv[7:]
+program, folder = map(os.path.abspath, sys.argv[1:3])
+spread, released, pieces, limit, memory = map(int, sys.argv[3:8])
+chosen = sys.argv[8:]
 MOST = 4194304
 OPENING = b"UNB+UNOA:3+BUYER:14+SELLER:14+960105:0930+R1'"
 CLOSING = b"UNZ+1+R1'"
@@ -38,12 +39,17 @@ def write(name, octets):
         file.write(octets)
 
 
+def set_limits():
+    resource.setrlimit(resource.RLIMIT_CPU, (limit, limit))
+    resource.setrlimit(resource.RLIMIT_AS, (memory << 20, memory << 20))
+
+
 def measure(case, *words, given=b""):
     """Runs the program on these words and this input, and prints what it took and how its output begins."""
     write("given", given)
     with open(f"{folder}/given", "rb") as file:
         child = subprocess.Popen([program, *words], cwd=folder, stdin=file, stdout=subprocess.PIPE,
-                                 preexec_fn=lambda: resource.setrlimit(resource.RLIMIT_CPU, (int(limit), int(limit))))
+                                 preexec_fn=set_limits)
     first, size = b"", 0
     while part := child.stdout.read(1 << 20):
         size += len(part)
@@ -144,21 +150,21 @@ def usual():
 
 def edits():
     text = usual()
-    script = b"".join(b"replace %d 1 1\nA\n" % place(number, len(text)) for number in range(int(spread)))
+    script = b"".join(b"replace %d 1 1\nA\n" % place(number, len(text)) for number in range(spread))
     measure("spread edits", "edit", "m", "usual", given=script + b"end\n")
     # Each of these edits changes how many release characters there are before a terminator.
     both = b"replace %d 0 1\n?\nreplace %d 1 0\n\n"
     one, short = b"?" * (MOST - 4) + b"'", (b"?" * 62 + b"'") * (MOST // 64)
     for case, text in (("one segment", one), ("short segments", short)):
         write("t", text)
-        script = b"".join(both % (2 * (place(number, len(text)),)) for number in range(int(released) // 2))
+        script = b"".join(both % (2 * (place(number, len(text)),)) for number in range(released // 2))
         measure(case, "edit", "m", "t", given=script + b"end\n")
 
 
 def added():
     text = usual()[:3145728]
     write("t", text)
-    script = b"".join(b"replace %d 0 1\nA\n" % place(number, len(text)) for number in range(int(pieces)))
+    script = b"".join(b"replace %d 0 1\nA\n" % place(number, len(text)) for number in range(pieces))
     measure("added pieces", "edit", "m", "t", given=script + b"end\n")
 
 
@@ -174,6 +180,15 @@ def rows():
     for case, segment in (("2000 rows", b"DTM'"), ("2000 rows, absent", b"AAA'")):
         write("t", opening + segment * 1000000 + b"UNT+1000002+1'" + CLOSING)
         measure(case, "check", "m2000", "t")
+
+
+def missing():
+    """A group with 1,996 segments that must be there, and a text that has its trigger alone, over and over."""
+    rows = [("---- Segment group 1 ----", "C", 999999, "-+"), ("LIN x", "M", 1)] + [("BGM x", "M", 1)] * 1995
+    add_message("mmissing", "tmissing", message(b"TSTMIS", [*rows, ("BGM x", "M", 1, "-+")]))
+    for case, count in (("missing, 1000", 1000), ("missing, 10000", 10000), ("missing, most", 1000000)):
+        write("t", OPENING + b"UNH+1+TSTMIS:D:96A:UN'" + b"LIN'" * count + b"UNT+%d+1'" % (count + 2) + CLOSING)
+        measure(case, "check", "mmissing", "t")
 
 
 def collisions():
@@ -220,10 +235,10 @@ def files():
     measure("390 tables", "tables", "mtables")
 
 
-for make in (terminators, separators, releases, breaks, groups, messages, deep, edits, added, errors, rows, collisions,
-             codes, files):
+for make in (terminators, separators, releases, breaks, groups, messages, deep, edits, added, errors, rows, missing,
+             collisions, codes, files):
     if not chosen or make.__name__ in chosen:
         make()
 P
 python3 "$work/hostile.py" "$program" "$work" "${spread:-100000}" "${released:-100000}" "${pieces:-40000}" \
-    "${limit:-600}" "$@"
+    "${limit:-600}" "${memory:-4096}" "$@"

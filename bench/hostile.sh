@@ -22,7 +22,7 @@ trap 'rm -rf "$work"' EXIT
 cp "$top"/examples/directory/* "$work"
 python3 "$top/bench/orders.py" 0 >"$work/usual"
 cat >"$work/hostile.py" <<'P'
-import itertools, os, resource, subprocess, sys
+import itertools, os, resource, string, subprocess, sys
 
 program, folder = map(os.path.abspath, sys.argv[1:3])
 spread, released, pieces, limit, memory = map(int, sys.argv[3:8])
@@ -220,6 +220,38 @@ def codes():
     measure("codes", "check", "mcodes", "t")
 
 
+def codes_of_one_place(count, bits):
+    """Codes that the kit's hash tables look for at one place: so many last bits of their hashes are 0."""
+    letters = [(letter, ord(letter) * 0x10101) for letter in string.ascii_letters + string.digits]
+    full, multiplier, found = (1 << 64) - 1, 0x9E3779B97F4A7C15, []
+
+    def after(state, octets, length):
+        product = (state ^ octets) * (multiplier ^ 2 * length)
+        return (product ^ product >> 64) & full
+
+    for front in itertools.product(letters, repeat=4):
+        state = after(0x243F6A8885A308D3, 5, 8)
+        for _, octets in front:
+            state = after(state, octets, 1)
+        for letter, octets in letters:
+            end = after(state, octets, 1)
+            if not (end ^ end >> 32) & (1 << bits) - 1:
+                found.append("".join(letter for letter, _ in front) + letter)
+                if len(found) == count:
+                    return found
+
+
+def alike():
+    """Two code lists that were picked to make loading slow; one has twice as many codes as the other."""
+    drawn = codes_of_one_place(18000, 11)
+    for count in (9000, 18000):
+        entries = "".join(f"     {code} x\n" for code in drawn[:count])
+        write("codes", RULE + b"  1001  x\n" + entries.encode())
+        write("elements", RULE + b"  1001  x\n  Repr: an..5\n")
+        write("malike", b"directory D 96A UN\nelements elements\ncodes codes\n")
+        measure(f"{count} alike", "tables", "malike")
+
+
 def files():
     write("blank", b"\n" * MOST)
     write("mblank", b"directory D 96A UN\n" + b"elements blank\n" * 400)
@@ -236,7 +268,7 @@ def files():
 
 
 for make in (terminators, separators, releases, breaks, groups, messages, deep, edits, added, errors, rows, missing,
-             collisions, codes, files):
+             collisions, codes, alike, files):
     if not chosen or make.__name__ in chosen:
         make()
 P

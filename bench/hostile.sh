@@ -220,10 +220,10 @@ def codes():
     measure("codes", "check", "mcodes", "t")
 
 
-def codes_of_one_place(count, bits):
+def codes_of_one_place(bits):
     """Codes that the kit's hash tables look for at one place: so many last bits of their hashes are 0."""
     letters = [(letter, ord(letter) * 0x10101) for letter in string.ascii_letters + string.digits]
-    full, multiplier, found = (1 << 64) - 1, 0x9E3779B97F4A7C15, []
+    full, multiplier, last = (1 << 64) - 1, 0x9E3779B97F4A7C15, (1 << bits) - 1
 
     def after(state, octets, length):
         product = (state ^ octets) * (multiplier ^ 2 * length)
@@ -235,15 +235,13 @@ def codes_of_one_place(count, bits):
             state = after(state, octets, 1)
         for letter, octets in letters:
             end = after(state, octets, 1)
-            if not (end ^ end >> 32) & (1 << bits) - 1:
-                found.append("".join(letter for letter, _ in front) + letter)
-                if len(found) == count:
-                    return found
+            if not (end ^ end >> 32) & last:
+                yield "".join(before for before, _ in front) + letter
 
 
 def alike():
     """Two code lists that were picked to make loading slow; one has twice as many codes as the other."""
-    drawn = codes_of_one_place(18000, 11)
+    drawn = list(itertools.islice(codes_of_one_place(11), 18000))
     for count in (9000, 18000):
         entries = "".join(f"     {code} x\n" for code in drawn[:count])
         write("codes", RULE + b"  1001  x\n" + entries.encode())

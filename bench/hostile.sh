@@ -2,7 +2,7 @@
 # Makes hostile texts, scripts and directories, and prints the processor time and peak memory of the program on each.
 # usage: bench/hostile.sh [CASE..]   (the program is built first, if need be; with `program` set, that one is measured)
 # The cases are those of the last lines of this file.
-# These variables may be set:
+# A peak below some 60 MiB may be that of the Python that starts the run. These variables may be set:
 #   spread     edits spread over a text of 4 MiB (100,000)
 #   released   edits at the release characters of two texts that have little else (100,000)
 #   pieces     edits that each add a piece (40,000)

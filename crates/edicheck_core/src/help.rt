@@ -24,8 +24,8 @@ exit status: 0 done, 1 a text has errors or can't be acknowledged, 2 words of no
 example, in the folder examples/directory: edicheck check m order-with-errors.edi
 ";
 
-/// What `--version` prints: the version of the crate `edicheck`, and of the toolchain that it is proved with, which that
-/// toolchain tells of itself.
+/// What `--version` prints: the version of the crate `edicheck`, and the logic that it is proved in, which the toolchain
+/// tells of itself. Toolchains of several names have the same logic.
 pub(crate) const VERSION: &[u8] = b"edicheck 0.1.0
-rattle-kit-13f logic dac8208d650f15bf
+rattle logic dac8208d650f15bf
 ";

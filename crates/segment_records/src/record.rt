@@ -235,6 +235,7 @@ impl Record {
 }
 
 // What is wrong with a segment, where something is.
+#[inline(always)]
 fn keep_faults(
     alloc: Global,
     local: SmallVec<LocalError, 4>,

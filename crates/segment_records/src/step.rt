@@ -59,6 +59,7 @@ pub(crate) fn take_step<O: Octets, L: Ledger>(
 
 /// The step of a segment with this tag after this mode, where the tag is none of UNH, UNB, UNG, UNE and UNZ: what it says
 /// doesn't matter. At most one call of the walk is counted.
+#[inline(always)]
 pub(crate) fn take_inner_step<L: Ledger>(
     alloc: Global,
     directory: &Directory,

@@ -79,8 +79,8 @@ impl<'d> Engine<'d> {
     }
 }
 
-// Why an edit isn't made, by the length of the text and the number of octets that are put.
-fn stop_by(length: u64, at: u64, cut: u64, put: u64) -> Option<EditStop>
+/// Why an edit isn't made, if it isn't, by the length of the text and the number of octets that are put. It takes no memory.
+pub fn stop_by(length: u64, at: u64, cut: u64, put: u64) -> Option<EditStop>
     requires { length ≤ LONGEST_TEXT }
     ensures { result ≡ stop_by length at cut put }
 {

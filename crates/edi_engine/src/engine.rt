@@ -93,6 +93,15 @@ impl<'d> Engine<'d> {
         read_counted::<Brand, Brand>(alloc, directory, octets, Blank::new(1), Blank::new(1))
     }
 
+    /// An engine with the same directory and text, so with the same modes and answers. It shares what the text is kept in:
+    /// nothing is read. Only want of memory is an error.
+    pub fn share(&self) -> Result<Engine<'d>, AllocError>
+        ensures { IfOk result (λ e. e ≡ self.now) }
+    {
+        let kept = self.kept.share()?;
+        Ok(Engine { kept })
+    }
+
     /// The directory that it checks by.
     pub fn directory(&self) -> &'d Directory
         ensures directory { result.now ≡ self.now.directory }

@@ -15,7 +15,7 @@ mod summary;
 mod tail;
 mod tree;
 
-pub use edit::EditStop;
+pub use edit::{EditStop, stop_by};
 pub use engine::Engine;
 pub use kept_text::read_records;
 pub use segment_records::Mode;

@@ -84,6 +84,22 @@ impl<'d> KeptText<'d> {
         })
     }
 
+    /// The same text by the same directory, which shares its pieces and its records: nothing is read. Only want of memory is
+    /// an error.
+    pub fn share(&self) -> Result<KeptText<'d>, AllocError>
+        ensures { IfOk result (λ kept. kept ≡ self.now) }
+    {
+        let text = self.text.share()?;
+        let records = self.records.share()?;
+        Ok(KeptText {
+            directory: self.directory,
+            text,
+            context: self.context,
+            records,
+            outside: Mode::Outside,
+        })
+    }
+
     /// Its text with octets put in place of the `cut` octets from place `at` on. Where the context of the text stays, only the
     /// stretch of the edit is read again, and only its rerun is placed again. Each call of the lexer and of the walk is
     /// counted. Only want of memory is an error.

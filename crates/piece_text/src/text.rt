@@ -60,6 +60,14 @@ impl Text {
         Ok(Text { pieces })
     }
 
+    /// The same text, which shares its pieces. Only want of memory is an error.
+    pub fn share(&self) -> Result<Text, AllocError>
+        ensures { IfOk result (λ text. text ≡ self.now) }
+    {
+        let pieces = self.pieces.share()?;
+        Ok(Text { pieces })
+    }
+
     /// How many octets it has.
     pub fn len(&self) -> usize
         ensures { result ≡ length self.now }

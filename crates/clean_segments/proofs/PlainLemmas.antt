@@ -62,7 +62,7 @@ module _ (sp : Separators) (xs : List ℕ) (plain : list_any (is_release sp.rele
   a-cut separator j within is = and_from _ _ (eq-eqb _ _ is) (ap not (unreleased j (omega arith)))
 
   abbrev component : Start → ℕ → Component
-  component s b = record { element = s.element; component = s.component; octets = between s.at b xs }
+  component s b = record { element = s.element; repetition = 1; component = s.component; octets = between s.at b xs }
 
   -- the last component
   pub plain-last : (s : Start) → s.at ≤ length xs → Nowhere (IsSeparator sp xs) s.at (length xs) → plain_rest sp xs (Some s) ≡ component s (length xs) ∷ plain_rest sp xs None
@@ -70,7 +70,7 @@ module _ (sp : Separators) (xs : List ℕ) (plain : list_any (is_release sp.rele
       ap (map unplaced) (fields_from-last sp xs s.element s.component s.at
       (no-cut sp.element s.at (length xs) (λ k low high is. none k low high (inl is)))
       (no-cut sp.component s.at (length xs) (λ k low high is. none k low high (inr is))))
-      ∙ ap (λ (ys : List ℕ). record { element = s.element; component = s.component; octets = ys } ∷ []) (kept s.at (length xs) within)
+      ∙ ap (λ (ys : List ℕ). record { element = s.element; repetition = 1; component = s.component; octets = ys } ∷ []) (kept s.at (length xs) within)
 
   module _ (s : Start) (j : ℕ) (before : NoneBefore (IsSeparator sp xs) s.at (length xs) j) where
     no-element : Nowhere (λ i. is_cut sp.release xs sp.element i ≡ true) s.at j
@@ -84,7 +84,7 @@ module _ (sp : Separators) (xs : List ℕ) (plain : list_any (is_release sp.rele
         → plain_rest sp xs (Some s) ≡ component s j ∷ plain_rest sp xs (Some p)
     plain-element p is p_is =
         ap (map unplaced) (fields_from-element sp xs s.element s.component s.at j before.low before.high no-element no-component (a-cut sp.element j before.high is))
-        ∙ ap (λ (ys : List ℕ). record { element = s.element; component = s.component; octets = ys } ∷ map unplaced (fields_from sp xs (s.element + 1) 1 (j + 1))) (kept s.at j before.low)
+        ∙ ap (λ (ys : List ℕ). record { element = s.element; repetition = 1; component = s.component; octets = ys } ∷ map unplaced (fields_from sp xs (s.element + 1) 1 (j + 1))) (kept s.at j before.low)
         ∙ sym (ap (λ (q : Start). component s j ∷ plain_rest sp xs (Some q)) p_is)
 
     -- a component before another one of its element
@@ -100,7 +100,7 @@ module _ (sp : Separators) (xs : List ℕ) (plain : list_any (is_release sp.rele
           | inr less ↦ before.before k low less (inl same)
         ] in
         ap (map unplaced) (fields_from-component sp xs s.element s.component s.at j low high (no-cut sp.element s.at (j + 1) none) no-component (a-cut sp.component j high here))
-        ∙ ap (λ (ys : List ℕ). record { element = s.element; component = s.component; octets = ys } ∷ map unplaced (fields_from sp xs s.element (s.component + 1) (j + 1))) (kept s.at j low)
+        ∙ ap (λ (ys : List ℕ). record { element = s.element; repetition = 1; component = s.component; octets = ys } ∷ map unplaced (fields_from sp xs s.element (s.component + 1) (j + 1))) (kept s.at j low)
         ∙ sym (ap (λ (q : Start). component s j ∷ plain_rest sp xs (Some q)) p_is)
 
     -- a component before another one, by the separator that ends it

@@ -63,11 +63,11 @@ fn is_item_clean(
         → plain_left fields.new ≡ after_front element (plain_left fields.old) }
 {
     match item {
-        ItemDef::Alone { part } => {
+        ItemDef::Alone { part, .. } => {
             let value = fields.take(element);
             is_part_clean(rules, part, value) && fields.is_past(element)
         }
-        ItemDef::Composite { code, must } => {
+        ItemDef::Composite { code, must, .. } => {
             is_composite_clean(rules, rules.parts(*code), *must, element, fields)
         }
     }

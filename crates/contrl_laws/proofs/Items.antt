@@ -66,14 +66,14 @@ IsGoodComposite context must parts vs =
     ((list_any has_octet vs ≡ true) × AreGoodParts context parts vs) ⊎ ((must ≡ false) × (list_any has_octet vs ≡ false))
 
 abbrev pub IsGoodElement : Context → ItemDef → Element → Type 0
-IsGoodElement context (Alone part) [] = ⊥
-IsGoodElement context (Alone part) (x ∷ []) = IsGoodValue context part.must part.repr x
-IsGoodElement context (Alone part) (x ∷ y ∷ ys) = ⊥
-IsGoodElement context (Composite code must) vs = IsGoodComposite context must (unwrap_or (service_parts_of code.octets) []) vs
+IsGoodElement context (Alone part reps) [] = ⊥
+IsGoodElement context (Alone part reps) (x ∷ []) = IsGoodValue context part.must part.repr x
+IsGoodElement context (Alone part reps) (x ∷ y ∷ ys) = ⊥
+IsGoodElement context (Composite code must reps) vs = IsGoodComposite context must (unwrap_or (service_parts_of context.version code.octets) []) vs
 
 abbrev pub is_must : ItemDef → Bool
-is_must (Alone part) = part.must
-is_must (Composite code must) = must
+is_must (Alone part reps) = part.must
+is_must (Composite code must reps) = must
 
 -- elements may stand at items; items past the last element are conditional
 abbrev pub AreGoodElements : Context → List ItemDef → List Element → Type 0
@@ -197,22 +197,22 @@ module _ (context : Context) (items : List ItemDef) where
 
   element-free : (e : ℕ) (item : ItemDef) (vs : List (List ℕ)) → IsGoodElement context item vs → item_errors rules e item (values_read (trimmed is_empty_value vs)) ≡ []
   unfolding parts_of
-  element-free e (Alone part) [] good = absurd good
-  element-free e (Alone part) (x ∷ []) good =
+  element-free e (Alone part reps) [] good = absurd good
+  element-free e (Alone part reps) (x ∷ []) good =
       ap (alone_errors rules e part) (alone-read x) ∙ ap (λ (es : List LocalError). es ++ []) (part-free e 0 part false x good)
-  element-free e (Alone part) (x ∷ y ∷ ys) good = absurd good
-  element-free e (Composite code must) vs good = composite-free e must (unwrap_or (service_parts_of code.octets) []) vs good
+  element-free e (Alone part reps) (x ∷ y ∷ ys) good = absurd good
+  element-free e (Composite code must reps) vs good = composite-free e must (unwrap_or (service_parts_of context.version code.octets) []) vs good
 
   element-none : (e : ℕ) (item : ItemDef) → is_must item ≡ false → item_errors rules e item [] ≡ []
-  element-none e (Alone part) free = ap (λ (es : List LocalError). es ++ []) (part-none e 0 part false free)
-  element-none e (Composite code must) free = ap (λ (b : Bool). when b (error_at e 0 Missing)) free
+  element-none e (Alone part reps) free = ap (λ (es : List LocalError). es ++ []) (part-none e 0 part false free)
+  element-none e (Composite code must reps) free = ap (λ (b : Bool). when b (error_at e 0 Missing)) free
 
   element-empty : (item : ItemDef) (vs : List (List ℕ)) → IsGoodElement context item vs → list_all is_empty_value vs ≡ true → is_must item ≡ false
-  element-empty (Alone part) [] good empty = absurd good
-  element-empty (Alone part) (x ∷ []) good empty = not_must part.must x good.filled (and_parts (is_empty_value x) true empty).0
-  element-empty (Alone part) (x ∷ y ∷ ys) good empty = absurd good
-  element-empty (Composite code must) vs (inl good) empty = absurd (true≢false (sym good.0 ∙ all_empty-none vs empty))
-  element-empty (Composite code must) vs (inr none) empty = none.0
+  element-empty (Alone part reps) [] good empty = absurd good
+  element-empty (Alone part reps) (x ∷ []) good empty = not_must part.must x good.filled (and_parts (is_empty_value x) true empty).0
+  element-empty (Alone part reps) (x ∷ y ∷ ys) good empty = absurd good
+  element-empty (Composite code must reps) vs (inl good) empty = absurd (true≢false (sym good.0 ∙ all_empty-none vs empty))
+  element-empty (Composite code must reps) vs (inr none) empty = none.0
 
   items-none : (n : ℕ) (is : List ItemDef) (es : List Element) → AreGoodElements context is es → list_all is_empty_element es ≡ true → items_errors rules n is [] ≡ []
   items-none n [] [] good empty = refl

@@ -131,7 +131,7 @@ module _ (context : Context) where
   component_good e true few =
       number_good context false false 3 (decimal e.component) (decimal_number 3 e.component (omega arith) (omega (arith, few)) (omega (arith, few))) (no_more 3 (length (decimal e.component)))
 
-  position_told : (must : Bool) (e : ErrorLine) → has_position e ≡ true → IsGoodComposite context must (unwrap_or (service_parts_of (codes "S011")) []) (position_of e)
+  position_told : (must : Bool) (e : ErrorLine) → has_position e ≡ true → IsGoodComposite context must (unwrap_or (service_parts_of context.version (codes "S011")) []) (position_of e)
   unfolding service_parts_of
   position_told must e is =
       let near = near_bounds e (and_parts (nat_le 1 e.element) (is_near e) is).1 in
@@ -141,7 +141,7 @@ module _ (context : Context) where
         (element, (component_good e (has_position e && nat_le 1 e.component) near.1, tt)),
       )
 
-  position_good : (e : ErrorLine) → IsGoodComposite context false (unwrap_or (service_parts_of (codes "S011")) []) (position_of e)
+  position_good : (e : ErrorLine) → IsGoodComposite context false (unwrap_or (service_parts_of context.version (codes "S011")) []) (position_of e)
   position_good e = elim (cases_Bool (has_position e)) [
     | inl is ↦ position_told false e is
     | inr is ↦
@@ -160,25 +160,25 @@ module _ (context : Context) where
   acknowledged_good = octets_good context true false 3 acknowledged refl (omega arith) (omega arith) (no_more 3 1)
 
   -- parties
-  sender_good : (p : Party) → IsGoodParty context p → IsGoodComposite context true (unwrap_or (service_parts_of (codes "S002")) []) (interchange_party p)
+  sender_good : (p : Party) → IsGoodParty context p → IsGoodComposite context true (unwrap_or (service_parts_of context.version (codes "S002")) []) (interchange_party p)
   unfolding service_parts_of
   sender_good p good =
       inl (ap (λ (b : Bool). b || list_any has_octet (p.qualifier ∷ p.route ∷ [])) (good.id.filled refl), (good.id, (good.qualifier, (good.route, tt))))
 
-  recipient_good : (p : Party) → IsGoodParty context p → IsGoodComposite context true (unwrap_or (service_parts_of (codes "S003")) []) (interchange_party p)
+  recipient_good : (p : Party) → IsGoodParty context p → IsGoodComposite context true (unwrap_or (service_parts_of context.version (codes "S003")) []) (interchange_party p)
   unfolding service_parts_of
   recipient_good p good =
       inl (ap (λ (b : Bool). b || list_any has_octet (p.qualifier ∷ p.route ∷ [])) (good.id.filled refl), (good.id, (good.qualifier, (good.route, tt))))
 
-  group_sender_good : (p : Party) → IsGoodGroupParty context p → IsGoodComposite context true (unwrap_or (service_parts_of (codes "S006")) []) (group_party p)
+  group_sender_good : (p : Party) → IsGoodGroupParty context p → IsGoodComposite context true (unwrap_or (service_parts_of context.version (codes "S006")) []) (group_party p)
   unfolding service_parts_of
   group_sender_good p good = inl (ap (λ (b : Bool). b || list_any has_octet (p.qualifier ∷ [])) (good.id.filled refl), (good.id, (good.qualifier, tt)))
 
-  group_recipient_good : (p : Party) → IsGoodGroupParty context p → IsGoodComposite context true (unwrap_or (service_parts_of (codes "S007")) []) (group_party p)
+  group_recipient_good : (p : Party) → IsGoodGroupParty context p → IsGoodComposite context true (unwrap_or (service_parts_of context.version (codes "S007")) []) (group_party p)
   unfolding service_parts_of
   group_recipient_good p good = inl (ap (λ (b : Bool). b || list_any has_octet (p.qualifier ∷ [])) (good.id.filled refl), (good.id, (good.qualifier, tt)))
 
-  identifier_good : (m : MessageHead) → IsGoodMessage context m → IsGoodComposite context true (unwrap_or (service_parts_of (codes "S009")) []) (identifier_of m)
+  identifier_good : (m : MessageHead) → IsGoodMessage context m → IsGoodComposite context true (unwrap_or (service_parts_of context.version (codes "S009")) []) (identifier_of m)
   unfolding service_parts_of
   identifier_good m good = inl (
     ap (λ (b : Bool). b || list_any has_octet (m.version ∷ m.release ∷ m.agency ∷ m.association ∷ [])) (good.kind.filled refl),

@@ -13,7 +13,7 @@ use Rattle.segment_records.specs.Segments.{value_in}
 
 -- the component of an element with these octets, by its number
 abbrev pub component_of : ℕ → ℕ × List ℕ → Component
-component_of element p = record { element = element; component = p.0; octets = p.1 }
+component_of element p = record { element = element; repetition = 1; component = p.0; octets = p.1 }
 
 -- the components of an element
 abbrev pub numbered : ℕ × List (List ℕ) → List Component

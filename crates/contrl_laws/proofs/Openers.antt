@@ -26,7 +26,7 @@ module _ (dir : Parts) (context : Context) (components : List Component) (number
   items_of tag = unwrap_or (service_items_of tag) []
 
   abbrev parts_at : List ℕ → List PartDef
-  parts_at code = unwrap_or (service_parts_of code) []
+  parts_at code = unwrap_or (service_parts_of context.version code) []
 
   abbrev value : ℕ → ℕ → List ℕ
   value e c = value_in components e c

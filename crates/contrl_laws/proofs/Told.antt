@@ -206,19 +206,19 @@ module _ (dir : Parts) (context : Context) (components : List Component) (number
   value-at : (e c i j : ℕ) → e ≡ suc i → c ≡ 1 + j → get_or (get_or numbered.lists (suc i) []) j [] ≡ value_in components e c
   value-at e c i j here at = sym (ap (λ (cs : List Component). value_in cs e c) numbered.is ∙ numbered-value numbered.lists e c (suc i) j here at)
 
-  pub alone-good : (i : ℕ) (part : PartDef) → slice_get items i ≡ Some (Alone part) → IsGoodValue context part.must part.repr (value_in components (suc i) 1)
+  pub alone-good : (i : ℕ) (part : PartDef) → slice_get items i ≡ Some (Alone part 1) → IsGoodValue context part.must part.repr (value_in components (suc i) 1)
   alone-good i part at =
-      let found = at-lists numbered.lists numbered.is i (Alone part) at in
+      let found = at-lists numbered.lists numbered.is i (Alone part 1) at in
       let vs : List (List ℕ) = get_or numbered.lists (suc i) [] in
       subst (IsGoodValue context part.must part.repr) (first-get vs ∙ value-at (suc i) 1 i 0 refl refl)
       (part-told context items found.0 0 part false (first_value vs)
       (append-left (part_errors (part_rules (rules_for context items) false) found.0 0 part (first_value vs)) (surplus_components found.0 2 (later_values vs)) found.1))
 
-  pub part-good : (i j c : ℕ) (code : Code) (parts : List PartDef) (part : PartDef) → slice_get items i ≡ Some (Composite code true) → service_parts_of code.octets ≡ Some parts → slice_get parts j ≡ Some part → c ≡ 1 + j
+  pub part-good : (i j c : ℕ) (code : Code) (parts : List PartDef) (part : PartDef) → slice_get items i ≡ Some (Composite code true 1) → service_parts_of context.version code.octets ≡ Some parts → slice_get parts j ≡ Some part → c ≡ 1 + j
       → IsGoodValue context part.must part.repr (value_in components (suc i) c)
   unfolding parts_of
   part-good i j c code parts part at defined there same =
-      let found = at-lists numbered.lists numbered.is i (Composite code true) at in
+      let found = at-lists numbered.lists numbered.is i (Composite code true 1) at in
       let vs : List (List ℕ) = get_or numbered.lists (suc i) [] in
       let whole : composite_errors (rules_for context items) found.0 true parts vs ≡ [] =
       sym (ap (λ (o : Option (List PartDef)). composite_errors (rules_for context items) found.0 true (unwrap_or o []) vs) defined) ∙ found.1 in

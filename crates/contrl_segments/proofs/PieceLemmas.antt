@@ -121,7 +121,7 @@ module _ (release : Option ℕ) (xs : List ℕ) (t : ℕ) where
 
 -- the components of an element with these octets, by its number
 abbrev pub component_piece : Option ℕ → ℕ → ℕ × List ℕ → Component
-component_piece release element p = record { element = element; component = p.0; octets = value_of release p.1 }
+component_piece release element p = record { element = element; repetition = 1; component = p.0; octets = value_of release p.1 }
 
 abbrev pub element_pieces : Separators → ℕ × List ℕ → List Component
 element_pieces sp p = map (component_piece sp.release p.0) (enumerate_from 1 (pieces sp.release sp.component false p.1))

@@ -134,7 +134,7 @@ value-read v = value-is (Some 63) (value_text v) ∙ plain-value v
 
 components-read : (n c : ℕ) (vs : List (List ℕ)) → map (component_piece (Some 63) n) (enumerate_from c (map value_text vs)) ≡ map (component_read n) (enumerate_from c vs)
 components-read n c [] = refl
-components-read n c (v ∷ vs) = λ i. record { element = n; component = c; octets = value-read v i } ∷ components-read n (c + 1) vs i
+components-read n c (v ∷ vs) = λ i. record { element = n; repetition = 1; component = c; octets = value-read v i } ∷ components-read n (c + 1) vs i
 
 -- an element is read as it was, and so are elements
 element-pieces : (n : ℕ) (e : Element) → element_pieces (separators_of default_service) (n, element_text e) ≡ element_read (n, e)

@@ -14,7 +14,7 @@ values_read [] = [] ∷ []
 values_read (v ∷ vs) = v ∷ vs
 
 abbrev pub component_read : ℕ → ℕ × Octets → Component
-component_read element p = record { element = element; component = p.0; octets = p.1 }
+component_read element p = record { element = element; repetition = 1; component = p.0; octets = p.1 }
 
 abbrev pub element_read : ℕ × Element → List Component
 element_read p = map (component_read p.0) (enumerate_from 1 (values_read (trimmed is_empty_value p.1)))

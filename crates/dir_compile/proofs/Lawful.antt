@@ -105,8 +105,8 @@ module _ (parts : Parts) (free : IsFaultFree parts) where
   same-part part = ap (part_against part) (same-element part.code.octets)
 
   same-item : (item : ItemDef) → item_faults (ordered_parts parts) item ≡ item_faults parts item
-  same-item (Alone part) = same-part part
-  same-item (Composite code must) = ap (λ o. when (not (is_some o)) (fault_with UnknownComposite code.octets)) (same-composite code.octets)
+  same-item (Alone part reps) = same-part part
+  same-item (Composite code must reps) = ap (λ o. when (not (is_some o)) (fault_with UnknownComposite code.octets)) (same-composite code.octets)
 
   same-tag : (tag : Option Tag) → tag_faults (ordered_parts parts) tag ≡ tag_faults parts tag
   same-tag None = refl

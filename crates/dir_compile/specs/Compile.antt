@@ -86,8 +86,8 @@ composite_faults parts = flat_map (composite_fault parts) parts.composites
 
 -- an item is such a part, or names a composite of the directory
 abbrev pub item_faults : Parts → ItemDef → List PartsFault
-item_faults parts (Alone part) = part_faults parts part
-item_faults parts (Composite code must) =
+item_faults parts (Alone part reps) = part_faults parts part
+item_faults parts (Composite code must reps) =
     when (not (is_some (named_in composite_name parts.composites code.octets)))
     (fault_with UnknownComposite code.octets)
 

@@ -104,7 +104,7 @@ impl Judged for ItemDef {
 
     fn judge(&self, alloc: Global, parts: &Parts, names: &Names) -> Result<(), CompileStop> {
         match self {
-            ItemDef::Alone { part } => part.judge(alloc, parts, names),
+            ItemDef::Alone { part, .. } => part.judge(alloc, parts, names),
             ItemDef::Composite { code, .. } => {
                 let name = &code.octets;
                 if names.composites.contains(name) {

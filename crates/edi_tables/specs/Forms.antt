@@ -58,10 +58,19 @@ is_composite_formed composite =
     is_composite_code composite.code.octets && is_count_formed (length composite.parts)
     && list_all is_part_formed composite.parts
 
--- an item is a data element, or names a composite
+-- the greatest number of repetitions of an item
+abbrev pub reps_of : ItemDef → ℕ
+reps_of (Alone part reps) = reps
+reps_of (Composite code must reps) = reps
+
+-- a greatest number of repetitions: 1 to 99
+abbrev pub is_reps_formed : ℕ → Bool
+is_reps_formed reps = nat_le 1 reps && nat_le reps 99
+
+-- an item is a data element, or names a composite, with a greatest number of repetitions
 abbrev pub is_item_formed : ItemDef → Bool
-is_item_formed (Alone part) = is_part_formed part
-is_item_formed (Composite code must) = is_composite_code code.octets
+is_item_formed (Alone part reps) = is_part_formed part && is_reps_formed reps
+is_item_formed (Composite code must reps) = is_composite_code code.octets && is_reps_formed reps
 
 abbrev pub is_segment_formed : SegmentDef → Bool
 is_segment_formed segment =

@@ -1,11 +1,27 @@
 //! Segments of a directory, and the rows of its message tables.
+ghost use Rattle.std.specs.Prelude.{◌≡◌};
+
 use crate::{Chunk, Code, List, PartDef, Tag};
 
-/// One data element of a segment: stand-alone, or a composite that the directory defines.
+/// One data element of a segment: stand-alone, or a composite that the directory defines; and its greatest number of
+/// repetitions, from 1 to 99.
 #[derive(Clone, Copy, Debug, PartialEq, Eq)]
 pub enum ItemDef {
-    Alone { part: PartDef },
-    Composite { code: Code, must: bool },
+    Alone { part: PartDef, reps: u8 },
+    Composite { code: Code, must: bool, reps: u8 },
+}
+
+impl ItemDef {
+    ghost use Rattle.edi_tables.specs.Forms.{reps_of};
+
+    /// Its greatest number of repetitions.
+    pub fn reps(&self) -> u8
+        ensures { result ≡ reps_of self.now }
+    {
+        match *self {
+            ItemDef::Alone { reps, .. } | ItemDef::Composite { reps, .. } => reps,
+        }
+    }
 }
 
 /// A segment and its data elements, in order.

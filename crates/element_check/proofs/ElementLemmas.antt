@@ -125,9 +125,9 @@ max-span [] ws = omega arith
 max-span (p ∷ ps) [] = let h = max-span ps [] in omega arith
 max-span (p ∷ ps) (w ∷ ws) = let h = max-span ps ws in omega arith
 
-module _ (rules : SegmentRules) (code : Code) (must : Bool) (values : List (List ℕ)) (element : ℕ) where
+module _ (rules : SegmentRules) (code : Code) (must : Bool) (reps : ℕ) (values : List (List ℕ)) (element : ℕ) where
   abbrev composite : ItemDef
-  composite = Composite code must
+  composite = Composite code must reps
 
   abbrev parts : List PartDef
   parts = parts_of rules code.octets
@@ -182,9 +182,9 @@ module _ (rules : SegmentRules) (code : Code) (must : Bool) (values : List (List
         ∙ sym (ap (λ (a : Bool). cond a (parts_errors (part_rules rules named) element 1 parts values) (when must (error_at element 0 Missing))) none)
   ]
 
-module _ (rules : SegmentRules) (part : PartDef) (values : List (List ℕ)) (element : ℕ) where
+module _ (rules : SegmentRules) (part : PartDef) (reps : ℕ) (values : List (List ℕ)) (element : ℕ) where
   abbrev alone : ItemDef
-  alone = Alone part
+  alone = Alone part reps
 
   first-at : value_at values 1 ≡ first_value values
   first-at = first-value values
@@ -205,8 +205,8 @@ module _ (rules : SegmentRules) (part : PartDef) (values : List (List ℕ)) (ele
 
 -- the errors of an element that has an item
 pub element-item : (rules : SegmentRules) (item : ItemDef) (values : List (List ℕ)) (element : ℕ) → element_errors rules (Some item) values element ≡ item_errors rules element item values
-element-item rules (Alone part) values element = element-alone rules part values element
-element-item rules (Composite code must) values element = element-composite rules code must values element
+element-item rules (Alone part reps) values element = element-alone rules part reps values element
+element-item rules (Composite code must reps) values element = element-composite rules code must reps values element
 
 -- the errors of an element past the last item
 pub element-past : (rules : SegmentRules) (values : List (List ℕ)) (element : ℕ) → element_errors rules None values element ≡ when (list_any has_octet values) (error_at element 0 TooManyElements)

@@ -69,10 +69,10 @@ service-few tag items found =
     let most : nat_le (length items) 99 ≡ true = held_by-passes segment_name (λ segment. segment.items) (λ xs. nat_le (length xs) 99) service_segments tag items refl found in
     grind (arith, nat_tests)
 
-service_parts-few : (code : List ℕ) (o : Option (List PartDef)) → service_parts_of code ≡ o → length (unwrap_or o []) ≤ 99
+service_parts-few : (version : ℕ) (code : List ℕ) (o : Option (List PartDef)) → service_parts_of version code ≡ o → length (unwrap_or o []) ≤ 99
 unfolding service_parts_of
-service_parts-few code None found = lit≤ tt
-service_parts-few code (Some parts) found =
+service_parts-few version code None found = lit≤ tt
+service_parts-few version code (Some parts) found =
     let most : nat_le (length parts) 99 ≡ true = held_by-passes composite_name (λ composite. composite.parts) (λ xs. nat_le (length xs) 99) service_composites code parts refl found in
     grind (arith, nat_tests)
 
@@ -82,13 +82,13 @@ defined_parts-few parts code None lawful found = lit≤ tt
 defined_parts-few parts code (Some composite) lawful found =
     few_parts composite (named_in-passes composite_name is_composite_formed parts.composites code composite lawful.forms.composites found)
 
-parts_by-few : (directory : Option Parts) (code : List ℕ) → ForSome directory IsDirectory → length (parts_by directory code) ≤ 99
-parts_by-few None code lawful = service_parts-few code (service_parts_of code) refl
-parts_by-few (Some parts) code lawful = defined_parts-few parts code (named_in composite_name parts.composites code) (lawful parts refl) refl
+parts_by-few : (version : ℕ) (directory : Option Parts) (code : List ℕ) → ForSome directory IsDirectory → length (parts_by version directory code) ≤ 99
+parts_by-few version None code lawful = service_parts-few version code (service_parts_of version code) refl
+parts_by-few version (Some parts) code lawful = defined_parts-few parts code (named_in composite_name parts.composites code) (lawful parts refl) refl
 
 pub parts_of-few : (rules : SegmentRules) (code : List ℕ) (parts : List PartDef) → ForSome rules.directory IsDirectory → parts ≡ parts_of rules code → length parts ≤ 99
 unfolding parts_of
-parts_of-few rules code parts lawful is = subst (λ (ps : List PartDef). length ps ≤ 99) (sym is) (parts_by-few rules.directory code lawful)
+parts_of-few rules code parts lawful is = subst (λ (ps : List PartDef). length ps ≤ 99) (sym is) (parts_by-few rules.context.version rules.directory code lawful)
 
 defined_rules-few : (parts : Parts) (context : Context) (tag : List ℕ) (o : Option SegmentDef) (rules : SegmentRules) → IsDirectory parts → named_in segment_name parts.segments tag ≡ o
     → Some rules ≡ defined_rules parts context o → length rules.items ≤ 99

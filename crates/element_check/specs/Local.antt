@@ -43,8 +43,8 @@ is_list_named parts values = list_any (λ p. names_list p.0 && has_octet p.1) (z
 
 -- the data elements of an item, in order: the part of component 1 is the first
 abbrev pub parts_in : SegmentRules → ItemDef → List PartDef
-parts_in rules (Alone part) = part ∷ []
-parts_in rules (Composite code must) = parts_of rules code.octets
+parts_in rules (Alone part reps) = part ∷ []
+parts_in rules (Composite code must reps) = parts_of rules code.octets
 
 -- a value is filled, and fails the test of a kind
 abbrev pub is_failed : SegmentRules → PartDef → Option CodeList → Octets → Kind → Bool
@@ -52,8 +52,8 @@ is_failed rules part list value kind = has_octet value && fails rules.context pa
 
 -- an item needs a value: a stand-alone data element its first component, a composite any component
 abbrev pub is_missing : ItemDef → List Octets → Bool
-is_missing (Alone part) values = part.must && not (has_octet (value_at values 1))
-is_missing (Composite code must) values = must && not (list_any has_octet values)
+is_missing (Alone part reps) values = part.must && not (has_octet (value_at values 1))
+is_missing (Composite code must reps) values = must && not (list_any has_octet values)
 
 -- the rule of a kind is broken at an element as a whole, which has this item or is past the last one
 -- (the value of a stand-alone data element is tested here)
@@ -63,9 +63,9 @@ is_broken_whole rules None values kind = false
 is_broken_whole rules (Some item) values TooManyElements = false
 is_broken_whole rules (Some item) values TooManyComponents = false
 is_broken_whole rules (Some item) values Missing = is_missing item values
-is_broken_whole rules (Some (Alone part)) values kind =
+is_broken_whole rules (Some (Alone part reps)) values kind =
     is_failed rules part (list_of rules part.code.octets) (value_at values 1) kind
-is_broken_whole rules (Some (Composite code must)) values kind = false
+is_broken_whole rules (Some (Composite code must reps)) values kind = false
 
 -- the code list that the values of a part of a composite must be in: none where the composite itself names a list
 abbrev pub list_in : SegmentRules → List PartDef → List Octets → PartDef → Option CodeList
@@ -76,12 +76,12 @@ list_in rules parts values part = if is_list_named parts values then None else l
 abbrev pub is_broken_part : SegmentRules → ItemDef → List Octets → Option PartDef × Octets → Kind → Bool
 is_broken_part rules item values (None, value) TooManyComponents = has_octet value
 is_broken_part rules item values (None, value) kind = false
-is_broken_part rules (Alone alone) values (Some part, value) kind = false
-is_broken_part rules (Composite code must) values (Some part, value) TooManyElements = false
-is_broken_part rules (Composite code must) values (Some part, value) TooManyComponents = false
-is_broken_part rules (Composite code must) values (Some part, value) Missing =
+is_broken_part rules (Alone alone reps) values (Some part, value) kind = false
+is_broken_part rules (Composite code must reps) values (Some part, value) TooManyElements = false
+is_broken_part rules (Composite code must reps) values (Some part, value) TooManyComponents = false
+is_broken_part rules (Composite code must reps) values (Some part, value) Missing =
     list_any has_octet values && part.must && not (has_octet value)
-is_broken_part rules (Composite code must) values (Some part, value) kind =
+is_broken_part rules (Composite code must reps) values (Some part, value) kind =
     is_failed rules part (list_in rules (parts_of rules code.octets) values part) value kind
 
 abbrev pub is_broken_at : SegmentRules → Option ItemDef → List Octets → ℕ → Kind → Bool

@@ -1,5 +1,5 @@
 -- What a segment is checked by: its items, the parts of composites, and code lists.
-use Rattle.std.specs.Prelude.{List, [], Option, Some, None, unwrap_or}
+use Rattle.std.specs.Prelude.{ℕ, List, [], Option, Some, None, unwrap_or}
 use Rattle.std.specs.Option.{option_map}
 use Rattle.dir_compile.specs.Directory.{Directory}
 use Rattle.edi_tables.specs.Octets.{Octets}
@@ -33,14 +33,14 @@ service_rules parts context tag (Some items) = Some (record { context = context;
 unfoldable pub rules_of : Directory → Context → Octets → Option SegmentRules
 rules_of parts context tag = service_rules parts context tag (service_items_of tag)
 
--- the parts of a composite, by its code; one that isn't defined has none
-abbrev pub parts_by : Option Directory → Octets → List PartDef
-parts_by None code = unwrap_or (service_parts_of code) []
-parts_by (Some parts) code =
+-- the parts of a composite in a version of the syntax, by its code; one that isn't defined has none
+abbrev pub parts_by : ℕ → Option Directory → Octets → List PartDef
+parts_by version None code = unwrap_or (service_parts_of version code) []
+parts_by version (Some parts) code =
     unwrap_or (option_map (λ composite. composite.parts) (named_in composite_name parts.composites code)) []
 
 unfoldable pub parts_of : SegmentRules → Octets → List PartDef
-parts_of rules code = parts_by rules.directory code
+parts_of rules code = parts_by rules.context.version rules.directory code
 
 -- the code list of a data element, if one is loaded; service segments have no code lists
 abbrev pub list_by : Option Directory → Octets → Option CodeList

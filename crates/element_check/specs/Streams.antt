@@ -112,8 +112,8 @@ alone_errors rules element part values =
 
 -- the errors of an element that has an item
 abbrev pub item_errors : SegmentRules → ℕ → ItemDef → List Octets → List LocalError
-item_errors rules element (Alone part) values = alone_errors rules element part values
-item_errors rules element (Composite code must) values =
+item_errors rules element (Alone part reps) values = alone_errors rules element part values
+item_errors rules element (Composite code must reps) values =
     composite_errors rules element must (parts_of rules code.octets) values
 
 -- the errors of the elements past the one of this number

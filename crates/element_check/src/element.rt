@@ -34,8 +34,8 @@ pub(crate) fn check_item<O: Octets>(
         ≡ after_front element (components_ahead values.old)) }
 {
     match item {
-        ItemDef::Alone { part } => check_alone(rules, part, element, values, errors),
-        ItemDef::Composite { code, must } => {
+        ItemDef::Alone { part, .. } => check_alone(rules, part, element, values, errors),
+        ItemDef::Composite { code, must, .. } => {
             check_composite(rules, rules.parts(*code), *must, element, values, errors)
         }
     }

@@ -69,7 +69,7 @@ impl<'a> Rules<'a> {
         ensures lawful { ForSome self.now.directory IsDirectory }
     {
         match self.directory {
-            None => service_composite(code).unwrap_or(&[]),
+            None => service_composite(code, self.context.version).unwrap_or(&[]),
             Some(directory) => match directory.composite(code) {
                 Some(composite) => composite.parts.items(),
                 None => &[],

@@ -106,12 +106,14 @@ const ALONE: ItemDef = ItemDef::Alone {
             max: 35,
         },
     },
+    reps: 1,
 };
 
 const fn composite(octets: &[u8; 4], must: bool) -> ItemDef {
     ItemDef::Composite {
         code: Code { octets: *octets },
         must,
+        reps: 1,
     }
 }
 

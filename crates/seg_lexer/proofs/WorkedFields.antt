@@ -9,19 +9,19 @@ use Rattle.seg_lexer.specs.Tag.{tag_of}
 
 -- the tag field is element 0, and the three components of element 1 are numbered from 1
 components-date : components_of (separators_of default_service) (codes "DTM+137:19960105:102")
-    ≡ record { element = 0; component = 1; octets = codes "DTM" }
-    ∷ record { element = 1; component = 1; octets = codes "137" }
-    ∷ record { element = 1; component = 2; octets = codes "19960105" }
-    ∷ record { element = 1; component = 3; octets = codes "102" }
+    ≡ record { element = 0; repetition = 1; component = 1; octets = codes "DTM" }
+    ∷ record { element = 1; repetition = 1; component = 1; octets = codes "137" }
+    ∷ record { element = 1; repetition = 1; component = 2; octets = codes "19960105" }
+    ∷ record { element = 1; repetition = 1; component = 3; octets = codes "102" }
     ∷ []
 unfolding fields_of value_of places_that stretches is_released run_before
 components-date = refl
 
 -- places are those of the segment; a released separator separates nothing, and an empty element has one empty component
 fields-released : fields_of (separators_of default_service) (codes "A?+B++C")
-    ≡ record { element = 0; component = 1; place = record { from = 0; to = 4 }; octets = codes "A+B" }
-    ∷ record { element = 1; component = 1; place = record { from = 5; to = 5 }; octets = [] }
-    ∷ record { element = 2; component = 1; place = record { from = 6; to = 7 }; octets = codes "C" }
+    ≡ record { element = 0; repetition = 1; component = 1; place = record { from = 0; to = 4 }; octets = codes "A+B" }
+    ∷ record { element = 1; repetition = 1; component = 1; place = record { from = 5; to = 5 }; octets = [] }
+    ∷ record { element = 2; repetition = 1; component = 1; place = record { from = 6; to = 7 }; octets = codes "C" }
     ∷ []
 unfolding fields_of value_of places_that stretches is_released run_before
 fields-released = refl

@@ -49,6 +49,6 @@ unfolding service_of
 service-short = refl
 
 -- a space in the place of the release character: there is none
-service-without_release : service_of (codes "UNA:+.  'FTX+A?'") ≡ record { component = 58; element = 43; mark = 46; release = None; terminator = 39; body = 9; sound = true }
+service-without_release : service_of (codes "UNA:+.  'FTX+A?'") ≡ record { component = 58; element = 43; repetition = None; mark = 46; release = None; terminator = 39; body = 9; sound = true }
 unfolding service_of
 service-without_release = refl

@@ -11,7 +11,8 @@ use Rattle.seg_lexer.specs.declared.service.Service.{Service}
 
 -- what a segment is cut by, of the service characters
 abbrev pub separators_of : Service → Separators
-separators_of s = record { release = s.release; element = s.element; component = s.component }
+separators_of s =
+    record { release = s.release; element = s.element; repetition = s.repetition; component = s.component }
 
 -- place i holds an unreleased separator
 abbrev pub is_cut : Option ℕ → Octets → ℕ → ℕ → Bool
@@ -26,26 +27,35 @@ stretches a (c ∷ cs) b = record { from = a; to = c } ∷ stretches (c + 1) cs 
 abbrev pub cut : Option ℕ → Octets → ℕ → ℕ → ℕ → List Stretch
 cut release xs separator a b = stretches a (places_that (is_cut release xs separator) a b) b
 
--- a component: the numbers of its element (0 for the tag field) and of itself (from 1), and its value
+-- a component: the numbers of its element (0 for the tag field), of its repetition and of itself (both from 1), and its
+-- value
 pub record Component : Type 0 where
   pub element : ℕ
+  pub repetition : ℕ
   pub component : ℕ
   pub octets : Octets
 
 -- the same with its place
 pub record PlacedComponent : Type 0 where
   pub element : ℕ
+  pub repetition : ℕ
   pub component : ℕ
   pub place : Stretch
   pub octets : Octets
 
 abbrev pub unplaced : PlacedComponent → Component
-unplaced f = record { element = f.element; component = f.component; octets = f.octets }
+unplaced f =
+    record { element = f.element; repetition = f.repetition; component = f.component; octets = f.octets }
 
--- the component of an element that is this stretch of the segment, by its number
+-- the component of an element that is this stretch of the segment, by its number; an element is one repetition
 abbrev pub component_in : Option ℕ → Octets → ℕ → ℕ × Stretch → PlacedComponent
-component_in release xs element p =
-    record { element = element; component = p.0; place = p.1; octets = value_of release (octets_in xs p.1) }
+component_in release xs element p = record {
+  element = element;
+  repetition = 1;
+  component = p.0;
+  place = p.1;
+  octets = value_of release (octets_in xs p.1);
+}
 
 -- the components of a stretch, which belongs to an element, numbered from c
 abbrev pub components_in : Separators → Octets → ℕ → ℕ → Stretch → List PlacedComponent

@@ -11,6 +11,7 @@ use Rattle.seg_lexer.specs.declared.components.Fields.{Fields}
 abbrev pub placed_in : {O : Type 0} {o : Ghosts O} → ReadComponent O o → PlacedComponent
 placed_in p = record {
   element = p.element;
+  repetition = p.repetition;
   component = p.component;
   place = span_of p.value;
   octets = octets_of p.value;

@@ -43,4 +43,5 @@ component_to release xs p stop = component_in release xs p.element (p.component,
 
 -- the component whose numbers a place has, where it stands in the text, and its value
 abbrev pub placed_at : ComponentPlace → Stretch → Octets → PlacedComponent
-placed_at p place octets = record { element = p.element; component = p.component; place = place; octets = octets }
+placed_at p place octets =
+    record { element = p.element; repetition = 1; component = p.component; place = place; octets = octets }

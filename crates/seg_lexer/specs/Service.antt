@@ -5,11 +5,13 @@ use Rattle.std.specs.Option.{ForSome, option_to_list}
 use Rattle.edi_tables.specs.Octets.{Octets}
 use Rattle.seg_lexer.specs.declared.service.Service.{Service}
 
--- the default service characters `:` `+` `.` `?` `'`, over a text without service string advice
+-- the default service characters `:` `+` `.` `?` `'`, over a text without service string advice; none separates
+-- repetitions
 abbrev pub default_service : Service
 default_service = record {
   component = 58;
   element = 43;
+  repetition = None;
   mark = 46;
   release = Some 63;
   terminator = 39;
@@ -23,6 +25,7 @@ abbrev pub advice_in : Octets → Service
 advice_in text = record {
   component = slice_index text 3;
   element = slice_index text 4;
+  repetition = None;
   mark = slice_index text 5;
   release = if slice_index text 6 == 32 then None else Some (slice_index text 6);
   terminator = slice_index text 8;

@@ -11,11 +11,12 @@ use crate::value::Value;
 use edi_octets::Octets;
 use std::alloc::AllocError;
 
-/// A component of a segment: the number of its element, which is 0 for the tag field, its own number, from 1 in each
-/// element, and its value.
+/// A component of a segment: the number of its element, which is 0 for the tag field; that of its repetition, from 1 in
+/// each element; its own number, from 1 in each repetition; and its value.
 #[derive_where(Clone, Copy, Debug)]
 pub struct Component<'a, O: Octets> {
     pub element: u32,
+    pub repetition: u32,
     pub component: u32,
     pub value: Value<'a, O>,
 }
@@ -188,6 +189,7 @@ impl<'a, O: Octets> Fields<'a, O> {
             release,
             element,
             component,
+            ..
         } = self.separators;
         match find_free(
             self.text,
@@ -227,6 +229,7 @@ impl<'a, O: Octets> Iterator for Fields<'a, O> {
         let place = self.place?;
         Some(Component {
             element: place.element,
+            repetition: 1,
             component: place.component,
             value: self.take(place),
         })

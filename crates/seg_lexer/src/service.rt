@@ -12,6 +12,8 @@ pub struct Service {
     pub component: u8,
     /// Separates the data elements of a segment.
     pub element: u8,
+    /// Separates the repetitions of a data element; a text may have none.
+    pub repetition: Option<u8>,
     /// The decimal mark.
     pub mark: u8,
     /// Takes away the meaning of the octet after it; a text may have none.
@@ -29,6 +31,7 @@ pub struct Service {
 pub struct Separators {
     pub release: Option<u8>,
     pub element: u8,
+    pub repetition: Option<u8>,
     pub component: u8,
 }
 
@@ -42,6 +45,7 @@ impl Service {
         Separators {
             release: self.release,
             element: self.element,
+            repetition: self.repetition,
             component: self.component,
         }
     }
@@ -50,6 +54,7 @@ impl Service {
 const DEFAULT: Service = Service {
     component: b':',
     element: b'+',
+    repetition: None,
     mark: b'.',
     release: Some(b'?'),
     terminator: b'\'',
@@ -61,7 +66,7 @@ const DEFAULT: Service = Service {
 const ADVICE_LEN: usize = 9;
 
 /// The service characters of a text: those of its service string advice if it begins with an acceptable one, else the
-/// default characters `:` `+` `.` `?` `'`.
+/// default characters `:` `+` `.` `?` `'`. None separates repetitions.
 #[tactic(auto, unfolding(crate::specs::Service::service_of))]
 pub fn read_service<O: Octets>(text: &O) -> Service
     ensures service { result ≡ service_of (O.octets text.now) }
@@ -97,6 +102,7 @@ fn read_advice<O: Octets>(text: &O) -> Service
     Service {
         component: text.octet(3),
         element: text.octet(4),
+        repetition: None,
         mark: text.octet(5),
         release: if release == b' ' { None } else { Some(release) },
         terminator: text.octet(8),

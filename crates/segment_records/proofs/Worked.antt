@@ -35,7 +35,7 @@ segment name components =
     record { from = 0; start = 0; end = 0; components = components; tag = Some (record { octets = name }) }
 
 abbrev component : ℕ → List ℕ → Component
-component k octets = record { element = 2; component = k; octets = octets }
+component k octets = record { element = 2; repetition = 1; component = k; octets = octets }
 
 -- UNH of a message with this name, version, release and agency
 abbrev unh : List ℕ → List ℕ → Segment

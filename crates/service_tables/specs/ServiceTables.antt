@@ -38,12 +38,13 @@ repr_of class long = record { class = class; exact = long.exact; max = long.max 
 abbrev pub part : Octets → Class → Length → Bool → PartDef
 part code class long must = record { code = record { octets = code }; must = must; repr = repr_of class long }
 
+-- a stand-alone data element, without repetitions
 abbrev pub alone : Octets → Class → Length → Bool → ItemDef
-alone code class long must = Alone (part code class long must)
+alone code class long must = Alone (part code class long must) 1
 
--- a composite where it is used: its code and its status
+-- a composite where it is used, without repetitions: its code and its status
 abbrev pub composite : Octets → Bool → ItemDef
-composite code must = Composite (record { octets = code }) must
+composite code must = Composite (record { octets = code }) must 1
 
 -- the composite of these parts
 abbrev pub composite_of : Octets → List PartDef → CompositeDef
@@ -205,7 +206,8 @@ held_by name value (x ∷ xs) wanted =
 unfoldable pub service_items_of : Octets → Option (List ItemDef)
 service_items_of tag = held_by (λ segment. segment.tag.octets) (λ segment. segment.items) service_segments tag
 
--- the components of a composite of the service segments, if there is one of that code
-unfoldable pub service_parts_of : Octets → Option (List PartDef)
-service_parts_of code =
+-- the components of a composite of the service segments in a version of the syntax, if there is one of that code: all
+-- versions have the same
+unfoldable pub service_parts_of : ℕ → Octets → Option (List PartDef)
+service_parts_of version code =
     held_by (λ composite. composite.code.octets) (λ composite. composite.parts) service_composites code

@@ -48,12 +48,14 @@ const S010: &[PartDef] = &[part!(b"0070" N..2 M), part!(b"0073" A 1 C)];
 
 const S011: &[PartDef] = &[part!(b"0098" N..3 M), part!(b"0104" N..3 C)];
 
-/// The components of a composite of the service segments in order, if there is one of that code.
+/// The components of a composite of the service segments in order, in a version of the syntax, if there is one of that code.
+/// All versions have the same.
 #[tactic(auto, unfolding(crate::specs::ServiceTables::service_parts_of))]
-pub fn service_composite(code: Code) -> Option<&'static [PartDef]>
-    ensures parts { option_copied result ≡ service_parts_of code.octets }
+pub fn service_composite(code: Code, version: u8) -> Option<&'static [PartDef]>
+    ensures parts { option_copied result ≡ service_parts_of version code.octets }
     ensures sound { IfSome result (λ parts. list_all is_sound_part parts.now ≡ true) }
 {
+    let _ = version;
     match &code.octets {
         b"S001" => Some(S001),
         b"S002" => Some(S002),

@@ -49,19 +49,20 @@ macro_rules! part {
     };
 }
 
-/// A data element that stands alone in a segment.
+/// A data element that stands alone in a segment, without repetitions.
 #[macro_export]
 macro_rules! alone {
-    ($($word:tt)+) => { edi_tables::ItemDef::Alone { part: $crate::part!($($word)+) } };
+    ($($word:tt)+) => { edi_tables::ItemDef::Alone { part: $crate::part!($($word)+), reps: 1 } };
 }
 
-/// A composite in a segment: its code and its status.
+/// A composite in a segment, without repetitions: its code and its status.
 #[macro_export]
 macro_rules! composite {
     ($code:literal $status:ident) => {
         edi_tables::ItemDef::Composite {
             code: edi_tables::Code { octets: *$code },
             must: $crate::must!($status),
+            reps: 1,
         }
     };
 }

@@ -22,6 +22,7 @@ fn service_characters(rt: HostRuntime) {
     let wanted = Service {
         component: b';',
         element: 0,
+        repetition: None,
         mark: b'A',
         release: None,
         terminator: 255,

@@ -38,29 +38,29 @@ returns-in-None-clause-stop g c =
 pub returns-in-None-clause-rest : goal.returns-in-None-clause-rest
 returns-in-None-clause-rest g c =
     let r = reads c.args.self.now c.args.place c.requires in
-    rest-last _ _ _ _ _ r.stands _ _ c.in-None.ensures.first
+    rest-last c.args.self.now.separators _ _ _ _ r.stands _ _ c.in-None.ensures.first
 
 pub returns-in-Some-clause-next : goal.returns-in-Some-clause-next
 returns-in-Some-clause-next g c =
     let r = reads c.args.self.now c.args.place c.requires in
     let few = r.element in
-    let low = (stop-at _ _ _ _ _ r.stands 0 0 c.in-Some.found.place c.in-Some.ensures.first.0 c.in-Some.ensures.first.1).0 in
-    place-after _ _ _ _ _ r.stands 0 0 c.in-Some.found.place c.in-Some.ensures.first.0 c.in-Some.ensures.first.1 c.args.self.now.apart (c.args.place.element + 1) 1 _ c.next_element.ensures (omega arith) (omega arith)
+    let low = (stop-at c.args.self.now.separators _ _ _ _ r.stands 0 0 c.in-Some.found.place c.in-Some.ensures.first.0 c.in-Some.ensures.first.1).0 in
+    place-after c.args.self.now.separators _ _ _ _ r.stands 0 0 c.in-Some.found.place c.in-Some.ensures.first.0 c.in-Some.ensures.first.1 c.args.self.now.apart (c.args.place.element + 1) 1 _ c.next_element.ensures (omega arith) (omega arith)
 
 pub returns-in-Some-clause-rest : goal.returns-in-Some-clause-rest
 returns-in-Some-clause-rest g c =
     let r = reads c.args.self.now c.args.place c.requires in
-    rest-element _ _ _ _ _ r.stands _ _ c.in-Some.found.place c.in-Some.ensures.first.0 c.in-Some.ensures.first.1 c.next_element.result c.next_element.ensures (sym c.in-Some.ensures.octet ∙ c.if-found-element.true)
+    rest-element c.args.self.now.separators _ _ _ _ r.stands _ _ c.in-Some.found.place c.in-Some.ensures.first.0 c.in-Some.ensures.first.1 c.next_element.result c.next_element.ensures (sym c.in-Some.ensures.octet ∙ c.if-found-element.true)
 
 pub returns-in-Some-2-clause-next : goal.returns-in-Some-2-clause-next
 returns-in-Some-2-clause-next g c =
     let r = reads c.args.self.now c.args.place c.requires in
     let few_elements = r.element in
     let few_components = r.component in
-    let low = (stop-at _ _ _ _ _ r.stands 0 0 c.in-Some.found.place c.in-Some.ensures.first.0 c.in-Some.ensures.first.1).0 in
-    place-after _ _ _ _ _ r.stands 0 0 c.in-Some.found.place c.in-Some.ensures.first.0 c.in-Some.ensures.first.1 c.args.self.now.apart c.args.place.element (c.args.place.component + 1) _ c.next_component.ensures (omega arith) (omega arith)
+    let low = (stop-at c.args.self.now.separators _ _ _ _ r.stands 0 0 c.in-Some.found.place c.in-Some.ensures.first.0 c.in-Some.ensures.first.1).0 in
+    place-after c.args.self.now.separators _ _ _ _ r.stands 0 0 c.in-Some.found.place c.in-Some.ensures.first.0 c.in-Some.ensures.first.1 c.args.self.now.apart c.args.place.element (c.args.place.component + 1) _ c.next_component.ensures (omega arith) (omega arith)
 
 pub returns-in-Some-2-clause-rest : goal.returns-in-Some-2-clause-rest
 returns-in-Some-2-clause-rest g c =
     let r = reads c.args.self.now c.args.place c.requires in
-    rest-component _ _ _ _ _ r.stands _ _ c.in-Some.found.place c.in-Some.ensures.first.0 c.in-Some.ensures.first.1 c.next_component.result c.next_component.ensures (λ same. c.if-found-element.false (c.in-Some.ensures.octet ∙ same))
+    rest-component c.args.self.now.separators _ _ _ _ r.stands _ _ c.in-Some.found.place c.in-Some.ensures.first.0 c.in-Some.ensures.first.1 c.next_component.result c.next_component.ensures (λ same. c.if-found-element.false (c.in-Some.ensures.octet ∙ same))

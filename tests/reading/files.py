@@ -14,6 +14,7 @@ ELEMENT = re.compile(rb"[0-9]{4}")
 COMPOSITE = re.compile(rb"C[0-9]{3}")
 REPRESENTATION = re.compile(rb"(a|n|an)(\.\.)?[1-9][0-9]{0,3}")
 POSITION = re.compile(rb"[0-9]{3}")
+REPETITIONS = re.compile(rb"[1-9][0-9]?")
 TABLE_POSITION = re.compile(rb"[0-9]{4}")
 MESSAGE_NAME = re.compile(rb"[A-Z][A-Z0-9]{5}")
 LABELS = re.compile(rb"[A-Z0-9]{1,3} [A-Z0-9]{1,3} [A-Z0-9]{1,2}")
@@ -155,7 +156,8 @@ def parts_in(head, lines):
     found, last = [], -1
     for line in lines:
         if indentation_of(line.octets) <= 4:
-            last, member = judge_member(line, last, with_composites=False)
+            fields = without_mark_after_position(fields_of(line.octets))
+            last, member = judge_member(line, fields, last, with_composites=False)
             found.append(Part(*member))
     judge_number(head, found)
     return found
@@ -166,9 +168,8 @@ def judge_number(head, members):
         raise Fault(head.number, "bad-line")
 
 
-def judge_member(line, last, with_composites):
+def judge_member(line, fields, last, with_composites):
     """The position of a part or an item; and its code, whether it is mandatory, and its representation."""
-    fields = without_mark_after_position(fields_of(line.octets))
     code = fields[1] if len(fields) > 1 else b""
     alone = is_element_code(code)
     in_composite = with_composites and is_composite_code(code)
@@ -191,14 +192,29 @@ def segments_in(octets, composites):
     return entries_by_code(octets, is_tag, items_of)
 
 
+def repetitions_taken(fields):
+    """An item's fields without its greatest number of repetitions, and that number, which is 1 if it isn't written.
+
+    It is the last field of a composite, if that has five fields or more, and the one before the last of an element,
+    if that has six or more. The position is counted; a mark that is skipped isn't.
+    """
+    code = fields[1] if len(fields) > 1 else b""
+    if is_composite_code(code) and len(fields) >= 5 and REPETITIONS.fullmatch(fields[-1]):
+        return fields[:-1], int(fields[-1])
+    if is_element_code(code) and len(fields) >= 6 and REPETITIONS.fullmatch(fields[-2]):
+        return fields[:-2] + fields[-1:], int(fields[-2])
+    return fields, 1
+
+
 def items_in(head, lines, composites):
     found, last, item_line, parts = [], -1, None, []
     for line in lines:
         fields = fields_of(line.octets)
         if indentation_of(line.octets) <= 4:
             judge_parts(item_line, found, parts, composites)
-            last, member = judge_member(line, last, with_composites=True)
-            found.append(Item(*member))
+            fields, repetitions = repetitions_taken(without_mark_after_position(fields))
+            last, member = judge_member(line, fields, last, with_composites=True)
+            found.append(Item(*member, repetitions))
             item_line, parts = line, []
         elif found and is_element_code(fields[0]):
             parts.append(judge_part_line(line, fields, found[-1]))

@@ -10,10 +10,14 @@ class Part(NamedTuple):
 
 
 class Item(NamedTuple):
-    """An element of a segment. It stands alone if it has a representation, and else is a composite."""
+    """An element of a segment. It stands alone if it has a representation, and else is a composite.
+
+    The greatest number of its repetitions is 1 in every service segment.
+    """
     code: bytes
     mandatory: bool
     representation: bytes
+    repetitions: int = 1
 
 
 class Row(NamedTuple):

@@ -3,9 +3,9 @@ import re
 
 from . import service, tables
 from .files import LABELS, Fault, codes_in, composites_in, elements_in, lines_of, message_in, segments_in
+from .store import StoreFault, is_store, read_store
 from .text import TEXT_LIMIT
 
-STORE_BEGINNING = b"EDIDIR1\n"
 FILE_LIMIT = 400
 FILE_NAME = re.compile(rb"[A-Za-z0-9_-][A-Za-z0-9._-]*(/[A-Za-z0-9_-][A-Za-z0-9._-]*)*")
 KINDS_OF_FILES = [b"elements", b"codes", b"composites", b"segments", b"message"]
@@ -144,7 +144,7 @@ def judged(name, reader, *inputs):
 def load(shelf, name):
     """The directory that a manifest stands for."""
     manifest = open_file(shelf, name)
-    if manifest.startswith(STORE_BEGINNING):
+    if is_store(manifest):
         return load_store(name, manifest)
     labels, files = judged(name, read_manifest, manifest)
     readers = {b"elements": elements_in, b"codes": codes_in, b"composites": composites_in}
@@ -162,7 +162,6 @@ def load(shelf, name):
 
 def load_store(name, octets):
     """The directory that a store stands for."""
-    from .store import StoreFault, read_store
     try:
         return read_store(octets)
     except StoreFault as fault:

@@ -3,11 +3,13 @@ import re
 
 from . import service
 from .files import (COMPOSITE, DEPTH_LIMIT, ELEMENT, GREATEST_LIMIT, LABELS, MEMBER_LIMIT, MESSAGE_NAME,
-                    REPRESENTATION, ROW_LIMIT, STATUSES, table_fault)
+                    REPETITIONS, REPRESENTATION, ROW_LIMIT, STATUSES, table_fault)
 from .service import Item, Part, Row
 from .text import is_tag
 
 NUMBER = re.compile(rb"0|[1-9][0-9]{0,18}")
+# Version 2 is written, and both are read. Version 1 has no numbers of repetitions.
+FIRST_LINES = {1: b"EDIDIR1", 2: b"EDIDIR2"}
 
 
 class StoreFault(Exception):
@@ -22,23 +24,39 @@ def status_of(member):
     return b"M" if member.mandatory else b"C"
 
 
+def is_store(octets):
+    """Whether a manifest is a store, and no manifest of lines."""
+    return any(octets.startswith(line + b"\n") for line in FIRST_LINES.values())
+
+
 def write_store(directory):
-    """The one spelling of a directory."""
-    lines = [b"EDIDIR1", b" ".join(directory.labels), b"E %d" % len(directory.elements)]
+    """The one spelling of a directory that is written."""
+    return spelling_of(directory, 2)
+
+
+def spelling_of(directory, version):
+    """The spelling of a directory in a version. That of version 1 is read as one where each number is 1."""
+    lines = [FIRST_LINES[version], b" ".join(directory.labels), b"E %d" % len(directory.elements)]
     lines += [b"%s %s" % entry for entry in directory.elements.items()]
     lines.append(b"L %d" % len(directory.lists))
     for code, codes in directory.lists.items():
         lines += [b"%s %d" % (code, len(codes))] + codes
-    for letter, part in ((b"C", directory.composites), (b"S", directory.segments)):
-        lines.append(b"%s %d" % (letter, len(part)))
-        for name, members in part.items():
-            lines.append(b"%s %d" % (name, len(members)))
-            lines += [b"%s %s" % (member.code, status_of(member)) for member in members]
+    lines.append(b"C %d" % len(directory.composites))
+    for code, parts in directory.composites.items():
+        lines += [b"%s %d" % (code, len(parts))] + [b"%s %s" % (part.code, status_of(part)) for part in parts]
+    lines.append(b"S %d" % len(directory.segments))
+    for tag, items in directory.segments.items():
+        lines += [b"%s %d" % (tag, len(items))] + [item_line(item, version) for item in items]
     lines.append(b"T %d" % len(directory.messages))
     for name, rows in directory.messages.items():
         lines.append(b"%s %d" % (name, len(rows)))
         lines += [b"%d %s %s %d" % (row.depth, row.tag or b"-", status_of(row), row.greatest) for row in rows]
     return b"".join(line + b"\n" for line in lines)
+
+
+def item_line(item, version):
+    line = b"%s %s" % (item.code, status_of(item))
+    return line if version == 1 else line + b" %d" % item.repetitions
 
 
 class Lines:
@@ -86,17 +104,20 @@ def is_number(word):
 def read_store(octets):
     """The directory that these octets spell, or the fault that is met first."""
     from .directory import Directory
+    # A fault is judged by version 1 only if the whole first line is that of version 1.
+    version = 1 if octets.startswith(FIRST_LINES[1] + b"\n") else 2
     lines = Lines(octets)
-    lines.require(lines.take() == [b"EDIDIR1"])
+    lines.require(lines.take() == [FIRST_LINES[version]])
     labels = lines.take()
     lines.require(LABELS.fullmatch(b" ".join(labels)) is not None)
     elements = lines.take_entries(b"E", lambda is_next: take_element(lines, is_next))
     lists = lines.take_entries(b"L", lambda is_next: take_list(lines, is_next, elements))
     composites = lines.take_entries(b"C", lambda is_next: take_members(
-        lines, lambda name: COMPOSITE.fullmatch(name) and is_next(name), Part, elements, {}))
+        lines, lambda name: COMPOSITE.fullmatch(name) and is_next(name),
+        lambda words: part_of(lines, words, elements)))
     segments = lines.take_entries(b"S", lambda is_next: take_members(
         lines, lambda name: is_tag(name) and name not in service.SERVICE_SEGMENTS and is_next(name),
-        Item, elements, composites))
+        lambda words: item_of(lines, words, elements, composites, version)))
     messages = lines.take_entries(b"T", lambda is_next: take_table(lines, is_next, segments))
     if lines.next < len(octets):
         raise StoreFault(lines.next)
@@ -121,15 +142,23 @@ def take_list(lines, is_next, elements):
     return code, codes
 
 
-def take_members(lines, is_name, kind, elements, composites):
+def take_members(lines, is_name, member_of):
     """The parts of a composite, or the items of a segment."""
     name, count = lines.take_count(is_name, 1, MEMBER_LIMIT)
-    members = []
-    for _ in range(count):
-        words = lines.take()
-        lines.require(len(words) == 2 and words[1] in STATUSES and (words[0] in elements or words[0] in composites))
-        members.append(kind(words[0], words[1] == b"M", elements.get(words[0], b"")))
-    return name, members
+    return name, [member_of(lines.take()) for _ in range(count)]
+
+
+def part_of(lines, words, elements):
+    lines.require(len(words) == 2 and words[0] in elements and words[1] in STATUSES)
+    return Part(words[0], words[1] == b"M", elements[words[0]])
+
+
+def item_of(lines, words, elements, composites, version):
+    """An item, which has its number of repetitions as a third word in version 2, and no third word in version 1."""
+    lines.require(len(words) == (2 if version == 1 else 3))
+    lines.require((words[0] in elements or words[0] in composites) and words[1] in STATUSES)
+    lines.require(version == 1 or REPETITIONS.fullmatch(words[2]) is not None)
+    return Item(words[0], words[1] == b"M", elements.get(words[0], b""), 1 if version == 1 else int(words[2]))
 
 
 def take_table(lines, is_next, segments):

@@ -9,9 +9,12 @@ TAGS = [b"BGM", b"DTM", b"FTX", b"LIN", b"QTY", b"RFF", b"X1Y"]
 NAMES = [b"TSTORD", b"ABCDEF", b"B12345"]
 # Words that are put into the lines of files.
 ODD_WORDS = [b"M", b"C", b"0", b"1", b"an..3", b"n2", b"1001", b"9999", b"C002", b"BGM", b"UNT", b"UNB", b"+", b"X",
-             b"", b"----------", b"Repr:", b"1000000", b"x", b"999", b"005", b"0005", b"C" * 36]
+             b"", b"----------", b"Repr:", b"1000000", b"x", b"999", b"005", b"0005", b"C" * 36, b"5", b"99", b"100"]
+# Words that are or look like numbers of repetitions.
+NUMBERS = [b"1", b"2", b"10", b"99", b"0", b"05", b"100", b"5."]
 VALUES = [b"A" * 35, b"1", b"2", b"9", b"137", b"220", b"231", b"A", b"AAA", b"ZZZ", b"EN", b"9X", b"?", b"a", b"A.1"]
-TITLES = [b"Name", b"Date/time, coded", b"NAME OF A THING", b"M C x", b"- Segment group 1 -", b"a+b"]
+TITLES = [b"Name", b"Date/time, coded", b"NAME OF A THING", b"M C x", b"- Segment group 1 -", b"a+b", b"Name 5",
+          b"DATE M 99", b"Thing C 100", b"5"]
 
 
 def representation(rng):
@@ -26,21 +29,27 @@ class Parts:
         self.labels = (rng.choice([b"D", b"D", b"S93"]), rng.choice([b"96A", b"1", b"3"]), rng.choice([b"UN", b"X"]))
         self.elements = {code: representation(rng) for code in sample(rng, CODES, 3)}
         self.lists = {code: sample(rng, VALUES, 0) for code in sample(rng, self.elements, 0)}
-        self.composites = {code: self.members(rng, Part, {}) for code in sample(rng, COMPOSITE_CODES, 1)}
-        self.segments = {tag: self.members(rng, Item, self.composites) for tag in sample(rng, TAGS, 3)}
+        self.composites = {code: [Part(*member) for member in self.members(rng, {})]
+                           for code in sample(rng, COMPOSITE_CODES, 1)}
+        self.segments = {tag: [Item(*member, repetitions(rng)) for member in self.members(rng, self.composites)]
+                         for tag in sample(rng, TAGS, 3)}
         tags = list(self.segments) + [b"UNS"]
         self.messages = {name: table(rng, sample(rng, tags, 2)) for name in sample(rng, NAMES, 1)}
 
-    def members(self, rng, kind, composites):
-        """The parts of a composite, or the items of a segment."""
+    def members(self, rng, composites):
+        """What parts and items have: a code, whether it is mandatory, and a representation."""
         codes = [rng.choice(list(self.elements) + 2 * list(composites)) for _ in range(rng.randint(1, 5))]
-        return [kind(code, rng.random() < 0.4, self.elements.get(code, b"")) for code in codes]
+        return [(code, rng.random() < 0.4, self.elements.get(code, b"")) for code in codes]
 
 
 def sample(rng, names, least):
     """Some of these names, in any order."""
     names = list(names)
     return rng.sample(names, rng.randint(least, len(names)))
+
+
+def repetitions(rng):
+    return rng.choice([1, 1, 1, 1, 1, 2, 5, 9, 10, 99])
 
 
 def greatest(rng):
@@ -84,6 +93,15 @@ def spoil(rng, parts):
         spoil_table(rng, part[rng.choice(sorted(part))])
     elif part:
         del part[rng.choice(sorted(part))]
+
+
+def spoil_number(rng, segments):
+    """Gives an item a number of repetitions that none can have."""
+    tag = rng.choice(sorted(segments))
+    place = rng.randrange(len(segments[tag]))
+    items = list(segments[tag])
+    items[place] = items[place]._replace(repetitions=rng.choice([0, 100]))
+    segments[tag] = items
 
 
 def spoil_table(rng, rows):
@@ -168,9 +186,15 @@ class Files:
             mark = self.rng.choice([b""] * 9 + [b" +", b" X"])
             yield b"%0*d" % (digits, place) + mark
 
+    def number(self, member):
+        """An item's number of repetitions as a word, or no word: 1 needs none, and a part of a composite has none."""
+        is_written = isinstance(member, Item) and (member.repetitions > 1 or self.rng.random() < 0.1)
+        due = [b"%d" % member.repetitions] if is_written else []
+        return self.slip(due, [], [self.rng.choice(NUMBERS)], [b"5", b"5"])
+
     def member_lines(self, members):
-        return [self.line(self.rng.choice([0, 0, 4]), position, member.code, self.title(), status(member),
-                          member.representation).rstrip(b" ")
+        return [self.line(self.rng.choice([0, 0, 4]), position, member.code, *self.slip([self.title()], []),
+                          status(member), *self.number(member), member.representation).rstrip(b" ")
                 for position, member in zip(self.positions(3), members)]
 
     def composites(self, parts):
@@ -185,7 +209,8 @@ class Files:
             for item, line in zip(items, self.member_lines(items)):
                 lines.append(line)
                 if not item.representation and self.rng.random() < 0.5:
-                    again = [self.line(7, part.code, self.title(), status(part), part.representation)
+                    again = [self.line(7, part.code, self.title(), status(part), *self.number(part),
+                                       part.representation)
                              for part in parts.composites.get(item.code, [])]
                     lines += self.slip(again, again[::-1], again[:-1])
                 lines += self.text(5)

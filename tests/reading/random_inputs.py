@@ -7,7 +7,7 @@ from .acknowledgement import acknowledgement_of
 from .directory import Directory, load
 from .interchange import Reading
 from .random_edits import aimed_edit
-from .store import write_store
+from .store import spelling_of
 from .text import TEXT_LIMIT
 
 
@@ -40,8 +40,9 @@ def input_of(seed, examples):
     """The input that a seed makes. The files of the example directory are told."""
     rng = Hand(seed)
     make = rng.choices([reading_input, checking_input, script_input, table_input, broken_files_input,
-                        broken_parts_input, store_input, limits_input, drill_input, odd_words_input],
-                       [4, 12, 12, 6, 10, 4, 8, 0.3, 0.2, 0.5])[0]
+                        item_lines_input, broken_parts_input, store_input, limits_input, drill_input,
+                        odd_words_input],
+                       [4, 12, 12, 6, 10, 6, 4, 10, 0.3, 0.2, 0.5])[0]
     return make(rng, examples)
 
 
@@ -102,10 +103,23 @@ def broken_files_input(rng, examples):
         files, _directory = some_directory(rng, examples)
     name = rng.choice(sorted(files))
     for _ in range(rng.choice([0, 1, 1, 2])):
-        files[name] = rng.choice([changed_lines, changed_lines, changed_words, changed_octets])(rng, files[name])
+        files[name] = rng.choice([changed_lines, changed_lines, changed_words, changed_numbers,
+                                  changed_octets])(rng, files[name])
     if rng.random() < 0.05:
         del files[rng.choice(sorted(files))]
     return Input([rng.choice([b"tables", b"compile"]), b"m"], files, b"")
+
+
+def item_lines_input(rng, _examples):
+    """A directory whose segment file is changed, for the most part at what may be numbers of repetitions."""
+    parts = random_directories.Parts(rng)
+    files = random_directories.files_of(rng, parts)
+    files[b"ed/s"] = random_directories.Files(rng, rng.choice([0, 0.02, 0.05])).segments(parts)
+    for _ in range(rng.choice([0, 1, 1, 2])):
+        # A composite file has no such numbers.
+        name = rng.choice([b"ed/s"] * 5 + [b"ed/p"])
+        files[name] = changed_numbers(rng, files[name])
+    return Input([rng.choice([b"tables", b"compile", b"compile"]), b"m"], files, b"")
 
 
 def broken_parts_input(rng, _examples):
@@ -144,6 +158,21 @@ def changed_words(rng, octets):
     return b"\n".join(lines)
 
 
+def changed_numbers(rng, octets):
+    """Numbers put after the status of a line, beside the next word or in its place; or that word taken away."""
+    lines = octets.split(b"\n")
+    with_status = [k for k, line in enumerate(lines) if {b"M", b"C"} & set(line.split(b" "))]
+    place = rng.choice(with_status or [0])
+    words = lines[place].split(b" ")
+    after = 1 + max((k for k, word in enumerate(words) if word in (b"M", b"C")), default=0)
+    while after < len(words) and not words[after]:
+        after += 1
+    number = rng.choice(random_directories.NUMBERS)
+    words[after:after + rng.choice([0, 1])] = rng.choice([[number]] * 4 + [[number, number], []])
+    lines[place] = b" ".join(words)
+    return b"\n".join(lines)
+
+
 def changed_octets(rng, octets):
     place = rng.randint(0, len(octets))
     return octets[:place] + rng.choice([b"", b" ", b"\n", b"\r", b"\t", b"+", b"0", b"9", b"M", b"-"]) \
@@ -151,14 +180,22 @@ def changed_octets(rng, octets):
 
 
 def store_input(rng, examples):
-    """A store, and a text that is checked by it; now and then the store is changed."""
+    """A store, old or new, and a text that is checked by it; now and then the store is changed."""
     _files, directory = some_directory(rng, examples)
-    store = write_store(spoiled(rng, directory) if rng.random() < 0.4 else directory)
+    store = spelling_of(spoiled(rng, directory) if rng.random() < 0.4 else directory, rng.choice([1, 2, 2]))
     for _ in range(rng.choice([0, 0, 1, 1, 2])):
-        store = rng.choice([changed_lines, changed_words, changed_octets, changed_octets])(rng, store)
+        store = rng.choice([changed_lines, changed_words, changed_numbers, changed_numbers, changed_first_line,
+                            changed_octets, changed_octets])(rng, store)
     text = text_for(rng, directory)
     words = rng.choice([[b"check", b"s", b"t"], [b"tables", b"s"], [b"compile", b"s"]])
     return Input(words, {b"s": store, b"t": text}, b"")
+
+
+def changed_first_line(rng, octets):
+    """The first line of another version, of none, or one that isn't quite a first line."""
+    rest = octets[octets.find(b"\n"):]
+    return rng.choice([b"EDIDIR1", b"EDIDIR1", b"EDIDIR2", b"EDIDIR2", b"EDIDIR3", b"EDIDIR", b"EDIDIR1\r",
+                       b"EDIDIR2\r", b"EDIDIR2 ", b" EDIDIR2", b"edidir2", b"\nEDIDIR2"]) + rest
 
 
 def spoiled(rng, directory):
@@ -167,7 +204,10 @@ def spoiled(rng, directory):
     parts.elements, parts.lists = dict(directory.elements), dict(directory.lists)
     parts.composites, parts.segments = dict(directory.composites), dict(directory.segments)
     parts.messages = {name: list(rows) for name, rows in directory.messages.items()}
-    random_directories.spoil(rng, parts)
+    if rng.random() < 0.3:
+        random_directories.spoil_number(rng, parts.segments)
+    else:
+        random_directories.spoil(rng, parts)
     return Directory(directory.labels, parts.elements.items(), parts.lists.items(), parts.composites.items(),
                      parts.segments.items(), parts.messages.items())
 

@@ -6,17 +6,12 @@ from . import random_directories, random_texts
 from .acknowledgement import acknowledgement_of
 from .directory import Directory, load
 from .interchange import Reading
-from .random_edits import aimed_edit
+from .random_scripts import script, session, stamp_words
 from .store import spelling_of
-from .text import TEXT_LIMIT
 
-
-BAD_LINES = [b"error\n", b"replace 0 00 0\n\n", b"replace 0 0 4194305\n", b"replace 0 0 1\nXY\n", b"\n", b"End\n",
-             b"contrl 960106:080 C1\n", b"contrl 960106:0800 c1\n", b"contrl 960106:0800 C\r\n", b"end \n",
-             b"contrl 960106:0800 ABCDEFGHIJ12345\n", b"replace 0 0\n", b"text text\n", b"\xff", b"errors\r\n",
-             b"replace 10000000000000000000 0 0\n\n", b"replace -1 0 0\n\n", b"tree \n"]
-WORDS = [b"segments", b"values", b"tables", b"check", b"edit", b"contrl", b"compile", b"drill", b"m", b"t", b"none",
-         b"", b".m", b"a//b", b"960106:0800", b"C1", b"0", b"1", b"01", b"1001", b"x" * 128, b"x" * 129, b"a/b", b"-"]
+WORDS = [b"segments", b"values", b"tables", b"check", b"edit", b"session", b"contrl", b"compile", b"drill", b"m", b"t",
+         b"none", b"", b".m", b"a//b", b"960106:0800", b"C1", b"0", b"1", b"01", b"1001", b"x" * 128, b"x" * 129,
+         b"a/b", b"-"]
 
 
 class Input(NamedTuple):
@@ -40,9 +35,9 @@ def input_of(seed, examples):
     """The input that a seed makes. The files of the example directory are told."""
     rng = Hand(seed)
     make = rng.choices([reading_input, checking_input, script_input, table_input, broken_files_input,
-                        item_lines_input, broken_parts_input, store_input, limits_input, drill_input,
+                        item_lines_input, broken_parts_input, store_input, session_input, limits_input, drill_input,
                         odd_words_input],
-                       [4, 12, 12, 6, 10, 6, 4, 10, 0.3, 0.2, 0.5])[0]
+                       [4, 12, 12, 6, 10, 6, 4, 10, 10, 0.3, 0.2, 0.5])[0]
     return make(rng, examples)
 
 
@@ -66,10 +61,6 @@ def text_for(rng, directory):
         return rng.choice([b"", b"UNA", b"UNB+"]) + bytes(rng.choice(random_texts.ODD_OCTETS)
                                                           for _ in range(rng.randint(0, 40)))
     return octets
-
-
-def stamp_words(rng):
-    return [b"%06d:%04d" % (rng.randrange(1000000), rng.randrange(10000)), rng.choice([b"C1", b"0", b"ABCDEFGH123456"])]
 
 
 def reading_input(rng, examples):
@@ -218,62 +209,10 @@ def script_input(rng, examples):
     return Input([b"edit", b"m", b"t"], files, script(rng, files[b"t"]))
 
 
-def script(rng, text):
-    """Some 20 to 60 commands: edits, most of which are soon taken back, and questions. Some scripts break off."""
-    commands, before = [], None
-    for _ in range(rng.randint(20, 60)):
-        if before is not None and rng.random() < 0.4:
-            commands.append(way_back(text, before))
-        else:
-            commands.append(command(rng, text))
-        if commands[-1].startswith(b"replace"):
-            before, text = text, text_after(commands[-1], text)
-    commands.append(b"end\n" + rng.choice([b"", b"errors\n"]))
-    if rng.random() < 0.25:
-        commands[rng.randrange(len(commands))] = rng.choice(BAD_LINES)
-    octets = b"".join(commands)
-    if rng.random() < 0.1:
-        line = rng.choice(BAD_LINES)
-        return b"".join(commands[:rng.randrange(len(commands))]) + line[:rng.randint(1, len(line))]
-    return octets[:rng.randint(0, len(octets))] if rng.random() < 0.1 else octets
-
-
-def way_back(text, before):
-    """The edit that makes the text what it was: what is between the octets that both begin and end with."""
-    front = next((k for k in range(min(len(text), len(before))) if text[k] != before[k]), min(len(text), len(before)))
-    back = 0
-    while back < min(len(text), len(before)) - front and text[len(text) - 1 - back] == before[len(before) - 1 - back]:
-        back += 1
-    put = before[front:len(before) - back]
-    return b"replace %d %d %d\n%s\n" % (front, len(text) - back - front, len(put), put)
-
-
-def text_after(line, text):
-    """The text that an edit leaves, if it is inside."""
-    head, data = line.split(b"\n", 1)
-    at, cut, _size = (int(word) for word in head.split(b" ")[1:])
-    left = text[:at] + data[:-1] + text[at + cut:]
-    return left if at + cut <= len(text) and len(left) <= TEXT_LIMIT else text
-
-
-def command(rng, text):
-    roll = rng.random()
-    if roll < 0.55:
-        at, cut, put = aimed_edit(rng, text)
-        return b"replace %d %d %d\n%s\n" % (at, cut, len(put), put)
-    if roll < 0.6:
-        at, cut = rng.choice([(len(text), 1), (len(text) + 1, 0), (0, len(text) + 1), (9999999999999999999, 1),
-                              (9999999999999999999, 9999999999999999999), (0, 0)])
-        return b"replace %d %d 1\n'\n" % (at, cut)
-    if roll < 0.602:
-        # One octet more than a text may have.
-        size = TEXT_LIMIT - len(text) + 1
-        return b"replace %d 0 %d\n%s\n" % (rng.randint(0, len(text)), size, b" " * size)
-    if roll < 0.62:
-        return b"text\n"
-    if roll < 0.72:
-        return b"contrl %s %s\n" % tuple(stamp_words(rng))
-    return rng.choice([b"errors\n", b"tree\n"])
+def session_input(rng, examples):
+    files, directory = some_directory(rng, examples)
+    files[b"t"] = text_for(rng, directory)
+    return Input([b"session", b"m", b"t"], files, session(rng, files[b"t"]))
 
 
 def drill_input(rng, _examples):

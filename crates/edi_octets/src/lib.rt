@@ -11,6 +11,7 @@ mod lines;
 mod name;
 mod octets;
 mod profile;
+mod shown;
 mod words;
 
 pub use cells::Cells;
@@ -26,4 +27,5 @@ pub use profile::{
     after_position, is_composite_code, is_element_code, is_greater, is_lone_mark, put_status,
     read_composite_code, read_element_code, read_position, read_repr, read_status,
 };
+pub use shown::put_shown;
 pub use words::{four_words, three_words, two_words};

@@ -1,10 +1,10 @@
 -- The printed forms of a text's segments and values.
-use Rattle.std.specs.Prelude.{ℕ, ◌+◌, ◌-◌, ◌/◌, ◌%◌, Bool, false, not, ◌&&◌, ◌==◌, nat_le, List, [], ◌∷◌, ◌++◌, length, Option, Some, None, codes, decimal, if◌then◌else◌}
+use Rattle.std.specs.Prelude.{ℕ, ◌+◌, ◌-◌, Bool, not, ◌&&◌, ◌==◌, List, [], ◌∷◌, ◌++◌, length, Option, Some, None, codes, decimal, if◌then◌else◌}
 use Rattle.std.specs.List.{flat_map}
-use Rattle.std.specs.Fmt.{digit_glyph}
 use Rattle.edi_tables.specs.Octets.{Octets}
 use Rattle.edi_tables.specs.Filled.{is_filled}
 use Rattle.edi_octets.specs.Decimal.{count_line}
+use Rattle.edi_octets.specs.Shown.{octet_shown}
 use Rattle.seg_lexer.specs.declared.service.Service.{Service}
 use Rattle.seg_lexer.specs.Service.{service_of}
 use Rattle.seg_lexer.specs.Segments.{segments_of, tail_of}
@@ -18,13 +18,6 @@ use Rattle.listing_printer.specs.declared.text.Detail.TheVariants.{Segments, Val
 abbrev pub tag_shown : Option Octets → Octets
 tag_shown None = codes "---"
 tag_shown (Some tag) = tag
-
--- a shown octet: itself from 32 to 126, except the backslash;
--- any other is a backslash and two lower-case hexadecimal digits
-abbrev pub octet_shown : ℕ → Octets
-octet_shown x =
-    if nat_le 32 x && nat_le x 126 && not (x == 92) then x ∷ []
-    else 92 ∷ digit_glyph false (x / 16) ∷ digit_glyph false (x % 16) ∷ []
 
 -- the line of a component: two spaces, its element, its number and its value
 unfoldable pub value_line : Component → Octets

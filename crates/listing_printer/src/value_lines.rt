@@ -1,15 +1,15 @@
 //! The printed lines of values.
-ghost use Rattle.std.specs.Prelude.{◌≡◌, ◌++◌, ◌<◌, OnOk, false};
+ghost use Rattle.std.specs.Prelude.{◌≡◌, ◌++◌, ◌<◌, OnOk};
 ghost use Rattle.std.specs.List.{flat_map};
-ghost use Rattle.std.specs.Fmt.{digit_glyph};
 ghost use Rattle.seg_lexer.specs.Fields.{unplaced};
 ghost use Rattle.seg_lexer.specs.Left.{components_left, placed_in};
 ghost use Rattle.seg_lexer.specs.Tag.{tag_of};
 ghost use Rattle.seg_lexer.specs.Value.{octets_of};
-ghost use Rattle.listing_printer.specs.Printing.{component_line, octet_shown, tag_end, value_line, value_lines};
+ghost use Rattle.edi_octets.specs.Shown.{octet_shown};
+ghost use Rattle.listing_printer.specs.Printing.{component_line, tag_end, value_line, value_lines};
 
 use crate::segment_line::put_tag;
-use edi_octets::{Octets, put_decimal};
+use edi_octets::{Octets, put_decimal, put_shown};
 use edi_tables::Chunk;
 use seg_lexer::{Component, Fields, Value};
 use std::alloc::AllocError;
@@ -69,24 +69,4 @@ fn put_octets<O: Octets>(lines: &mut Chunk, value: &Value<'_, O>) -> Result<(), 
         put_shown(lines, octet)?;
     }
     Ok(())
-}
-
-// An octet as it is shown: itself from 32 to 126 except the backslash, any other is a backslash and two hexadecimal
-// digits.
-fn put_shown(lines: &mut Chunk, octet: u8) -> Result<(), AllocError>
-    ensures { OnOk result (lines.new ≡ lines.old ++ octet_shown octet) }
-{
-    if (32..=126).contains(&octet) && octet != b'\\' {
-        lines.add(&[octet])
-    } else {
-        lines.add(&[b'\\', hex_digit(octet / 16), hex_digit(octet % 16)])
-    }
-}
-
-// The lower-case hexadecimal digit of a number below 16.
-fn hex_digit(n: u8) -> u8
-    requires { n < 16 }
-    ensures { result ≡ digit_glyph false n }
-{
-    if n < 10 { b'0' + n } else { b'a' + (n - 10) }
 }

@@ -1,0 +1,7 @@
+pub mod LedBack
+pub mod Match
+pub mod Premises
+pub mod Printing
+pub mod Reported
+pub mod Spots
+pub mod Telling

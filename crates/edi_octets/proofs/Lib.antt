@@ -11,6 +11,7 @@ pub mod PartLemmas
 pub mod PlaceLemmas
 pub mod PlainLemmas
 pub mod ProfileLemmas
+pub mod RankLemmas
 pub mod SplitLemmas
 pub mod TurnLemmas
 pub mod WordLemmas

@@ -47,9 +47,9 @@ composite_rules greater status = if not greater then Some BadPosition else (if n
 element_rules : Bool → Option Bool → Option Repr → Option DirKind
 element_rules greater status repr = option_or (composite_rules greater status) (if not (is_some repr) then Some BadRepr else None)
 
-element_fault-rules : (before : Option ℕ) (line : Line) → element_fault before line ≡ element_rules (is_greater before (position_of line)) (element_status (fields_behind line)) (element_repr (fields_behind line))
+element_fault-rules : (before : Option ℕ) (line : Line) (status : Option Bool) (repr : Option Repr) → element_fault before line status repr ≡ element_rules (is_greater before (position_of line)) status repr
 unfolding element_rules composite_rules
-element_fault-rules before line = refl
+element_fault-rules before line status repr = refl
 
 made-element : (greater : Bool) (status : Option Bool) (repr : Option Repr) (code : Code) → element_rules greater status repr ≡ None → is_some (part_with code status repr) ≡ true
 unfolding element_rules composite_rules
@@ -66,17 +66,19 @@ not-false : (b : Bool) → not b ≡ false → b ≡ true
 not-false true is = refl
 not-false false is = cc
 
-pub part_in-made : (before : Option ℕ) (line : Line) → element_fault before line ≡ None → is_element_form (fields_behind line) ≡ true → is_some (part_in (fields_behind line)) ≡ true
-part_in-made before line none form =
-    rw form (made-element (is_greater before (position_of line)) (element_status (fields_behind line)) (element_repr (fields_behind line)) (record { octets = first_field (fields_behind line) }) (sym (element_fault-rules before line) ∙ none))
+pub part_in-made : (before : Option ℕ) (line : Line) (fields : List (List ℕ)) → element_fault before line (element_status fields) (element_repr fields) ≡ None → is_element_form fields ≡ true → is_some (part_in fields) ≡ true
+part_in-made before line fields none form =
+    rw form (made-element (is_greater before (position_of line)) (element_status fields) (element_repr fields) (record { octets = first_field fields }) (sym (element_fault-rules before line (element_status fields) (element_repr fields)) ∙ none))
 
 -- a part line at which nothing is wrong gives a part
 part_faults-made : (earlier : List Line) (line : Line) → Unit {0} → part_faults (last_of (map position_of earlier)) line ≡ [] → is_some (part_in (fields_behind line)) ≡ true
 part_faults-made earlier line given none =
     let before = last_of (map position_of earlier) in
-    let good = is_placed line && is_element_form (fields_behind line) in
-    let rules = first_rule (not good) BadLine (element_fault before line) (none_listed line (if not good then Some BadLine else element_fault before line) none) in
-    part_in-made before line rules.1 (and_parts (is_placed line) (is_element_form (fields_behind line)) (not-false good rules.0)).1
+    let fields = fields_behind line in
+    let good = is_placed line && is_element_form fields in
+    let broken = element_fault before line (element_status fields) (element_repr fields) in
+    let rules = first_rule (not good) BadLine broken (none_listed line (if not good then Some BadLine else broken) none) in
+    part_in-made before line fields rules.1 (and_parts (is_placed line) (is_element_form fields) (not-false good rules.0)).1
 
 -- ---- composites
 

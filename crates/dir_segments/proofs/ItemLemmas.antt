@@ -5,15 +5,22 @@ use Rattle.std.specs.List.{flat_map, filter_map}
 use Rattle.std.proofs.lemmas.List.Concat.{flat_map-append}
 use Rattle.std.proofs.lemmas.List.Elements.{filter-append, filter_map-append}
 use Rattle.std.proofs.lemmas.List.Sums.{take_while-cons}
+use Rattle.edi_tables.specs.declared.element.Code.{Code}
 use Rattle.edi_tables.specs.declared.element.PartDef.{PartDef}
+use Rattle.edi_tables.specs.declared.segment.ItemDef.{ItemDef}
+use Rattle.dir_segments.specs.declared.fields.ElementFields.{ElementFields}
+use Rattle.dir_segments.specs.declared.fields.ElementItem.{ElementItem}
+use Rattle.dir_segments.specs.declared.fields.CompositeItem.{CompositeItem}
+use Rattle.dir_segments.specs.Repetitions.{item_fields, reps_in, IsElementItem, IsCompositeItem}
 use Rattle.edi_octets.specs.declared.fault.DirStop.{DirStop}
 use Rattle.edi_tables.specs.First.{IsVerdict, unless_faulty}
 use Rattle.edi_octets.specs.DirStop.{fault_in}
 use Rattle.edi_octets.specs.Lines.{Line}
-use Rattle.edi_octets.specs.Profile.{fields_of}
-use Rattle.dir_segments.specs.Parts.{is_item_line, part_in, is_placed, fields_behind, is_element_form, is_composite_form, element_fault, composite_fault, fault_list}
-use Rattle.dir_segments.specs.Segments.{item_at, items_of, details_of, is_part_line, detail_faults, repeated_parts, line_faults}
-use Rattle.dir_segments.proofs.StopLemmas.{stops}
+use Rattle.edi_octets.specs.Profile.{fields_of, first_field}
+use Rattle.dir_segments.specs.Parts.{is_item_line, part_in, is_placed, is_element_form, is_composite_form, element_status, element_repr, composite_status, status_fault, element_fault, fault_list, part_with, IsElement}
+use Rattle.dir_segments.specs.Segments.{item_at, items_of, details_of, is_part_line, detail_faults, repeated_parts, line_faults, item_in, alone_item, composite_item}
+use Rattle.dir_segments.proofs.FieldLemmas.{is_composite_form-element}
+use Rattle.dir_segments.proofs.StopLemmas.{placed, stops}
 use Rattle.dir_segments.proofs.FrontLemmas.{goes_on, goes_at}
 
 pub items_of-item : (line : Line) (lines : List Line) → is_item_line line ≡ true → items_of (line ∷ lines) ≡ item_at line lines ∷ items_of lines
@@ -72,8 +79,40 @@ module _ (below_composite : Bool) where
       ap (flat_map judge) (goes_at all read.front line rest later read.splits here) ∙ flat_map-append judge read.front (line ∷ later) in
       stops view outer stop (flat_map judge read.front) (judge line) (flat_map judge later) (flat_map judge all) v w read.clean is given
 
-pub line_faults-element : (before : Option ℕ) (line : Line) → is_placed line ≡ true → is_element_form (fields_behind line) ≡ true → line_faults before line ≡ fault_list line (element_fault before line)
-line_faults-element before line position form = rw (position, form) refl
+line_faults-element : (before : Option ℕ) (line : Line) (fields : List (List ℕ)) → is_placed line ≡ true → is_element_form fields ≡ true → line_faults before line fields ≡ fault_list line (element_fault before line (element_status fields) (element_repr fields))
+line_faults-element before line fields position form = rw (position, form) refl
 
-pub line_faults-composite : (before : Option ℕ) (line : Line) → is_placed line ≡ true → is_element_form (fields_behind line) ≡ false → is_composite_form (fields_behind line) ≡ true → line_faults before line ≡ fault_list line (composite_fault before line)
-line_faults-composite before line position other form = rw (position, other, form) refl
+line_faults-composite : (before : Option ℕ) (line : Line) (fields : List (List ℕ)) → is_placed line ≡ true → is_element_form fields ≡ false → is_composite_form fields ≡ true → line_faults before line fields ≡ fault_list line (status_fault before line (composite_status fields))
+line_faults-composite before line fields position other form = rw (position, other, form) refl
+
+abbrev code_of : List ℕ → Code
+code_of octets = record { octets = octets }
+
+-- the part of a data element's fields, by what was read of them
+part_in-read : (element : ElementFields) (fields : List (List ℕ)) → is_element_form fields ≡ true → IsElement element fields → part_in fields ≡ part_with element.code element.must element.repr
+part_in-read element fields form read =
+    let code : code_of (first_field fields) ≡ element.code = ap code_of (sym read.code) in
+    rw form (rw (code, sym read.must, sym read.repr) refl)
+
+-- what is behind the position of a line was read
+module _ (before : Option ℕ) (line : Line) (fields : List (List ℕ)) (at_position : is_placed line ≡ true) where
+  pub element_line-faults : (item : ElementItem) → (is_element_form (item_fields fields) ≡ true) × IsElementItem item fields → line_faults before line (item_fields fields) ≡ fault_list line (element_fault before line item.element.must item.element.repr)
+  element_line-faults item read =
+      line_faults-element before line (item_fields fields) at_position read.0 ∙ rw (sym read.1.element.must, sym read.1.element.repr) refl
+
+  pub composite_line-faults : (item : CompositeItem) → is_element_form (item_fields fields) ≡ false → (is_composite_form (item_fields fields) ≡ true) × IsCompositeItem item fields → line_faults before line (item_fields fields) ≡ fault_list line (status_fault before line item.must)
+  composite_line-faults item other read =
+      line_faults-composite before line (item_fields fields) at_position other read.0 ∙ rw (sym read.1.must) refl
+
+pub element_line-item : (fields : List (List ℕ)) (item : ElementItem) → (is_element_form (item_fields fields) ≡ true) × IsElementItem item fields → item_in (item_fields fields) (reps_in fields) ≡ alone_item (part_with item.element.code item.element.must item.element.repr) item.reps
+element_line-item fields item read =
+    rw (is_composite_form-element (item_fields fields) read.0, part_in-read item.element (item_fields fields) read.0 read.1.element, sym read.1.reps) refl
+
+pub composite_line-item : (fields : List (List ℕ)) (item : CompositeItem) → (is_composite_form (item_fields fields) ≡ true) × IsCompositeItem item fields → item_in (item_fields fields) (reps_in fields) ≡ composite_item item.code item.must item.reps
+composite_line-item fields item read =
+    let code : code_of (first_field (item_fields fields)) ≡ item.code = ap code_of (sym read.1.code) in
+    rw read.0 (rw (code, sym read.1.must, sym read.1.reps) refl)
+
+-- a place and an item
+pub placed_item : (position at : ℕ) (found : Option ItemDef) (item : ItemDef) → position ≡ at → found ≡ Some item → (at, found) ≡ placed (position, item)
+placed_item position at found item same is = rw (is, same) refl

@@ -5,6 +5,8 @@ pub mod FrontLemmas
 pub mod ItemLemmas
 pub mod KnownLemmas
 mod PartLemmas
+pub mod RepetitionLemmas
 pub mod StopLemmas
+pub mod UnnumberedLemmas
 mod Worked
 pub mod WorkedComposites

@@ -6,7 +6,6 @@ use Rattle.edi_tables.specs.declared.element.Code.{Code}
 use Rattle.edi_tables.specs.declared.element.Repr.{Repr}
 use Rattle.edi_tables.specs.declared.element.PartDef.{PartDef}
 use Rattle.dir_segments.specs.declared.fields.ElementFields.{ElementFields}
-use Rattle.dir_segments.specs.declared.fields.CompositeFields.{CompositeFields}
 use Rattle.edi_octets.specs.declared.fault.DirFault.{DirFault}
 use Rattle.edi_octets.specs.declared.fault.DirKind.{DirKind}
 use Rattle.edi_octets.specs.declared.fault.DirKind.TheVariants.{BadLine, BadPosition, BadStatus, BadRepr}
@@ -73,15 +72,10 @@ status_fault before line status =
     if not (is_greater before (position_of line)) then Some BadPosition
     else (if not (is_some status) then Some BadStatus else None)
 
--- what a data element's line breaks, after the position before it
-abbrev pub element_fault : Option ℕ → Line → Option DirKind
-element_fault before line =
-    option_or (status_fault before line (element_status (fields_behind line)))
-    (if not (is_some (element_repr (fields_behind line))) then Some BadRepr else None)
-
--- what a composite's line breaks, after the position before it
-abbrev pub composite_fault : Option ℕ → Line → Option DirKind
-composite_fault before line = status_fault before line (composite_status (fields_behind line))
+-- what a line with this status and representation breaks, after the position before it
+abbrev pub element_fault : Option ℕ → Line → Option Bool → Option Repr → Option DirKind
+element_fault before line status repr =
+    option_or (status_fault before line status) (if not (is_some repr) then Some BadRepr else None)
 
 -- an entry has 1 to 99 parts or items; this is judged where it ends
 abbrev pub count_faults : Line → ℕ → List DirFault
@@ -95,20 +89,16 @@ fault_list line (Some kind) = record { line = line.number; kind = kind } ∷ []
 -- a part line behind the position before: a position, an element code, a name, a status and a representation
 abbrev pub part_faults : Option ℕ → Line → List DirFault
 part_faults before line =
+    let fields = fields_behind line in
     fault_list line
-    (if not (is_placed line && is_element_form (fields_behind line)) then Some BadLine
-    else element_fault before line)
+    (if not (is_placed line && is_element_form fields) then Some BadLine
+    else element_fault before line (element_status fields) (element_repr fields))
 
 -- what was read of a data element's fields: the code, and the status and the representation where they are good
 pub record IsElement (element : ElementFields) (fields : List Octets) : Type 0 where
   pub code : element.code.octets ≡ first_field fields
   pub must : element.must ≡ element_status fields
   pub repr : element.repr ≡ element_repr fields
-
--- what was read of a composite's fields: the code, and the status where it is good
-pub record IsComposite (composite : CompositeFields) (fields : List Octets) : Type 0 where
-  pub code : composite.code.octets ≡ first_field fields
-  pub must : composite.must ≡ composite_status fields
 
 -- what was read of a line: its position and what it defines where no rule is broken, else the first fault, unless
 -- memory ran out

@@ -6,7 +6,7 @@ ghost use Rattle.edi_tables.specs.First.{IsVerdict, unless_faulty};
 ghost use Rattle.edi_octets.specs.DirStop.{fault_in};
 ghost use Rattle.edi_octets.specs.Left.{line_shown, body_left};
 ghost use Rattle.edi_octets.specs.Profile.{fields_of};
-ghost use Rattle.dir_segments.specs.Parts.{Passes, fields_behind, is_composite_form, part_in};
+ghost use Rattle.dir_segments.specs.Parts.{Passes, is_composite_form, part_in};
 ghost use Rattle.dir_segments.specs.Segments as segments;
 
 use crate::fields::{is_item_line, read_element};
@@ -42,7 +42,7 @@ pub(crate) fn read_details(
 
 /// Whether an item is a composite.
 pub(crate) fn is_composite_item(item: &ItemDef) -> bool
-    ensures { (fields : List (List ℕ)) → segments.item_in fields ≡ Some item.now
+    ensures { (fields : List (List ℕ)) → (reps : ℕ) → segments.item_in fields reps ≡ Some item.now
         → result ≡ is_composite_form fields }
 {
     matches!(item, ItemDef::Composite { .. })
@@ -55,9 +55,9 @@ pub(crate) fn judge_end(
     item: &ItemDef,
     parts: &[PartDef],
 ) -> Result<(), DirStop>
-    requires { segments.item_in (fields_behind (line_shown line.now)) ≡ Some item.now }
-    ensures { Passes result
-        (segments.item_end_faults known.now.composites.now (line_shown line.now) parts.now) }
+    ensures { (fields : List (List ℕ)) → (reps : ℕ) → segments.item_in fields reps ≡ Some item.now
+        → Passes result (segments.item_end_faults known.now.composites.now (line_shown line.now)
+        fields parts.now) }
 {
     let ItemDef::Composite { code, .. } = item else {
         return Ok(());

@@ -1,5 +1,5 @@
 //! Lines of parts and items, judged after the position before them.
-ghost use Rattle.std.specs.Prelude.{◌≡◌, Some, IsTrue};
+ghost use Rattle.std.specs.Prelude.{◌≡◌, Some};
 ghost use Rattle.edi_tables.specs.First.{IsVerdict, unless_faulty};
 ghost use Rattle.edi_octets.specs.DirStop.{fault_in};
 ghost use Rattle.edi_octets.specs.Left.{line_shown};
@@ -36,13 +36,13 @@ pub(crate) fn judge_element(
     line: &LineText<'_>,
     element: &ElementFields,
 ) -> Result<PartDef, DirStop>
-    requires position { position ≡ profile.position_of (line_shown line.now) }
-    requires form { IsTrue (parts.is_element_form (parts.fields_behind (line_shown line.now))) }
-    requires element { parts.IsElement element.now (parts.fields_behind (line_shown line.now)) }
+    requires { position ≡ profile.position_of (line_shown line.now) }
     ensures { let shown = line_shown line.now in
+        let found = element.now in
         IsVerdict (λ part. Some part) fault_in result
-        (unless_faulty (parts.fault_list shown (parts.element_fault before shown))
-        (parts.part_in (parts.fields_behind shown))) }
+        (unless_faulty
+        (parts.fault_list shown (parts.element_fault before shown found.must found.repr))
+        (parts.part_with found.code found.must found.repr)) }
 {
     let must = judge_status(before, position, line, element.must)?;
     let Some(repr) = element.repr else {

@@ -1,5 +1,5 @@
 //! Segment files.
-ghost use Rattle.std.specs.Prelude.{◌≡◌, ◌≤◌, List, [], ◌∷◌, ◌++◌, length, map, true, IfOk, OnOk};
+ghost use Rattle.std.specs.Prelude.{◌≡◌, ◌≤◌, List, [], ◌∷◌, ◌++◌, length, map, true, Ok, IfOk, OnOk};
 ghost use Rattle.std.specs.List.{list_all};
 ghost use Rattle.edi_tables.specs.Forms.{is_segment_formed};
 ghost use Rattle.edi_tables.specs.First.{IsVerdict, unless_faulty};
@@ -9,6 +9,7 @@ ghost use Rattle.edi_octets.specs.Lines.{Line};
 ghost use Rattle.edi_octets.specs.Head.{head_field};
 ghost use Rattle.dir_segments.specs.Parts as parts;
 ghost use Rattle.dir_segments.specs.Segments as segments;
+ghost use Rattle.dir_segments.specs.Unnumbered.{unnumbered_in_file};
 ghost use Rattle.edi_octets.specs.declared.octets.TheConstants.{LONGEST_TEXT};
 
 use crate::details::{is_composite_item, judge_end, read_details};
@@ -34,6 +35,8 @@ pub fn read_segments(
     requires { length file.now ≤ LONGEST_TEXT }
     ensures answers { IsVerdict (λ found. found.items) fault_in result
         (segments.segments_in_file known.now file.now) }
+    ensures as_before { (due : List SegmentDef) → unnumbered_in_file known.now file.now ≡ Ok due
+        → IsVerdict (λ found. found.items) fault_in result (Ok due) }
     ensures forms { IfOk result (λ found. list_all is_segment_formed found.items ≡ true) }
 {
     let composites = KnownComposites::new(alloc, known)?;
@@ -74,11 +77,11 @@ fn read_items(
     known: &KnownComposites<'_>,
     entry: &Entry<'_>,
 ) -> Result<Vec<ItemDef>, DirStop>
-    ensures { let body = body_left entry.now.body in
-        IsVerdict (λ items. items.items) fault_in result
-        (unless_faulty (segments.items_faults known.now.composites.now body
-        ++ parts.count_faults (line_shown entry.now.head) (length (segments.items_of body)))
-        (segments.items_in body)) }
+    ensures { let items = segments.items_of (body_left entry.now.body) in
+        IsVerdict (λ read. read.items) fault_in result
+        (unless_faulty (segments.items_faults known.now.composites.now items
+        ++ parts.count_faults (line_shown entry.now.head) (length items))
+        (segments.items_in items)) }
 {
     let mut items = Vec::new(alloc);
     let mut before = None;

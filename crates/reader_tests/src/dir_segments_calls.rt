@@ -56,6 +56,8 @@ const FAULTY_COMPOSITES: &[(&[u8], u32, DirKind)] = &[
     (b"----------\nC001 N\n010 ++ 1001 N C an3\n", 3, DirKind::BadLine),
     // a length that begins with zero
     (b"----------\nC001 N\n010 1001 N C an..03\n", 3, DirKind::BadRepr),
+    // a part has no number of repetitions
+    (b"----------\nC001 N\n010 1001 N C 2 an3\n", 3, DirKind::BadStatus),
     // an entry without a part, which is judged before the next entry
     (b"----------\nC001 N\n     010 1001 N C an3\n----------\nC1 N\n", 2, DirKind::BadLine),
     // one line breaks several rules: its form is judged first, then its position, its status and its representation
@@ -78,6 +80,27 @@ const FAULTY_SEGMENTS: &[(&[u8], u32, DirKind)] = &[
     (b"----------\nBGM N\n010 C001 C\n", 3, DirKind::BadLine),
     (b"----------\nBGM N\n020 1001 N C an3\n     text\n020 C002 N X\n", 5, DirKind::BadPosition),
     (b"----------\nBGM N\n010 1001 N C a..\n", 3, DirKind::BadRepr),
+    // no number of repetitions, since there are only four fields, with a skipped mark and without one, or five
+    (b"----------\nBGM N\n010 C001 M 5\n", 3, DirKind::BadStatus),
+    (b"----------\nBGM N\n010 * C001 M 5\n", 3, DirKind::BadStatus),
+    (b"----------\nBGM N\n010 1001 C 5 an..3\n", 3, DirKind::BadStatus),
+    (b"----------\nBGM N\n010 X 1001 C 5 an..3\n", 3, DirKind::BadStatus),
+    // nor with three digits, with a zero in front, or with another octet
+    (b"----------\nBGM N\n010 C001 N M 100\n", 3, DirKind::BadStatus),
+    (b"----------\nBGM N\n010 1001 N C 100 an..3\n", 3, DirKind::BadStatus),
+    (b"----------\nBGM N\n010 C001 N M 05\n", 3, DirKind::BadStatus),
+    (b"----------\nBGM N\n010 1001 N C 0 an..3\n", 3, DirKind::BadStatus),
+    (b"----------\nBGM N\n010 1001 N C 5x an..3\n", 3, DirKind::BadStatus),
+    // one number is taken out, and another one isn't
+    (b"----------\nBGM N\n010 C001 N M 5 6\n", 3, DirKind::BadStatus),
+    // nor is a number after the representation, or in the place of the status
+    (b"----------\nBGM N\n010 1001 N C an..3 5\n", 3, DirKind::BadStatus),
+    (b"----------\nBGM N\n010 1001 N 5 an..3\n", 3, DirKind::BadStatus),
+    // with the number taken out, the position and the representation are bad as ever
+    (b"----------\nBGM N\n020 1001 N C an3\n020 C001 N X 5\n", 4, DirKind::BadPosition),
+    (b"----------\nBGM N\n010 1001 N C 5 an\n", 3, DirKind::BadRepr),
+    // part lines have none
+    (b"----------\nBGM N\n010 C001 N M 2\n     1001 N C 2 an3\n", 4, DirKind::BadLine),
     // part lines: below an element, without a status
     (b"----------\nBGM N\n010 1001 N C an3\n     1001 N C an3\n", 4, DirKind::BadLine),
     (b"----------\nBGM N\n010 C009 N C\n     1001 text about it\n", 4, DirKind::BadLine),
@@ -110,12 +133,53 @@ const ALONE: ItemDef = ItemDef::Alone {
 };
 
 const fn composite(octets: &[u8; 4], must: bool) -> ItemDef {
+    repeated_composite(octets, must, 1)
+}
+
+const fn repeated_composite(octets: &[u8; 4], must: bool, reps: u8) -> ItemDef {
     ItemDef::Composite {
         code: Code { octets: *octets },
         must,
-        reps: 1,
+        reps,
     }
 }
+
+// The element 1001, an..3.
+const fn repeated_element(must: bool, reps: u8) -> ItemDef {
+    ItemDef::Alone {
+        part: PartDef {
+            code: Code { octets: *b"1001" },
+            must,
+            repr: Repr {
+                class: Class::An,
+                exact: false,
+                max: 3,
+            },
+        },
+        reps,
+    }
+}
+
+// Segment files of one item, each with that item.
+#[rattlefmt::skip]
+const REPEATED: &[(&[u8], ItemDef)] = &[
+    // the least number, and the greatest
+    (b"----------\nBGM N\n010 C001 Name here M 5\n", repeated_composite(b"C001", true, 5)),
+    (b"----------\nBGM N\n010 C001 N C 1\n", repeated_composite(b"C001", false, 1)),
+    (b"----------\nBGM N\n010 C001 N M 99\n", repeated_composite(b"C001", true, 99)),
+    (b"----------\nBGM N\n010 1001 Document name C 5 an..3\n", repeated_element(false, 5)),
+    (b"----------\nBGM N\n010 1001 N M 10 an..3\n", repeated_element(true, 10)),
+    // after a skipped mark
+    (b"----------\nBGM N\n010 * C001 N M 5\n", repeated_composite(b"C001", true, 5)),
+    (b"----------\nBGM N\n+ 010 X 1001 N C 5 an..3\n", repeated_element(false, 5)),
+    // a name that ends in a number, without one and with one
+    (b"----------\nBGM N\n010 C001 Period 7 M\n", repeated_composite(b"C001", true, 1)),
+    (b"----------\nBGM N\n010 C001 Period 7 M 8\n", repeated_composite(b"C001", true, 8)),
+    (b"----------\nBGM N\n010 1001 Name 7 C an..3\n", repeated_element(false, 1)),
+    (b"----------\nBGM N\n010 1001 Name 7 C 8 an..3\n", repeated_element(false, 8)),
+    // an item with part lines
+    (b"----------\nBGM N\n010 C001 N M 3\n     1001 N C an3\n     1002 N M n..5\n", repeated_composite(b"C001", true, 3)),
+];
 
 #[test]
 fn gives_what_files_define(rt: HostRuntime) -> Result<(), Fail> {
@@ -131,6 +195,18 @@ fn gives_what_files_define(rt: HostRuntime) -> Result<(), Fail> {
     let first = segments.first().expect(&rt, "a segment");
     assert_eq!(rt; first.tag.octets, *b"BG1");
     assert_eq!(rt; first.items.items(), items.as_slice());
+    Ok(())
+}
+
+#[test]
+fn gives_numbers_of_repetitions(rt: HostRuntime) -> Result<(), Fail> {
+    let known = read_composites(rt.alloc(), COMPOSITES)?;
+    for (file, item) in REPEATED {
+        assert!(rt; file.len() <= LIMIT);
+        let segments = read_segments(rt.alloc(), file, &known)?;
+        let segment = segments.first().expect(&rt, "a segment");
+        assert_eq!(rt; segment.items.items(), [*item].as_slice(), "{file:?}");
+    }
     Ok(())
 }
 

@@ -18,6 +18,6 @@ returns-in_err-tag-clause-judged c = λ earlier heads.
     let head = line_shown c.args.entry.now.head in
     let body = body_left c.args.entry.now.body in
     let first = head_faults is_tag_of earlier head in
-    let rest = items_faults known body ++ count_faults head (length (items_of body)) in
+    let rest = items_faults known (items_of body) ++ count_faults head (length (items_of body)) in
     let tag : Tag = record { octets = first_field (fields_of head.octets) } in
     rw (err.1, err.2) (stops (λ (tag : Tag). tag) (λ (segment : SegmentDef). segment) c.in_err-tag.field-0.0 [] first rest (first ++ rest) tag (segment_of (entry_shown c.args.entry.now)) refl refl (c.in_err-tag.ensures.judged earlier heads))

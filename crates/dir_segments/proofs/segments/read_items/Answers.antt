@@ -20,7 +20,7 @@ returns-in_err-position c =
     let here = ap items_of c.in-Some.ensures.steps ∙ items_of-item line later is in
     let item = item_at line later in
     let tail = count_faults (line_shown c.args.entry.now.head) (length (items_of body)) in
-    rw (err.1, err.2) (read_stops judge item_position item_of placed (λ (items : Vec ItemDef Global). items.items) c.in_err-position.field-0.0 (items_of body) (items_of (body_left c.loop-line.lines)) item (items_of later) c.loop-line.before c.loop-line.items.items tail (item_position item, item_of item) (items_in body) c.loop-line.invariant here c.in_err-position.ensures)
+    rw (err.1, err.2) (read_stops judge item_position item_of placed (λ (items : Vec ItemDef Global). items.items) c.in_err-position.field-0.0 (items_of body) (items_of (body_left c.loop-line.lines)) item (items_of later) c.loop-line.before c.loop-line.items.items tail (item_position item, item_of item) (items_in (items_of body)) c.loop-line.invariant here c.in_err-position.ensures)
 
 pub loop-line-preserved : goal.loop-line-preserved
 loop-line-preserved c =

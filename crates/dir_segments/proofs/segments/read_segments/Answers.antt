@@ -11,6 +11,7 @@ use Rattle.dir_segments.specs.Segments.{segment_faults, segment_of, segments_in_
 use Rattle.dir_segments.proofs.FormLemmas.{segments_in-formed}
 use Rattle.dir_segments.proofs.FrontLemmas.{entries_more, entries_stop, entries_all}
 use Rattle.dir_segments.proofs.StopLemmas.{no_faults, value_given}
+use Rattle.dir_segments.proofs.UnnumberedLemmas.{as_before}
 use Rattle.dir_segments.proofs.segments.read_segments.Goals as goal
 
 pub returns-in_err-segment-clause-answers : goal.returns-in_err-segment-clause-answers
@@ -25,6 +26,9 @@ returns-in_err-segment-clause-answers c =
     let Stops : List CompositeDef → Type 0 = λ known. IsVerdict same fault_in (Err stop) (unless_faulty (segment_faults known read.front entry) (segment_of entry)) in
     let given : Stops c.args.known.now = subst Stops c.in_ok-composites.ensures (c.in_err-segment.ensures.judged read.front read.heads) in
     rw (err.1, err.2) (entries_stop (segment_faults c.args.known.now) segment_of same (λ (found : Vec SegmentDef Global). found.items) stop all (entries_left c.loop-entry.entry-iterator) entry (entries_left c.next.new.self) c.loop-entry.seen c.loop-entry.found.items (segment_of entry) (map segment_of all) read c.in-Some.ensures.steps given)
+
+pub returns-in_err-segment-clause-as_before : goal.returns-in_err-segment-clause-as_before
+returns-in_err-segment-clause-as_before c = λ due is. as_before c.args.known.now (λ (found : Vec SegmentDef Global). found.items) c.from_residual-in_err-segment.result c.args.file.now due (returns-in_err-segment-clause-answers c) is
 
 pub loop-entry-preserved : goal.loop-entry-preserved
 loop-entry-preserved c =
@@ -46,4 +50,5 @@ returns c =
     let all = entries_of (lines_of c.args.file.now) in
     let whole = entries_all (segment_faults c.args.known.now) segment_of all (entries_left c.loop-entry.entry-iterator) c.loop-entry.seen c.loop-entry.found.items c.loop-entry.invariant c.in-None.ensures.steps.0 in
     let answers : segments_in_file c.args.known.now c.args.file.now ≡ Ok c.loop-entry.found.items = rw (whole.0, whole.1) refl in
-    record { answers = answers; forms = segments_in-formed c.args.known.now c.args.file.now c.loop-entry.found.items answers }
+    let found = c.loop-entry.found in
+    record { answers = answers; as_before = λ due is. as_before c.args.known.now (λ (found : Vec SegmentDef Global). found.items) (Ok found) c.args.file.now due answers is; forms = segments_in-formed c.args.known.now c.args.file.now c.loop-entry.found.items answers }

@@ -44,21 +44,22 @@ module _ {K : Type 0} (view : K → List ℕ) (names : List (List ℕ)) (i : ℕ
       let first : slice_get (twice_in value_name names) 0 ≡ Some (fault_with Twice (get_or names i (view k))) = first-twice_in value_name names i (view k) seen.within apart there' in
       first-stop stop Twice (view k) (twice_in value_name names) at (first ∙ ap (λ n. Some (fault_with Twice n)) (sym seen.here))
 
-  -- a name that isn't there is put after those before it
-  pub placed-absent : (new : List K) → list_any (λ y. bytes_eq (view k) (view y)) keys ≡ false → new ≡ (if list_any (λ y. bytes_eq (view k) (view y)) keys then keys else keys ++ k ∷ []) → map view new ≡ take (i + 1) names
-  placed-absent new absent kept =
-      ap (map view) (kept ∙ ap (λ b. if b then keys else keys ++ k ∷ []) absent)
+  -- a name that is put after those before it
+  placed-last : (new : List K) → new ≡ keys ++ k ∷ [] → map view new ≡ take (i + 1) names
+  placed-last new kept =
+      ap (map view) kept
       ∙ map_push view keys k ∙ ap (λ l. l ++ view k ∷ []) seen.placed
       ∙ ap (λ n. take i names ++ n ∷ []) seen.here
       ∙ sym (take_more names i (view k) seen.within)
 
-  pub placed-seen : (added : Bool) (new : List K) → added ≡ not (list_any (λ y. bytes_eq (view k) (view y)) keys) → added ≡ true → new ≡ (if list_any (λ y. bytes_eq (view k) (view y)) keys then keys else keys ++ k ∷ []) → map view new ≡ take (i + 1) names
-  placed-seen added new answers fresh = placed-absent new (not-true _ (sym fresh ∙ answers))
+  pub placed-seen : (added : Bool) (new : List K) → added ≡ true → new ≡ (if added then keys ++ k ∷ [] else keys) → map view new ≡ take (i + 1) names
+  placed-seen added new fresh kept = placed-last new (kept ∙ ap (λ b. if b then keys ++ k ∷ [] else keys) fresh)
 
   -- where no name comes twice, each is put
   pub placed-apart : (new : List K) → twice_in value_name names ≡ [] → new ≡ (if list_any (λ y. bytes_eq (view k) (view y)) keys then keys else keys ++ k ∷ []) → map view new ≡ take (i + 1) names
-  placed-apart new none =
-      placed-absent new (tested ∙ subst (λ n. list_any (λ x. bytes_eq x n) (take i names) ≡ false) (sym seen.here) (fresh-at value_name names i (view k) seen.within none))
+  placed-apart new none kept =
+      let absent : list_any (λ y. bytes_eq (view k) (view y)) keys ≡ false = tested ∙ subst (λ n. list_any (λ x. bytes_eq x n) (take i names) ≡ false) (sym seen.here) (fresh-at value_name names i (view k) seen.within none) in
+      placed-last new (kept ∙ ap (λ b. if b then keys else keys ++ k ∷ []) absent)
 
   -- and no name stands twice up to the next place
   pub apart-seen : (added : Bool) → twice_in value_name (take i names) ≡ [] → added ≡ not (list_any (λ y. bytes_eq (view k) (view y)) keys) → added ≡ true → twice_in value_name (take (i + 1) names) ≡ []

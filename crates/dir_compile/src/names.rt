@@ -1,4 +1,4 @@
-//! The names of definitions, found by hash.
+//! The names of definitions: none comes twice, and each is found at its place.
 ghost use Rattle.std.specs.Prelude.{◌≡◌, List, [], ℕ, All, IfOk, length, map};
 ghost use Rattle.std.specs.List.{flat_map};
 ghost use Rattle.dir_compile.specs.Forms.{HasForms};
@@ -16,6 +16,7 @@ ghost use Rattle.dir_compile.specs.Compile.{
 
 use crate::parts::Parts;
 use crate::stop::{CompileKind, CompileStop, fault};
+use edi_octets::EarlierNames;
 use edi_tables::{Chunk, CodeList, CompositeDef, ElementDef, MessageDef, SegmentDef};
 use indexmap::IndexSet;
 use std::alloc::{AllocError, Global};
@@ -107,10 +108,10 @@ pub(crate) fn octets_of<const N: usize>(name: &[u8]) -> [u8; N]
 fn judge_names<T: Named>(alloc: Global, items: &[T]) -> Result<(), CompileStop>
     ensures { Judges result (twice_in T.name_of items.now) }
 {
-    let mut seen = IndexSet::with_capacity(alloc, items.len())?;
+    let mut seen = EarlierNames::with_capacity(alloc, items.len())?;
     for item in items {
         let name = item.name();
-        let added = seen.insert(name)?;
+        let added = seen.add(name)?;
         if !added {
             return Err(fault(alloc, CompileKind::Twice, name));
         }

@@ -4,6 +4,6 @@ use Rattle.dir_compile.proofs.names.judge_names.Given as goal
 
 abbrev pub invariant-loop-item : goal.invariant-loop-item
 invariant-loop-item g l = record {
-  placed : map (λ s. s.now) l.seen.keys ≡ take l.item-index (map g.T.Named.name_of l.items);
+  placed : l.seen ≡ take l.item-index (map g.T.Named.name_of l.items);
   apart : twice_in value_name (take l.item-index (map g.T.Named.name_of l.items)) ≡ [];
 }

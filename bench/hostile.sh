@@ -240,7 +240,7 @@ def codes_of_one_place(bits):
 
 
 def alike():
-    """Two code lists that were picked to make loading slow; one has twice as many codes as the other."""
+    """Two code lists of codes of one place. One is twice as long as the other, and takes some twice its time."""
     drawn = list(itertools.islice(codes_of_one_place(11), 18000))
     for count in (9000, 18000):
         entries = "".join(f"     {code} x\n" for code in drawn[:count])

@@ -28,12 +28,12 @@ class Store:
     """The definitions of a store."""
 
     def __init__(self, lines):
-        assert next(lines) == "EDIDIR1"
+        assert next(lines) == "EDIDIR2"
         self.labels = next(lines).split(" ")
         self.elements = dict(line.split(" ") for line in self.part(lines))
         self.lists = dict(self.entries(lines, lambda line: line))
-        self.composites = dict(self.entries(lines, self.item))
-        self.segments = dict(self.entries(lines, self.item))
+        self.composites = dict(self.entries(lines, self.used))
+        self.segments = dict(self.entries(lines, self.used))
         self.tables = dict(self.entries(lines, self.row))
         self.segments["UNS"] = []
 
@@ -49,8 +49,9 @@ class Store:
             yield name, [read(next(lines)) for _ in range(int(count))]
 
     @staticmethod
-    def item(line):
-        code, status = line.split(" ")
+    def used(line):
+        """A part or an item; the number of repetitions of an item is left out, since no item is repeated."""
+        code, status = line.split(" ")[:2]
         return code, status == "M"
 
     @staticmethod

@@ -1,5 +1,5 @@
 -- What is answered for the files of a shelf under the name of a manifest.
-use Rattle.std.proofs.Common.{◌≡◌, ◌≤◌, ◌<◌, ◌^◌, ℕ, Bool, true, false, List, length, Option, Some, None, Ok, Err, refl, sym, ap, ◌∙◌, arith}
+use Rattle.std.proofs.Common.{◌≡◌, ◌≤◌, ◌<◌, ◌^◌, inl, inr, ℕ, Bool, true, false, List, length, Option, Some, None, Ok, Err, refl, sym, ap, ◌∙◌, arith}
 use Rattle.std.specs.Prelude.{nat_lt, if◌then◌else◌}
 use Rattle.std.proofs.lemmas.Bool.{ltb-false}
 use Rattle.edi_tables.specs.First.{IsVerdict, unless_faulty}
@@ -19,7 +19,9 @@ use Rattle.dir_compile.specs.Directory.{IsDirectory, directory_of}
 use Rattle.dir_compile.specs.Stop.{fault_in}
 use Rattle.dir_store.specs.declared.stop.StoreStop.{StoreStop}
 use Rattle.dir_store.specs.declared.stop.StoreStop.TheVariants as store
-use Rattle.dir_store.specs.Spelling.{store_text}
+use Rattle.dir_store.specs.declared.version.StoreVersion.{StoreVersion}
+use Rattle.dir_store.specs.declared.version.StoreVersion.TheVariants.{First, Second}
+use Rattle.dir_store.specs.Spelling.{spelling_of, IsStoreOf}
 use Rattle.dir_store.specs.Stop as place
 use Rattle.dir_store.specs.Store.{store_of}
 use Rattle.dir_store.proofs.WholeLemmas.{store-again}
@@ -109,15 +111,20 @@ within-limit limit (Some found) octets is =
     let w = within (nat_lt limit (length found)) found octets is in
     omega (arith, ltb-false limit (length found) w.0, ap length w.1)
 
--- the spelling of a directory is a store
-store_text-is_store : (parts : Parts) → is_store (store_text parts) ≡ true
-unfolding store_text
-store_text-is_store parts = refl
+-- a spelling of a directory is a store
+spelling-is_store : (version : StoreVersion) (parts : Parts) → is_store (spelling_of version parts) ≡ true
+unfolding spelling_of
+spelling-is_store First parts = refl
+spelling-is_store Second parts = refl
+
+spelled-is_store : (octets : List ℕ) (parts : Parts) → IsStoreOf octets parts → is_store octets ≡ true
+spelled-is_store octets parts (inl same) = ap is_store same ∙ spelling-is_store Second parts
+spelled-is_store octets parts (inr old) = ap is_store old.1 ∙ spelling-is_store First parts
 
 -- a directory is loaded from its store
-pub load_of-spelled : (files : List ShelfFile) (name : List ℕ) (parts : Parts) → IsDirectory parts → octets_named 4194304 files name ≡ Ok (store_text parts) → load_of files name ≡ Ok parts
-load_of-spelled files name parts is read =
-    let short = within-limit 4194304 (file_named name files) (store_text parts) read in
-    let few : length (store_text parts) < 10 ^ 19 = omega (arith, short) in
-    load_of-store (λ (p : Parts). p) files name (store_text parts) read (store_text-is_store parts)
-    ∙ ap (map_err (Store name)) (store-again parts is few)
+pub load_of-spelled : (files : List ShelfFile) (name octets : List ℕ) (parts : Parts) → IsDirectory parts → IsStoreOf octets parts → octets_named 4194304 files name ≡ Ok octets → load_of files name ≡ Ok parts
+load_of-spelled files name octets parts is spelled read =
+    let short = within-limit 4194304 (file_named name files) octets read in
+    let few : length octets < 10 ^ 19 = omega (arith, short) in
+    load_of-store (λ (p : Parts). p) files name octets read (spelled-is_store octets parts spelled)
+    ∙ ap (map_err (Store name)) (store-again octets parts is spelled few)

@@ -1,12 +1,12 @@
 //! A directory from the files of a shelf.
-ghost use Rattle.std.specs.Prelude.{◌≡◌, ◌≤◌, List, Some, Ok, IsErrOf, length};
+ghost use Rattle.std.specs.Prelude.{◌≡◌, ◌≤◌, ℕ, List, Some, Ok, IsErrOf, length};
 ghost use Rattle.edi_tables.specs.First.{IsVerdict};
 ghost use Rattle.edi_ports.specs.declared.shelf.ShelfFile.{ShelfFile};
 ghost use Rattle.edi_ports.specs.Faults.{IsFair};
 ghost use Rattle.edi_ports.specs.Named.{octets_named};
 ghost use Rattle.dir_compile.specs.declared.parts.Parts.{Parts};
 ghost use Rattle.dir_compile.specs.Directory.{IsDirectory};
-ghost use Rattle.dir_store.specs.Spelling.{store_text};
+ghost use Rattle.dir_store.specs.Spelling.{IsStoreOf};
 ghost use Rattle.dir_load.specs.Load.{is_store as is_store_of, lines_under, load_of, store_under};
 ghost use Rattle.dir_load.specs.Stop.{refusal_in};
 
@@ -20,20 +20,20 @@ use edi_octets::LONGEST_TEXT;
 use edi_ports::{Shelf, read_named};
 use std::alloc::Global;
 
-/// The directory of the manifest of that name. A manifest that begins with `EDIDIR1` and LF is a store, and its first
-/// fault is answered with its place. Every other manifest is lines: the whole manifest is judged first, then each file
-/// that it names, in order: whether it is there, has at most 4,194,304 octets and breaks no rule of its grammar; a segment
-/// file is read with the composites of all files before it. Then their parts are compiled. The first refusal is answered
-/// with the name that it is about. `Fault` comes only where the shelf failed.
+/// The directory of the manifest of that name. A manifest that begins with `EDIDIR1` and LF, or with `EDIDIR2` and LF, is
+/// a store, and its first fault is answered with its place. Every other manifest is lines: the whole manifest is judged
+/// first, then each file that it names, in order: whether it is there, has at most 4,194,304 octets and breaks no rule of
+/// its grammar; a segment file is read with the composites of all files before it. Then their parts are compiled. The
+/// first refusal is answered with the name that it is about. `Fault` comes only where the shelf failed.
 pub fn load<S: Shelf>(alloc: Global, shelf: &mut S, name: &[u8]) -> Result<Directory, LoadStop>
     ensures loads { (files : List ShelfFile) → S.files shelf.old ≡ Some files
         → IsVerdict (λ directory. directory) refusal_in result (load_of files name.now) }
     ensures files { S.files shelf.new ≡ S.files shelf.old }
     ensures fair { IsFair S.faults S.is_steady shelf.old shelf.new (IsErrOf result LoadStop.Fault) }
 
-    // The store of a directory, under that name, gives this directory again.
-    ensures again { (files : List ShelfFile) (directory : Parts) → IsDirectory directory
-        → octets_named LONGEST_TEXT files name.now ≡ Ok (store_text directory)
+    // A store of a directory, of either version, gives this directory again under that name.
+    ensures again { (files : List ShelfFile) (octets : List ℕ) (directory : Parts) → IsDirectory directory
+        → IsStoreOf octets directory → octets_named LONGEST_TEXT files name.now ≡ Ok octets
         → load_of files name.now ≡ Ok directory }
 {
     let octets = match read_named(alloc, shelf, name, LONGEST_TEXT) {
@@ -51,7 +51,7 @@ pub fn load<S: Shelf>(alloc: Global, shelf: &mut S, name: &[u8]) -> Result<Direc
 fn is_store(octets: &[u8]) -> bool
     ensures { result ≡ is_store_of octets.now }
 {
-    octets.starts_with(b"EDIDIR1\n")
+    octets.starts_with(b"EDIDIR1\n") || octets.starts_with(b"EDIDIR2\n")
 }
 
 // The directory of the store of that name.

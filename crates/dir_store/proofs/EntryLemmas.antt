@@ -14,7 +14,7 @@ use Rattle.edi_tables.specs.declared.tag.Tag.{Tag}
 use Rattle.edi_tables.specs.declared.segment.ItemDef.{ItemDef}
 use Rattle.edi_tables.specs.declared.segment.ItemDef.TheVariants.{Alone, Composite}
 use Rattle.edi_tables.specs.declared.segment.TableRow.{TableRow}
-use Rattle.edi_tables.specs.Forms.{is_repr_formed, is_element_code, is_composite_code, is_element_formed, is_item_formed, is_row_formed}
+use Rattle.edi_tables.specs.Forms.{is_repr_formed, is_element_code, is_composite_code, is_element_formed, is_part_formed, reps_of, is_reps_formed, is_item_formed, is_row_formed}
 use Rattle.edi_tables.specs.Tag.{is_tag_of, is_tag_octet_of, is_capital}
 use Rattle.edi_octets.specs.Profile.{status_in, status_text}
 use Rattle.dir_compile.specs.declared.parts.Parts.{Parts}
@@ -22,15 +22,17 @@ use Rattle.dir_compile.specs.Compile.{composite_name, segment_name, named_in, is
 use Rattle.edi_tables.proofs.AscendingLemmas.{before-trans, ascending-tail}
 use Rattle.dir_compile.proofs.AscendingLemmas.{Has, IsAscending}
 use Rattle.dir_store.specs.Lines.{LineRead, lined}
-use Rattle.dir_store.specs.Rules.{is_between, kept, number_in, comes_after, part_of, composite_of, item_of, item_with, item_in, tag_of, called, row_of, row_with, row_in}
-use Rattle.dir_store.specs.Spelling.{item_text, row_name, row_text}
+use Rattle.dir_store.specs.declared.version.StoreVersion.{StoreVersion}
+use Rattle.dir_store.specs.declared.version.StoreVersion.TheVariants.{First, Second}
+use Rattle.dir_store.specs.Rules.{is_between, kept, number_in, comes_after, part_of, composite_of, item_of, reps_with, item_words_in, item_with, item_in, tag_of, called, row_of, row_with, row_in}
+use Rattle.dir_store.specs.Spelling.{item_words, item_text, row_name, row_text}
 use Rattle.dir_store.specs.Store.{item_at, row_at}
-use Rattle.edi_octets.specs.Words.{two_in, four_in}
-use Rattle.dir_store.proofs.LineLemmas.{some-is, and-both, IsPlain, IsLine, joined-line, two-takes, two-again, four-takes, four-again}
+use Rattle.edi_octets.specs.Words.{two_in, three_in, four_in}
+use Rattle.dir_store.proofs.LineLemmas.{some-is, and-both, IsPlain, IsLine, joined-line, two-takes, two-again, three-takes, three-again, four-takes, four-again}
 use Rattle.dir_store.proofs.NumberLemmas.{digits-plain, tag-octets-plain, decimal-plain, number-takes, number-again}
 use Rattle.dir_store.proofs.ReprLemmas.{status-takes, status-again, status-plain}
 use Rattle.dir_store.proofs.SeveralLemmas.{Each, IsSpelled, kept-takes, kept-again, line-spelled}
-use Rattle.dir_store.proofs.KindLemmas.{passed-takes, mapped-takes, element-plain, unbroken, unbroken-again, unbroken-not, not-broken, part_of-takes, part_of-again, used_words, used-line}
+use Rattle.dir_store.proofs.KindLemmas.{passed-takes, mapped-takes, element-plain, unbroken, unbroken-again, unbroken-not, not-broken, part_of-takes, part_of-again, used-line}
 
 -- ---- members one by one
 
@@ -146,68 +148,132 @@ composite-code (x ∷ more) is =
       other = rw first (and_right (eqb (length (67 ∷ more)) 4) false refl);
     }
 
+-- ---- the words of an item
+
+-- a store of version 1 has no number, which is 1 then
+abbrev pub HasReps : StoreVersion → ℕ → Type 0
+HasReps First reps = reps ≡ 1
+HasReps Second reps = Unit {0}
+
+-- the line of an item, without its LF
+abbrev pub item_spelled : StoreVersion → List ℕ → Bool → ℕ → List ℕ
+item_spelled version code must reps = join_with_byte 32 (item_words version code must reps)
+
+-- words that are read as those of an item
+record AreWords (version : StoreVersion) (line code status : List ℕ) (reps : ℕ) : Type 0 where
+  formed : is_reps_formed reps ≡ true
+  has : HasReps version reps
+  spelled : (must : Bool) → status ≡ status_text must → line ≡ item_spelled version code must reps
+
+reps-few : (reps : ℕ) → is_reps_formed reps ≡ true → reps < 10 ^ 19
+reps-few reps is = omega (arith, leb-true reps 99 (and_parts (leb 1 reps) (leb reps 99) is).1)
+
+words-take : (version : StoreVersion) (line : List ℕ) (w : List ℕ × List ℕ × ℕ) → item_words_in version line ≡ Some w → AreWords version line w.0 w.1 w.2
+words-take First line w is =
+    let made = mapped-takes {A = List ℕ × List ℕ} {B = List ℕ × List ℕ × ℕ} (λ v. (v.0, v.1, 1)) (two_in line) w is in
+    let code = made.0.0 in
+    let status = made.0.1 in
+    let good : AreWords First line code status 1 = record {
+      formed = refl;
+      has = refl;
+      spelled = λ must same. two-takes line code status made.1 ∙ ap (λ (s : List ℕ). join_with_byte 32 (code ∷ s ∷ [])) same;
+    } in
+    subst (λ (v : List ℕ × List ℕ × ℕ). AreWords First line v.0 v.1 v.2) made.2 good
+words-take Second line w is =
+    option_and_then_some reps_with (three_in line) w is (λ v words read.
+    let made = mapped-takes {A = ℕ} {B = List ℕ × List ℕ × ℕ} (λ reps. (v.0, v.1, reps)) (kept is_reps_formed (number_in v.2)) w read in
+    let kept_so = kept-takes is_reps_formed (number_in v.2) made.0 made.1 in
+    let number = number-takes v.2 made.0 kept_so.0 in
+    let good : AreWords Second line v.0 v.1 made.0 = record {
+      formed = kept_so.1;
+      has = tt;
+      spelled = λ must same. three-takes line v.0 v.1 v.2 words ∙ (λ i. join_with_byte 32 (v.0 ∷ same i ∷ number.0 i ∷ []));
+    } in
+    subst (λ (x : List ℕ × List ℕ × ℕ). AreWords Second line x.0 x.1 x.2) made.2 good)
+
+words-again : (version : StoreVersion) (code : List ℕ) (must : Bool) (reps : ℕ) → IsPlain code → is_reps_formed reps ≡ true → HasReps version reps
+    → item_words_in version (item_spelled version code must reps) ≡ Some (code, status_text must, reps)
+words-again First code must reps plain formed has =
+    rw has (ap (option_map {T = List ℕ × List ℕ} {U = List ℕ × List ℕ × ℕ} (λ w. (w.0, w.1, 1))) (two-again code (status_text must) plain (status-plain must)))
+words-again Second code must reps plain formed has =
+    let few = reps-few reps formed in
+    let number : kept is_reps_formed (number_in (decimal reps)) ≡ Some reps = kept-again is_reps_formed _ reps (number-again reps few) formed in
+    ap (option_and_then reps_with) (three-again code (status_text must) (decimal reps) plain (status-plain must) (decimal-plain reps few))
+    ∙ ap (option_map {T = ℕ} {U = List ℕ × List ℕ × ℕ} (λ n. (code, status_text must, n))) number
+
+words-line : (version : StoreVersion) (code : List ℕ) (must : Bool) (reps : ℕ) → IsPlain code → is_reps_formed reps ≡ true → IsLine (item_spelled version code must reps)
+words-line First code must reps plain formed = used-line code must plain
+words-line Second code must reps plain formed =
+    joined-line code (status_text must ∷ decimal reps ∷ []) plain (status-plain must, (decimal-plain reps (reps-few reps formed), tt))
+
 module _ (parts : Parts) where
   -- ---- items of segments
 
-  pub record IsItem (item : ItemDef) : Type 0 where
-    pub formed : is_item_formed item ≡ true
-    pub faultless : item_faults parts item ≡ []
+  module _ (version : StoreVersion) where
+    pub record IsItem (item : ItemDef) : Type 0 where
+      pub formed : is_item_formed item ≡ true
+      pub faultless : item_faults parts item ≡ []
+      pub has : HasReps version (reps_of item)
 
-  abbrev pub item_words : ItemDef → List ℕ
-  item_words (Alone part) = used_words part.code.octets part.must
-  item_words (Composite code must) = used_words code.octets must
+    abbrev pub item_line : ItemDef → List ℕ
+    item_line (Alone part reps) = item_spelled version part.code.octets part.must reps
+    item_line (Composite code must reps) = item_spelled version code.octets must reps
 
-  module _ (formed_elements : list_all is_element_formed parts.elements ≡ true) where
-    item-of-takes : (code : List ℕ) (must : Bool) (item : ItemDef) (element : Bool) → is_element_code code ≡ element
-        → cond element (option_map Alone (part_of parts.elements code must)) (composite_of parts.composites code must) ≡ Some item → IsItem item × (used_words code must ≡ item_words item)
-    item-of-takes code must item true is found =
-        let made = mapped-takes Alone (part_of parts.elements code must) item found in
-        let part = part_of-takes parts formed_elements code must made.0 is made.1 in
-        let good : IsItem (Alone made.0) = record { formed = part.0.formed; faultless = part.0.faultless } in
-        subst (λ (i : ItemDef). IsItem i × (used_words code must ≡ item_words i)) made.2
-        (good, ap (λ (c : List ℕ). used_words c must) (sym part.1) ∙ ap (used_words made.0.code.octets) (sym part.2))
-    item-of-takes code must item false is found =
-        let one : ItemDef = Composite (record { octets = code }) must in
-        let passed = passed-takes (is_composite_code code && is_some (named_in composite_name parts.composites code)) (Some one) item found in
-        let both = and_parts (is_composite_code code) (is_some (named_in composite_name parts.composites code)) passed.0 in
-        let same : one ≡ item = some-is one item passed.1 in
-        let good : IsItem one = record { formed = both.0; faultless = unbroken-again _ _ both.1 } in
-        subst (λ (i : ItemDef). IsItem i × (used_words code must ≡ item_words i)) same (good, refl)
+    module _ (formed_elements : list_all is_element_formed parts.elements ≡ true) where
+      item-of-takes : (code : List ℕ) (must : Bool) (reps : ℕ) (item : ItemDef) (element : Bool) → is_reps_formed reps ≡ true → HasReps version reps → is_element_code code ≡ element
+          → cond element (option_map (λ part. Alone part reps) (part_of parts.elements code must)) (composite_of parts.composites code must reps) ≡ Some item → IsItem item × (item_spelled version code must reps ≡ item_line item)
+      item-of-takes code must reps item true few has is found =
+          let made = mapped-takes (λ part. Alone part reps) (part_of parts.elements code must) item found in
+          let part = part_of-takes parts formed_elements code must made.0 is made.1 in
+          let good : IsItem (Alone made.0 reps) = record { formed = and-both (is_part_formed made.0) (is_reps_formed reps) part.0.formed few; faultless = part.0.faultless; has = has } in
+          subst (λ (i : ItemDef). IsItem i × (item_spelled version code must reps ≡ item_line i)) made.2
+          (good, ap (λ (c : List ℕ). item_spelled version c must reps) (sym part.1) ∙ ap (λ (m : Bool). item_spelled version made.0.code.octets m reps) (sym part.2))
+      item-of-takes code must reps item false few has is found =
+          let one : ItemDef = Composite (record { octets = code }) must reps in
+          let passed = passed-takes (is_composite_code code && is_some (named_in composite_name parts.composites code)) (Some one) item found in
+          let both = and_parts (is_composite_code code) (is_some (named_in composite_name parts.composites code)) passed.0 in
+          let same : one ≡ item = some-is one item passed.1 in
+          let good : IsItem one = record { formed = and-both (is_composite_code code) (is_reps_formed reps) both.0 few; faultless = unbroken-again _ _ both.1; has = has } in
+          subst (λ (i : ItemDef). IsItem i × (item_spelled version code must reps ≡ item_line i)) same (good, refl)
 
-    item-takes : (before : Option ItemDef) (line : List ℕ) (item : ItemDef) → item_in parts.elements parts.composites line ≡ Some item → IsItem item × (line ≡ item_words item)
-    item-takes before line item is =
-        option_and_then_some (item_with parts.elements parts.composites) (two_in line) item is (λ w words read.
-        option_and_then_some (item_of parts.elements parts.composites w.0) (status_in w.1) item read (λ must status chosen.
-        let made = item-of-takes w.0 must item (is_element_code w.0) refl chosen in
-        (made.0, two-takes line w.0 w.1 words ∙ ap (λ (s : List ℕ). join_with_byte 32 (w.0 ∷ s ∷ [])) (status-takes w.1 must status) ∙ made.1)))
+      item-takes : (before : Option ItemDef) (line : List ℕ) (item : ItemDef) → item_in version parts.elements parts.composites line ≡ Some item → IsItem item × (line ≡ item_line item)
+      item-takes before line item is =
+          option_and_then_some (item_with parts.elements parts.composites) (item_words_in version line) item is (λ w words read.
+          option_and_then_some (λ must. item_of parts.elements parts.composites w.0 must w.2) (status_in w.1) item read (λ must status chosen.
+          let good = words-take version line w words in
+          let made = item-of-takes w.0 must w.2 item (is_element_code w.0) good.formed good.has refl chosen in
+          (made.0, good.spelled must (status-takes w.1 must status) ∙ made.1)))
 
-    -- an item from its words
-    item-read : (code : List ℕ) (must : Bool) (item : ItemDef) → IsPlain code → item_of parts.elements parts.composites code must ≡ Some item → item_in parts.elements parts.composites (used_words code must) ≡ Some item
-    item-read code must item plain is =
-        ap (option_and_then (item_with parts.elements parts.composites)) (two-again code (status_text must) plain (status-plain must))
-        ∙ ap (option_and_then (item_of parts.elements parts.composites code)) (status-again must) ∙ is
+      -- an item from its words
+      item-read : (code : List ℕ) (must : Bool) (reps : ℕ) (item : ItemDef) → IsPlain code → is_reps_formed reps ≡ true → HasReps version reps → item_of parts.elements parts.composites code must reps ≡ Some item
+          → item_in version parts.elements parts.composites (item_spelled version code must reps) ≡ Some item
+      item-read code must reps item plain formed has is =
+          ap (option_and_then (item_with parts.elements parts.composites)) (words-again version code must reps plain formed has)
+          ∙ ap (option_and_then (λ m. item_of parts.elements parts.composites code m reps)) (status-again must) ∙ is
 
-    item-again : (before : Option ItemDef) (item : ItemDef) → IsItem item → (item_in parts.elements parts.composites (item_words item) ≡ Some item) × IsLine (item_words item)
-    item-again before (Alone part) good =
-        let code = part.code.octets in
-        let is = (and_parts (is_element_code code) (is_repr_formed part.repr) good.formed).0 in
-        let plain = element-plain code is in
-        let found = part_of-again parts formed_elements part (record { formed = good.formed; faultless = good.faultless }) in
-        (item-read code part.must (Alone part) plain (rw is (ap (option_map Alone) found)), used-line code part.must plain)
-    item-again before (Composite code must) good =
-        let name = composite-code code.octets good.formed in
-        let known = unbroken (is_some (named_in composite_name parts.composites code.octets)) _ good.faultless in
-        (item-read code.octets must (Composite code must) name.plain (rw name.other (rw (good.formed, known) refl)), used-line code.octets must name.plain)
+      item-again : (before : Option ItemDef) (item : ItemDef) → IsItem item → (item_in version parts.elements parts.composites (item_line item) ≡ Some item) × IsLine (item_line item)
+      item-again before (Alone part reps) good =
+          let code = part.code.octets in
+          let both = and_parts (is_part_formed part) (is_reps_formed reps) good.formed in
+          let is = (and_parts (is_element_code code) (is_repr_formed part.repr) both.0).0 in
+          let plain = element-plain code is in
+          let found = part_of-again parts formed_elements part (record { formed = both.0; faultless = good.faultless }) in
+          (item-read code part.must reps (Alone part reps) plain both.1 good.has (rw is (ap (option_map (λ p. Alone p reps)) found)), words-line version code part.must reps plain both.1)
+      item-again before (Composite code must reps) good =
+          let both = and_parts (is_composite_code code.octets) (is_reps_formed reps) good.formed in
+          let name = composite-code code.octets both.0 in
+          let known = unbroken (is_some (named_in composite_name parts.composites code.octets)) _ good.faultless in
+          (item-read code.octets must reps (Composite code must reps) name.plain both.1 good.has (rw name.other (rw (both.0, known) refl)), words-line version code.octets must reps name.plain both.1)
 
-    item-text : (item : ItemDef) → item_words item ++ 10 ∷ [] ≡ item_text item
-    item-text (Alone part) = refl
-    item-text (Composite code must) = refl
+      item-text : (item : ItemDef) → item_line item ++ 10 ∷ [] ≡ item_text version item
+      item-text (Alone part reps) = refl
+      item-text (Composite code must reps) = refl
 
-    pub item-spelled : IsSpelled (item_at parts.elements parts.composites) item_text (λ before item. IsItem item)
-    unfolding item_at
-    item-spelled =
-        spelled-as (λ before octets. lined (item_in parts.elements parts.composites) octets) (λ item. item_words item ++ 10 ∷ []) item_text (λ before item. IsItem item) item-text
-        (line-spelled (λ before line. item_in parts.elements parts.composites line) item_words (λ before item. IsItem item) item-takes item-again)
+      pub item-spelled : IsSpelled (item_at version parts.elements parts.composites) (item_text version) (λ before item. IsItem item)
+      unfolding item_at
+      item-spelled =
+          spelled-as (λ before octets. lined (item_in version parts.elements parts.composites) octets) (λ item. item_line item ++ 10 ∷ []) (item_text version) (λ before item. IsItem item) item-text
+          (line-spelled (λ before line. item_in version parts.elements parts.composites line) item_line (λ before item. IsItem item) item-takes item-again)
 
   -- ---- rows of tables
 

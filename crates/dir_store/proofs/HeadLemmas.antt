@@ -14,7 +14,7 @@ use Rattle.edi_tables.specs.declared.segment.ItemDef.{ItemDef}
 use Rattle.edi_tables.specs.declared.segment.SegmentDef.{SegmentDef}
 use Rattle.edi_tables.specs.declared.segment.TableRow.{TableRow}
 use Rattle.edi_tables.specs.declared.segment.MessageDef.{MessageDef}
-use Rattle.edi_tables.specs.Forms.{is_element_code, is_composite_code, is_message_name, is_code_value, is_count_formed, is_element_formed, is_list_formed, is_part_formed, is_composite_formed, is_item_formed, is_segment_formed, is_row_formed, is_message_formed}
+use Rattle.edi_tables.specs.Forms.{is_element_code, is_composite_code, is_message_name, is_code_value, is_count_formed, is_element_formed, is_list_formed, is_part_formed, is_composite_formed, reps_of, is_item_formed, is_segment_formed, is_row_formed, is_message_formed}
 use Rattle.edi_tables.specs.Rows.{when, table_faults}
 use Rattle.edi_tables.specs.Tag.{is_tag_of, is_tag_octet_of, is_capital}
 use Rattle.edi_tables.proofs.Faults.{few_rows}
@@ -24,6 +24,7 @@ use Rattle.dir_compile.specs.Stop.{fault_with}
 use Rattle.dir_compile.specs.declared.stop.CompileKind.TheVariants.{UnknownElement, Reserved, BadTable}
 use Rattle.dir_compile.specs.Compile.{element_name, list_name, composite_name, segment_name, message_name, value_name, named_in, is_service_tag, part_faults, list_fault, composite_fault, item_faults, segment_fault, row_faults, message_fault}
 use Rattle.edi_tables.specs.Filled.{is_filled}
+use Rattle.dir_store.specs.declared.version.StoreVersion.{StoreVersion}
 use Rattle.dir_store.specs.Rules.{is_between, comes_after}
 use Rattle.dir_store.specs.Spelling.{value_text, part_text, item_text, row_text, list_text, composite_text, segment_text, message_text}
 use Rattle.dir_store.specs.Store.{value_at, list_of, list_at, part_at, composite_of, composite_at, item_at, segment_of, segment_at, row_at as row_read, message_of, message_at}
@@ -31,7 +32,7 @@ use Rattle.dir_store.proofs.LineLemmas.{some-is, and-both, and-three, and-four, 
 use Rattle.dir_store.proofs.NumberLemmas.{tag-octets-plain}
 use Rattle.dir_store.proofs.SeveralLemmas.{Each, IsSpelled, IsListed, headed-spelled}
 use Rattle.dir_store.proofs.KindLemmas.{element-plain, unbroken, unbroken-again, unbroken-not, not-broken, IsValue, value-spelled, IsPart, part-spelled}
-use Rattle.dir_store.proofs.EntryLemmas.{all-good, none-good, each-both, each-passes, each-faultless, each-weaker, nil-left, nil-right, nil-both, Rises, tag-plain, composite-code, IsItem, item-spelled, IsRow, row-spelled}
+use Rattle.dir_store.proofs.EntryLemmas.{all-good, none-good, each-both, each-passes, each-faultless, each-weaker, nil-left, nil-right, nil-both, Rises, tag-plain, composite-code, HasReps, IsItem, item-spelled, IsRow, row-spelled}
 
 -- three tests, and four
 three : (a b c : Bool) → (a && b && c) ≡ true → (a ≡ true) × (b ≡ true) × (c ≡ true)
@@ -217,45 +218,49 @@ module _ (parts : Parts) where
 
     -- ---- segments
 
-    pub record IsSegment (before : Option SegmentDef) (segment : SegmentDef) : Type 0 where
-      pub formed : is_segment_formed segment ≡ true
-      pub faultless : segment_fault parts segment ≡ []
-      pub after : Rises segment_name before segment
+    module _ (version : StoreVersion) where
+      pub record IsSegment (before : Option SegmentDef) (segment : SegmentDef) : Type 0 where
+        pub formed : is_segment_formed segment ≡ true
+        pub faultless : segment_fault parts segment ≡ []
+        pub after : Rises segment_name before segment
+        pub has : Each (λ b item. HasReps version (reps_of item)) None segment.items
 
-    abbrev segment_test : Option SegmentDef → List ℕ × ℕ → Bool
-    segment_test before h = is_tag_of h.0 && is_count_formed h.1 && not (is_service_tag h.0) && comes_after segment_name before h.0
+      abbrev segment_test : Option SegmentDef → List ℕ × ℕ → Bool
+      segment_test before h = is_tag_of h.0 && is_count_formed h.1 && not (is_service_tag h.0) && comes_after segment_name before h.0
 
-    segment-takes : (before : Option SegmentDef) (name : List ℕ) (items : List ItemDef) (segment : SegmentDef) → IsListed (segment_test before) (λ b item. IsItem parts item) name items → segment_of name items ≡ Some segment → IsSegment before segment × (name ≡ segment.tag.octets) × (items ≡ segment.items)
-    segment-takes before name items segment is made =
-        let one : SegmentDef = record { tag = record { octets = name }; items = items } in
-        let same : one ≡ segment = some-is one segment made in
-        let tests = four (is_tag_of name) (is_count_formed (length items)) (not (is_service_tag name)) (comes_after segment_name before name) is.head in
-        let formed : list_all is_item_formed items ≡ true = all-good (λ b item. IsItem parts item) is_item_formed (λ b x good. good.formed) None items is.good in
-        let known : flat_map (item_faults parts) items ≡ [] = none-good (λ b item. IsItem parts item) (item_faults parts) (λ b x good. good.faultless) None items is.good in
-        let good : IsSegment before one = record {
-          formed = and-three (is_tag_of name) (is_count_formed (length items)) (list_all is_item_formed items) tests.0 tests.1 formed;
-          faultless = nil-both (when (is_service_tag name) (fault_with Reserved name)) (flat_map (item_faults parts) items) (unbroken-not (is_service_tag name) (fault_with Reserved name) tests.2) known;
-          after = tests.3;
-        } in
-        subst (λ (s : SegmentDef). IsSegment before s × (name ≡ s.tag.octets) × (items ≡ s.items)) same (good, refl, refl)
+      segment-takes : (before : Option SegmentDef) (name : List ℕ) (items : List ItemDef) (segment : SegmentDef) → IsListed (segment_test before) (λ b item. IsItem parts version item) name items → segment_of name items ≡ Some segment → IsSegment before segment × (name ≡ segment.tag.octets) × (items ≡ segment.items)
+      segment-takes before name items segment is made =
+          let one : SegmentDef = record { tag = record { octets = name }; items = items } in
+          let same : one ≡ segment = some-is one segment made in
+          let tests = four (is_tag_of name) (is_count_formed (length items)) (not (is_service_tag name)) (comes_after segment_name before name) is.head in
+          let formed : list_all is_item_formed items ≡ true = all-good (λ b item. IsItem parts version item) is_item_formed (λ b x good. good.formed) None items is.good in
+          let known : flat_map (item_faults parts) items ≡ [] = none-good (λ b item. IsItem parts version item) (item_faults parts) (λ b x good. good.faultless) None items is.good in
+          let good : IsSegment before one = record {
+            formed = and-three (is_tag_of name) (is_count_formed (length items)) (list_all is_item_formed items) tests.0 tests.1 formed;
+            faultless = nil-both (when (is_service_tag name) (fault_with Reserved name)) (flat_map (item_faults parts) items) (unbroken-not (is_service_tag name) (fault_with Reserved name) tests.2) known;
+            after = tests.3;
+            has = each-weaker (λ b item. IsItem parts version item) (λ b item. HasReps version (reps_of item)) (λ b x good. good.has) None items is.good;
+          } in
+          subst (λ (s : SegmentDef). IsSegment before s × (name ≡ s.tag.octets) × (items ≡ s.items)) same (good, refl, refl)
 
-    segment-again : (before : Option SegmentDef) (segment : SegmentDef) → IsSegment before segment → IsListed (segment_test before) (λ b item. IsItem parts item) segment.tag.octets segment.items × IsPlain segment.tag.octets × (segment_of segment.tag.octets segment.items ≡ Some segment)
-    segment-again before segment good =
-        let tag = segment.tag.octets in
-        let items = segment.items in
-        let forms = three (is_tag_of tag) (is_count_formed (length items)) (list_all is_item_formed items) good.formed in
-        let reserved = when (is_service_tag tag) (fault_with Reserved tag) in
-        let other = not-broken (is_service_tag tag) (fault_with Reserved tag) (nil-left reserved (flat_map (item_faults parts) items) good.faultless) in
-        let known = nil-right reserved (flat_map (item_faults parts) items) good.faultless in (
-          record {
-            head = and-four (is_tag_of tag) (is_count_formed (length items)) (not (is_service_tag tag)) (comes_after segment_name before tag) forms.0 forms.1 other good.after;
-            few = count-few (length segment.items) forms.1;
-            good = each-both _ _ _ (λ b item formed faultless. record { formed = formed; faultless = faultless }) None segment.items (each-passes is_item_formed None segment.items forms.2) (each-faultless (item_faults parts) None segment.items known);
-          },
-          tag-plain segment.tag.octets forms.0,
-          refl,
-        )
+      segment-again : (before : Option SegmentDef) (segment : SegmentDef) → IsSegment before segment → IsListed (segment_test before) (λ b item. IsItem parts version item) segment.tag.octets segment.items × IsPlain segment.tag.octets × (segment_of segment.tag.octets segment.items ≡ Some segment)
+      segment-again before segment good =
+          let tag = segment.tag.octets in
+          let items = segment.items in
+          let forms = three (is_tag_of tag) (is_count_formed (length items)) (list_all is_item_formed items) good.formed in
+          let reserved = when (is_service_tag tag) (fault_with Reserved tag) in
+          let other = not-broken (is_service_tag tag) (fault_with Reserved tag) (nil-left reserved (flat_map (item_faults parts) items) good.faultless) in
+          let known = nil-right reserved (flat_map (item_faults parts) items) good.faultless in (
+            record {
+              head = and-four (is_tag_of tag) (is_count_formed (length items)) (not (is_service_tag tag)) (comes_after segment_name before tag) forms.0 forms.1 other good.after;
+              few = count-few (length segment.items) forms.1;
+              good = each-both _ _ _ (λ b item p has. record { formed = p.0; faultless = p.1; has = has }) None segment.items
+                  (each-both _ _ (λ b item. (is_item_formed item ≡ true) × (item_faults parts item ≡ [])) (λ b item formed faultless. (formed, faultless)) None segment.items (each-passes is_item_formed None segment.items forms.2) (each-faultless (item_faults parts) None segment.items known)) good.has;
+            },
+            tag-plain segment.tag.octets forms.0,
+            refl,
+          )
 
-    pub segment-spelled : IsSpelled (segment_at parts.elements parts.composites) segment_text IsSegment
-    unfolding segment_at
-    segment-spelled = headed-spelled segment_test (item_at parts.elements parts.composites) item_text (λ b item. IsItem parts item) (item-spelled parts formed_elements) segment_of (λ segment. segment.tag.octets) (λ segment. segment.items) IsSegment segment-takes segment-again
+      pub segment-spelled : IsSpelled (segment_at version parts.elements parts.composites) (segment_text version) IsSegment
+      unfolding segment_at
+      segment-spelled = headed-spelled segment_test (item_at version parts.elements parts.composites) (item_text version) (λ b item. IsItem parts version item) (item-spelled parts version formed_elements) segment_of (λ segment. segment.tag.octets) (λ segment. segment.items) IsSegment segment-takes segment-again

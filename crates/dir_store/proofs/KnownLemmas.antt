@@ -10,6 +10,7 @@ use Rattle.edi_tables.specs.Forms.{is_element_formed}
 use Rattle.dir_compile.specs.declared.parts.Parts.{Parts}
 use Rattle.dir_compile.specs.Compile.{element_name, composite_name, segment_name}
 use Rattle.dir_compile.proofs.AscendingLemmas.{pairs-from-ascending}
+use Rattle.dir_store.specs.declared.version.StoreVersion.{StoreVersion}
 use Rattle.dir_store.specs.Spelling.{element_text, composite_text, segment_text}
 use Rattle.dir_store.specs.Store.{section_at, element_at, composite_at, segment_at}
 use Rattle.dir_store.proofs.SeveralLemmas.{Each}
@@ -51,9 +52,9 @@ composites-order first octets elements after composites rest read is =
     order-of composite_name (IsComposite (known elements []) formed) (λ b x good. good.after) composites good.good
 
 -- and the segments
-pub segments-order : (first octets : List ℕ) (elements : List ElementDef) (after : List ℕ) (composites : List CompositeDef) (segments : List SegmentDef) (rest : List ℕ) → section_at (codes "E") element_at first ≡ Ok (elements, after)
-    → section_at (codes "S") (segment_at elements composites) octets ≡ Ok (segments, rest) → IsAscendingBy segment_name segments
-segments-order first octets elements after composites segments rest read is =
+pub segments-order : (version : StoreVersion) (first octets : List ℕ) (elements : List ElementDef) (after : List ℕ) (composites : List CompositeDef) (segments : List SegmentDef) (rest : List ℕ) → section_at (codes "E") element_at first ≡ Ok (elements, after)
+    → section_at (codes "S") (segment_at version elements composites) octets ≡ Ok (segments, rest) → IsAscendingBy segment_name segments
+segments-order version first octets elements after composites segments rest read is =
     let formed = formed-elements first elements after read in
-    let good = (section-takes (codes "S") (segment_at elements composites) segment_text (IsSegment (known elements composites) formed) (segment-spelled (known elements composites) formed) octets segments rest is).0 in
-    order-of segment_name (IsSegment (known elements composites) formed) (λ b x good. good.after) segments good.good
+    let good = (section-takes (codes "S") (segment_at version elements composites) (segment_text version) (IsSegment (known elements composites) formed version) (segment-spelled (known elements composites) formed version) octets segments rest is).0 in
+    order-of segment_name (IsSegment (known elements composites) formed version) (λ b x good. good.after) segments good.good

@@ -8,6 +8,12 @@ pub put-listed : (name count below out one two three four five : List ℕ) → o
 put-listed name count below out one two three four five is_one is_two is_three is_four is_five =
     rw (is_five, is_four, is_three, is_two, is_one) (simp append_assoc)
 
+-- a line of three words
+pub put-three : (a b c out one two three four five six : List ℕ) → one ≡ out ++ a → two ≡ one ++ 32 ∷ [] → three ≡ two ++ b → four ≡ three ++ 32 ∷ [] → five ≡ four ++ c → six ≡ five ++ 10 ∷ []
+    → six ≡ out ++ (join_with_byte 32 (a ∷ b ∷ c ∷ []) ++ 10 ∷ [])
+put-three a b c out one two three four five six is_one is_two is_three is_four is_five is_six =
+    rw (is_six, is_five, is_four, is_three, is_two, is_one) (simp append_assoc)
+
 -- a line of four words
 pub put-four : (a b c d out one two three four five six seven eight : List ℕ) → one ≡ out ++ a → two ≡ one ++ 32 ∷ [] → three ≡ two ++ b → four ≡ three ++ 32 ∷ [] → five ≡ four ++ c → six ≡ five ++ 32 ∷ [] → seven ≡ six ++ d → eight ≡ seven ++ 10 ∷ []
     → eight ≡ out ++ (join_with_byte 32 (a ∷ b ∷ c ∷ d ∷ []) ++ 10 ∷ [])

@@ -1,5 +1,5 @@
 -- The whole store: what is spelled is read, and what is read is spelled and is a directory.
-use Rattle.std.proofs.Common.{◌≡◌, ◌^◌, ◌<◌, ℕ, true, ◌&&◌, cond, List, [], ◌∷◌, ◌++◌, length, Option, Some, None, Ok, refl, sym, ap, ◌∙◌, subst, arith, All}
+use Rattle.std.proofs.Common.{◌≡◌, ◌^◌, ◌<◌, ℕ, Bool, true, false, ◌&&◌, cond, List, [], ◌∷◌, ◌++◌, length, Option, Some, None, Ok, refl, sym, ap, ◌∙◌, subst, arith, All}
 use Rattle.std.specs.Prelude.{option_and_then}
 use Rattle.std.specs.List.{list_all, join_with_byte}
 use Rattle.std.specs.Str.{bytes_eq}
@@ -20,6 +20,8 @@ use Rattle.dir_compile.specs.Ordered.{IsInOrder}
 use Rattle.dir_compile.proofs.AscendingLemmas.{IsAscending, apart-from-ascending, pairs-from-ascending}
 use Rattle.dir_compile.proofs.Apart.{none-from-apart}
 use Rattle.edi_octets.specs.declared.labels.Labels.{Labels}
+use Rattle.dir_store.specs.declared.version.StoreVersion.{StoreVersion}
+use Rattle.dir_store.specs.declared.version.StoreVersion.TheVariants.{First, Second}
 use Rattle.dir_store.specs.Lines.{LineRead, lined}
 use Rattle.dir_store.specs.Rules.{labels_in}
 use Rattle.dir_store.specs.Spelling.{first_line, line_of, listed}
@@ -62,14 +64,23 @@ section-again letter member text Good spelled members rest plain good =
 
 -- ---- the first two lines
 
-pub first-takes : (octets : List ℕ) (x : Unit {0}) (rest : List ℕ) → lined first_in octets ≡ Ok (x, rest) → octets ≡ line_of (first_line ∷ []) ++ rest
-first-takes octets x rest is =
-    let read = lined-takes first_in octets x rest is in
-    let passed = passed-takes (bytes_eq read.0 first_line) (Some tt) x read.1 in
-    read.2 ∙ ap (λ (l : List ℕ). l ++ 10 ∷ rest) ((bytes_eq-Decides read.0 first_line).0 passed.0)
+-- a line that names a version is the first line of that version
+version-takes : (line : List ℕ) (version : StoreVersion) → first_in line ≡ Some version → line ≡ first_line version
+version-takes line version is = by (bytes_eq line (first_line First)) (bytes_eq line (first_line Second)) refl refl is
+  where
+    by : (one two : Bool) → bytes_eq line (first_line First) ≡ one → bytes_eq line (first_line Second) ≡ two → cond one (Some First) (cond two (Some Second) None) ≡ Some version → line ≡ first_line version
+    by true two is_one is_two found = (bytes_eq-Decides line (first_line First)).0 is_one ∙ ap first_line (some-is First version found)
+    by false true is_one is_two found = (bytes_eq-Decides line (first_line Second)).0 is_two ∙ ap first_line (some-is Second version found)
+    by false false is_one is_two found = absurd cc
 
-pub first-again : (rest : List ℕ) → lined first_in (line_of (first_line ∷ []) ++ rest) ≡ Ok (tt, rest)
-first-again rest = lined-again first_in first_line tt rest refl refl
+pub first-takes : (octets : List ℕ) (version : StoreVersion) (rest : List ℕ) → lined first_in octets ≡ Ok (version, rest) → octets ≡ line_of (first_line version ∷ []) ++ rest
+first-takes octets version rest is =
+    let read = lined-takes first_in octets version rest is in
+    read.2 ∙ ap (λ (l : List ℕ). l ++ 10 ∷ rest) (version-takes read.0 version read.1) ∙ sym (append_assoc (first_line version) (10 ∷ []) rest)
+
+pub first-again : (version : StoreVersion) (rest : List ℕ) → lined first_in (line_of (first_line version ∷ []) ++ rest) ≡ Ok (version, rest)
+first-again First rest = lined-again first_in (first_line First) First rest refl refl
+first-again Second rest = lined-again first_in (first_line Second) Second rest refl refl
 
 abbrev pub words_of : Labels → List (List ℕ)
 words_of labels = labels.version ∷ labels.release ∷ labels.agency ∷ []
@@ -106,16 +117,16 @@ labels-again labels rest good =
 
 -- ---- good definitions
 
--- the definitions of parts are good one by one
-pub record AreGood (parts : Parts) : Type 0 where
-  pub version : is_label 3 parts.version ≡ true
+-- the definitions of parts are good one by one, in a version
+pub record AreGood (version : StoreVersion) (parts : Parts) : Type 0 where
+  pub label : is_label 3 parts.version ≡ true
   pub release : is_label 3 parts.release ≡ true
   pub agency : is_label 2 parts.agency ≡ true
   pub formed_elements : list_all is_element_formed parts.elements ≡ true
   pub elements : IsSection IsElement parts.elements
   pub lists : IsSection (IsList parts) parts.lists
   pub composites : IsSection (IsComposite parts formed_elements) parts.composites
-  pub segments : IsSection (IsSegment parts formed_elements) parts.segments
+  pub segments : IsSection (IsSegment parts formed_elements version) parts.segments
   pub messages : IsSection (IsMessage parts) parts.messages
 
 -- names that come each after the one before differ
@@ -129,7 +140,7 @@ each-all : {A : Type 0} (P : A → Type 0) (before : Option A) (xs : List A) →
 each-all P before [] all = λ k d lt. absurd (omega (arith, lt))
 each-all P before (x ∷ xs) all = All-cons P x xs all.0 (each-all P (Some x) xs all.1)
 
-module _ (parts : Parts) (good : AreGood parts) where
+module _ (version : StoreVersion) (parts : Parts) (good : AreGood version parts) where
   elements-rise : IsAscending element_name parts.elements
   elements-rise = apart-rising element_name IsElement (λ b x g. g.after) parts.elements good.elements.good
 
@@ -140,7 +151,7 @@ module _ (parts : Parts) (good : AreGood parts) where
   composites-rise = apart-rising composite_name (IsComposite parts good.formed_elements) (λ b x g. g.after) parts.composites good.composites.good
 
   segments-rise : IsAscending segment_name parts.segments
-  segments-rise = apart-rising segment_name (IsSegment parts good.formed_elements) (λ b x g. g.after) parts.segments good.segments.good
+  segments-rise = apart-rising segment_name (IsSegment parts good.formed_elements version) (λ b x g. g.after) parts.segments good.segments.good
 
   messages-rise : IsAscending message_name parts.messages
   messages-rise = apart-rising message_name (IsMessage parts) (λ b x g. g.after) parts.messages good.messages.good
@@ -150,13 +161,13 @@ module _ (parts : Parts) (good : AreGood parts) where
 
   good-forms : HasForms parts
   good-forms = record {
-    version = good.version;
+    version = good.label;
     release = good.release;
     agency = good.agency;
     elements = good.formed_elements;
     lists = all-good (IsList parts) is_list_formed (λ b x g. g.formed) None parts.lists good.lists.good;
     composites = all-good (IsComposite parts good.formed_elements) is_composite_formed (λ b x g. g.formed) None parts.composites good.composites.good;
-    segments = all-good (IsSegment parts good.formed_elements) is_segment_formed (λ b x g. g.formed) None parts.segments good.segments.good;
+    segments = all-good (IsSegment parts good.formed_elements version) is_segment_formed (λ b x g. g.formed) None parts.segments good.segments.good;
     messages = all-good (IsMessage parts) is_message_formed (λ b x g. g.formed) None parts.messages good.messages.good;
   }
 
@@ -182,7 +193,7 @@ module _ (parts : Parts) (good : AreGood parts) where
       nil-both _ _ (nil-both _ _ (nil-both _ _ (nil-both _ _ good-once
       (none-good (IsList parts) (list_fault parts) (λ b x g. g.faultless) None parts.lists good.lists.good))
       (none-good (IsComposite parts good.formed_elements) (composite_fault parts) (λ b x g. g.faultless) None parts.composites good.composites.good))
-      (none-good (IsSegment parts good.formed_elements) (segment_fault parts) (λ b x g. g.faultless) None parts.segments good.segments.good))
+      (none-good (IsSegment parts good.formed_elements version) (segment_fault parts) (λ b x g. g.faultless) None parts.segments good.segments.good))
       (none-good (IsMessage parts) (message_fault parts) (λ b x g. g.faultless) None parts.messages good.messages.good)
 
   pub good-directory : length parts.messages < 4000000000 → IsDirectory parts

@@ -4,7 +4,7 @@ use Rattle.std.specs.Option.{option_map}
 use Rattle.std.specs.Str.{bytes_eq}
 use Rattle.edi_tables.specs.Octets.{Octets}
 use Rattle.edi_tables.specs.Ascending.{is_before}
-use Rattle.edi_tables.specs.Forms.{is_element_code, is_composite_code, is_message_name, is_code_value, is_count_formed}
+use Rattle.edi_tables.specs.Forms.{is_element_code, is_composite_code, is_message_name, is_code_value, is_count_formed, is_reps_formed}
 use Rattle.edi_tables.specs.Tag.{is_tag_of}
 use Rattle.edi_tables.specs.declared.tag.Tag.{Tag}
 use Rattle.edi_tables.specs.declared.element.ElementDef.{ElementDef}
@@ -22,6 +22,8 @@ use Rattle.dir_compile.specs.Compile.{named_in, is_service_tag, element_name, li
 use Rattle.edi_octets.specs.declared.labels.Labels.{Labels}
 use Rattle.edi_octets.specs.Labels.{labels_of}
 use Rattle.edi_octets.specs.Words.{two_in, three_in, four_in}
+use Rattle.dir_store.specs.declared.version.StoreVersion.{StoreVersion}
+use Rattle.dir_store.specs.declared.version.StoreVersion.TheVariants.{First, Second}
 
 -- what was found, if it passes a test
 abbrev pub kept : {A : Type 0} → (A → Bool) → Option A → Option A
@@ -99,21 +101,34 @@ segment_in before line =
     (head_in line)
 
 -- a composite of the store
-abbrev pub composite_of : List CompositeDef → Octets → Bool → Option ItemDef
-composite_of composites code must =
+abbrev pub composite_of : List CompositeDef → Octets → Bool → ℕ → Option ItemDef
+composite_of composites code must reps =
     if is_composite_code code && is_some (named_in composite_name composites code)
-    then Some (Composite (record { octets = code }) must) else None
+    then Some (Composite (record { octets = code }) must reps) else None
 
--- an item: a data element or a composite of the store, and a status
-abbrev pub item_of : List ElementDef → List CompositeDef → Octets → Bool → Option ItemDef
-item_of elements composites code must =
-    if is_element_code code then option_map Alone (part_of elements code must) else composite_of composites code must
+-- a data element or a composite of the store, with a greatest number of repetitions
+abbrev pub item_of : List ElementDef → List CompositeDef → Octets → Bool → ℕ → Option ItemDef
+item_of elements composites code must reps =
+    if is_element_code code then option_map (λ part. Alone part reps) (part_of elements code must)
+    else composite_of composites code must reps
 
-abbrev pub item_with : List ElementDef → List CompositeDef → Octets × Octets → Option ItemDef
-item_with elements composites w = option_and_then (item_of elements composites w.0) (status_in w.1)
+-- the greatest number of repetitions on a line, from 1 to 99, after the words of the item's code and status
+abbrev pub reps_with : Octets × Octets × Octets → Option (Octets × Octets × ℕ)
+reps_with w = option_map (λ reps. (w.0, w.1, reps)) (kept is_reps_formed (number_in w.2))
 
-abbrev pub item_in : List ElementDef → List CompositeDef → Octets → Option ItemDef
-item_in elements composites line = option_and_then (item_with elements composites) (two_in line)
+-- the words of an item's code and status, and its greatest number of repetitions, which is 1 where version 1 has none
+abbrev pub item_words_in : StoreVersion → Octets → Option (Octets × Octets × ℕ)
+item_words_in First line = option_map (λ w. (w.0, w.1, 1)) (two_in line)
+item_words_in Second line = option_and_then reps_with (three_in line)
+
+-- an item: a data element or a composite of the store, a status, and a greatest number of repetitions
+abbrev pub item_with : List ElementDef → List CompositeDef → Octets × Octets × ℕ → Option ItemDef
+item_with elements composites w =
+    option_and_then (λ must. item_of elements composites w.0 must w.2) (status_in w.1)
+
+abbrev pub item_in : StoreVersion → List ElementDef → List CompositeDef → Octets → Option ItemDef
+item_in version elements composites line =
+    option_and_then (item_with elements composites) (item_words_in version line)
 
 -- a message: a name in order, not CONTRL, and 2 to 2,000 rows
 abbrev pub message_in : Option MessageDef → Octets → Option (Octets × ℕ)

@@ -1,6 +1,6 @@
--- The one spelling of a directory.
-use Rattle.std.specs.Prelude.{◌<◌, ◌^◌, Bool, true, false, List, [], ◌∷◌, ◌++◌, length, Option, Some, None, codes, decimal}
-use Rattle.std.specs.List.{flat_map, join_with_byte}
+-- The spellings of a directory: the one that is written, and the older one that is read besides.
+use Rattle.std.specs.Prelude.{◌≡◌, ◌⊎◌, ◌<◌, ◌^◌, ◌==◌, ℕ, Bool, true, false, List, [], ◌∷◌, ◌++◌, length, Option, Some, None, codes, decimal}
+use Rattle.std.specs.List.{flat_map, join_with_byte, list_all}
 use Rattle.edi_tables.specs.Octets.{Octets}
 use Rattle.edi_tables.specs.declared.tag.Tag.{Tag}
 use Rattle.edi_tables.specs.declared.element.Class.{Class}
@@ -15,8 +15,11 @@ use Rattle.edi_tables.specs.declared.segment.ItemDef.TheVariants.{Alone, Composi
 use Rattle.edi_tables.specs.declared.segment.SegmentDef.{SegmentDef}
 use Rattle.edi_tables.specs.declared.segment.TableRow.{TableRow}
 use Rattle.edi_tables.specs.declared.segment.MessageDef.{MessageDef}
+use Rattle.edi_tables.specs.Forms.{reps_of}
 use Rattle.edi_octets.specs.Profile.{status_text}
 use Rattle.dir_compile.specs.declared.parts.Parts.{Parts}
+use Rattle.dir_store.specs.declared.version.StoreVersion.{StoreVersion}
+use Rattle.dir_store.specs.declared.version.StoreVersion.TheVariants.{First, Second}
 
 -- a line: words separated by one space, and LF
 abbrev pub line_of : List Octets → Octets
@@ -53,24 +56,25 @@ value_text value = line_of (value ∷ [])
 abbrev pub list_text : CodeList → Octets
 list_text list = listed list.element.octets value_text list.values
 
--- a data element or a composite where it is used: its code and its status
-abbrev pub used_text : Octets → Bool → Octets
-used_text code must = line_of (code ∷ status_text must ∷ [])
-
--- a component of a composite; its representation is that of its element
+-- a component of a composite: its code and its status; its representation is that of its element
 abbrev pub part_text : PartDef → Octets
-part_text part = used_text part.code.octets part.must
+part_text part = line_of (part.code.octets ∷ status_text part.must ∷ [])
 
 abbrev pub composite_text : CompositeDef → Octets
 composite_text composite = listed composite.code.octets part_text composite.parts
 
--- an item of a segment
-abbrev pub item_text : ItemDef → Octets
-item_text (Alone part) = part_text part
-item_text (Composite code must) = used_text code.octets must
+-- the words of an item of a segment: its code and its status, and in version 2 its greatest number of repetitions
+abbrev pub item_words : StoreVersion → Octets → Bool → ℕ → List Octets
+item_words First code must reps = code ∷ status_text must ∷ []
+item_words Second code must reps = code ∷ status_text must ∷ decimal reps ∷ []
 
-abbrev pub segment_text : SegmentDef → Octets
-segment_text segment = listed segment.tag.octets item_text segment.items
+-- an item of a segment
+abbrev pub item_text : StoreVersion → ItemDef → Octets
+item_text version (Alone part reps) = line_of (item_words version part.code.octets part.must reps)
+item_text version (Composite code must reps) = line_of (item_words version code.octets must reps)
+
+abbrev pub segment_text : StoreVersion → SegmentDef → Octets
+segment_text version segment = listed segment.tag.octets (item_text version) segment.items
 
 -- what a row is called: its tag, or `-` for a group
 abbrev pub row_name : Option Tag → Octets
@@ -85,20 +89,40 @@ abbrev pub message_text : MessageDef → Octets
 message_text message = listed message.name row_text message.rows
 
 -- the first line, which says that these octets are a store, and of which version
-abbrev pub first_line : Octets
-first_line = codes "EDIDIR1"
+abbrev pub first_line : StoreVersion → Octets
+first_line First = codes "EDIDIR1"
+first_line Second = codes "EDIDIR2"
 
 -- the labels of a directory: version, release and agency
 abbrev pub labels_text : Parts → Octets
 labels_text parts = line_of (parts.version ∷ parts.release ∷ parts.agency ∷ [])
 
--- the spelling of a directory: its first line, its labels, and its definitions, kind by kind, but no table of CONTRL
-unfoldable pub store_text : Parts → Octets
-store_text parts =
-    line_of (first_line ∷ []) ++ labels_text parts
+-- the spelling of a directory in a version: its first line, its labels, and its definitions, kind by kind, but no table
+-- of CONTRL
+unfoldable pub spelling_of : StoreVersion → Parts → Octets
+spelling_of version parts =
+    line_of (first_line version ∷ []) ++ labels_text parts
     ++ listed (codes "E") element_text parts.elements ++ listed (codes "L") list_text parts.lists
-    ++ listed (codes "C") composite_text parts.composites ++ listed (codes "S") segment_text parts.segments
+    ++ listed (codes "C") composite_text parts.composites
+    ++ listed (codes "S") (segment_text version) parts.segments
     ++ listed (codes "T") message_text parts.messages
+
+-- the one spelling that is written
+abbrev pub store_text : Parts → Octets
+store_text parts = spelling_of Second parts
+
+-- the older spelling, which has no numbers of repetitions
+abbrev pub old_store_text : Parts → Octets
+old_store_text parts = spelling_of First parts
+
+-- the greatest number of repetitions of each item of a segment is 1
+abbrev pub HasNoRepetitions : Parts → Type 0
+HasNoRepetitions parts =
+    list_all (λ segment. list_all (λ item. reps_of item == 1) segment.items) parts.segments ≡ true
+
+-- octets spell a directory: they are what is written of it, or, where it has no repetitions, its older spelling
+abbrev pub IsStoreOf : Octets → Parts → Type 0
+IsStoreOf octets parts = (octets ≡ store_text parts) ⊎ (HasNoRepetitions parts × (octets ≡ old_store_text parts))
 
 -- a text each of whose counts has at most 19 digits: no text in memory is longer
 abbrev pub IsCountable : Octets → Type 0

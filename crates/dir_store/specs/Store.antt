@@ -14,14 +14,18 @@ use Rattle.edi_tables.specs.declared.segment.MessageDef.{MessageDef}
 use Rattle.edi_tables.specs.Rows.{table_faults}
 use Rattle.dir_compile.specs.declared.parts.Parts.{Parts}
 use Rattle.edi_tables.specs.Filled.{is_filled}
+use Rattle.dir_store.specs.declared.version.StoreVersion.{StoreVersion}
+use Rattle.dir_store.specs.declared.version.StoreVersion.TheVariants.{First, Second}
 use Rattle.dir_store.specs.Spelling.{first_line}
 use Rattle.edi_octets.specs.declared.labels.Labels.{Labels}
 use Rattle.dir_store.specs.Lines.{◌>>=◌, LineRead, found_at, lined, several}
 use Rattle.dir_store.specs.Rules.{labels_in, section_in, element_in, list_in, value_in, composite_in, part_in, segment_in, item_in, message_in, row_in}
 
--- the first line is `EDIDIR1`
-abbrev pub first_in : Octets → Option (Unit {0})
-first_in line = if bytes_eq line first_line then Some tt else None
+-- the first line names the version: it is `EDIDIR1` or `EDIDIR2`
+abbrev pub first_in : Octets → Option StoreVersion
+first_in line =
+    if bytes_eq line (first_line First) then Some First
+    else (if bytes_eq line (first_line Second) then Some Second else None)
 
 -- what a head that keeps a rule and the members after it make; where they make nothing, the fault is at the head
 abbrev pub headed : {A B : Type 0}
@@ -56,15 +60,17 @@ unfoldable pub composite_at : List ElementDef → Option CompositeDef → Octets
 composite_at elements before octets = headed (composite_in before) (part_at elements) composite_of octets
 
 -- segments
-unfoldable pub item_at : List ElementDef → List CompositeDef → Option ItemDef → Octets → LineRead ItemDef
-item_at elements composites before octets = lined (item_in elements composites) octets
+unfoldable pub item_at : StoreVersion
+    → List ElementDef → List CompositeDef → Option ItemDef → Octets → LineRead ItemDef
+item_at version elements composites before octets = lined (item_in version elements composites) octets
 
 abbrev pub segment_of : Octets → List ItemDef → Option SegmentDef
 segment_of name items = Some (record { tag = record { octets = name }; items = items })
 
-unfoldable pub segment_at : List ElementDef → List CompositeDef → Option SegmentDef → Octets → LineRead SegmentDef
-segment_at elements composites before octets =
-    headed (segment_in before) (item_at elements composites) segment_of octets
+unfoldable pub segment_at : StoreVersion
+    → List ElementDef → List CompositeDef → Option SegmentDef → Octets → LineRead SegmentDef
+segment_at version elements composites before octets =
+    headed (segment_in before) (item_at version elements composites) segment_of octets
 
 -- messages
 unfoldable pub row_at : List SegmentDef → Option TableRow → Octets → LineRead TableRow
@@ -89,13 +95,13 @@ abbrev pub ended : Octets → Result (Unit {0}) ℕ
 ended [] = Ok tt
 ended octets = Err (length octets)
 
--- the sections of a store in order, after its labels
-unfoldable pub definitions_at : Labels → Octets → Result Parts ℕ
-definitions_at labels octets = do
+-- the sections of a store of this version in order, after its labels
+unfoldable pub definitions_at : StoreVersion → Labels → Octets → Result Parts ℕ
+definitions_at version labels octets = do
   elements ← section_at (codes "E") element_at octets
   lists ← section_at (codes "L") (list_at elements.0) elements.1
   composites ← section_at (codes "C") (composite_at elements.0) lists.1
-  segments ← section_at (codes "S") (segment_at elements.0 composites.0) composites.1
+  segments ← section_at (codes "S") (segment_at version elements.0 composites.0) composites.1
   messages ← section_at (codes "T") (message_at segments.0) segments.1
   end ← ended messages.1
   Ok (record {
@@ -112,9 +118,9 @@ definitions_at labels octets = do
 -- the lines of a store in order
 unfoldable pub parts_at : Octets → Result Parts ℕ
 parts_at octets = do
-  first ← lined first_in octets
-  labels ← lined labels_in first.1
-  definitions_at labels.0 labels.1
+  version ← lined first_in octets
+  labels ← lined labels_in version.1
+  definitions_at version.0 labels.0 labels.1
 
 -- octets give a directory, or the place of the first line that breaks a rule: of the first octet after the last line
 -- where some follow it, and of the octets' end where they end before LF ends the last line

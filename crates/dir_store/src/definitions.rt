@@ -1,6 +1,6 @@
 //! The lines of data elements, code lists and composites.
 ghost use Rattle.std.specs.Prelude.{◌≡◌, ◌++◌, OnOk};
-ghost use Rattle.dir_store.specs.Spelling.{element_text, list_text, value_text, part_text, composite_text, used_text, repr_text, class_text};
+ghost use Rattle.dir_store.specs.Spelling.{element_text, list_text, value_text, part_text, composite_text, repr_text, class_text};
 ghost use Rattle.dir_store.specs.Store.{element_at, list_at, value_at, part_at, composite_at};
 
 use crate::definition_line::{composite_on, element_on, is_code_value, list_on, part_on};
@@ -10,7 +10,7 @@ use crate::line::{comes_after, read_line};
 use crate::line_stop::Stop;
 use edi_octets::{put_decimal, put_status};
 use edi_tables::{
-    Chunk, Class, Code, CodeList, CompositeDef, ElementDef, List as Members, PartDef, Repr,
+    Chunk, Class, CodeList, CompositeDef, ElementDef, List as Members, PartDef, Repr,
 };
 use std::alloc::{AllocError, Global};
 
@@ -150,16 +150,9 @@ impl Entry for PartDef {
     }
 
     fn put(&self, out: &mut Chunk) -> Result<(), AllocError> {
-        put_used(out, self.code, self.must)
+        out.add(&self.code.octets)?;
+        out.add(b" ")?;
+        put_status(out, self.must)?;
+        out.add(b"\n")
     }
-}
-
-/// Puts the line of a data element or a composite where it is used.
-pub fn put_used(out: &mut Chunk, code: Code, must: bool) -> Result<(), AllocError>
-    ensures { OnOk result (out.new ≡ out.old ++ used_text code.octets must) }
-{
-    out.add(&code.octets)?;
-    out.add(b" ")?;
-    put_status(out, must)?;
-    out.add(b"\n")
 }

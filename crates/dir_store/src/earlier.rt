@@ -1,4 +1,4 @@
-//! The definitions that the lines of a store may name.
+//! The version of a store, and the definitions that its lines may name.
 ghost use Rattle.std.specs.Prelude.{◌≡◌};
 ghost use Rattle.std.specs.Cmp.Lexicographic.{slice_cmp};
 ghost use Rattle.std.specs.Option.{option_copied};
@@ -10,12 +10,15 @@ ghost use Rattle.dir_compile.specs.Compile.{
   segment_name,
 };
 
+use crate::version::StoreVersion;
 use edi_tables::{Code, CompositeDef, ElementDef, SegmentDef, Tag};
 use std::cmp::Ordering;
 
-/// The definitions of the sections so far, each kind in ascending order of names. A name is found by halving.
+/// The version of a store, and the definitions of the sections so far, each kind in ascending order of names. A name is
+/// found by halving.
 #[derive(Clone, Copy)]
 pub(crate) struct EarlierDefinitions<'a> {
+    pub version: StoreVersion,
     pub elements: &'a [ElementDef],
     pub composites: &'a [CompositeDef],
     pub segments: &'a [SegmentDef],

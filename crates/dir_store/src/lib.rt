@@ -12,6 +12,7 @@ mod reading;
 mod segment_line;
 mod segments;
 mod stop;
+mod version;
 mod writing;
 
 pub use reading::read_store;

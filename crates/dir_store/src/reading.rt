@@ -3,7 +3,7 @@ ghost use Rattle.std.specs.Prelude.{◌≡◌, ◌≤◌, Ok, IfOk, length};
 ghost use Rattle.edi_tables.specs.First.{IsVerdict};
 ghost use Rattle.dir_compile.specs.declared.parts.Parts.{Parts};
 ghost use Rattle.dir_compile.specs.Directory.{IsDirectory};
-ghost use Rattle.dir_store.specs.Spelling.{store_text};
+ghost use Rattle.dir_store.specs.Spelling.{IsStoreOf};
 ghost use Rattle.dir_store.specs.Stop.{fault_in};
 ghost use Rattle.dir_store.specs.Store.{definitions_at, ended, first_in, parts_at, store_of};
 ghost use Rattle.dir_store.specs.Lines.{lined};
@@ -17,24 +17,26 @@ use crate::label_line::read_labels;
 use crate::line::read_line;
 use crate::line_stop::Stop;
 use crate::stop::StoreStop;
+use crate::version::StoreVersion;
 use dir_compile::{Directory, Parts};
 use edi_octets::Labels;
 use edi_tables::{CompositeDef, ElementDef, List, SegmentDef};
 use std::alloc::Global;
 
-/// The directory that a store of at most 4,194,304 octets spells; else the place of its first fault.
+/// The directory that a store of at most 4,194,304 octets spells, in version 2 or in version 1; else the place of its
+/// first fault. It is judged by version 1 exactly where the first line is `EDIDIR1`.
 pub fn read_store(alloc: Global, file: &[u8]) -> Result<Directory, StoreStop>
     requires { length file.now ≤ LONGEST_TEXT }
     // What is read is spelled so.
-    ensures spelled { IfOk result (λ directory. file.now ≡ store_text directory) }
+    ensures spelled { IfOk result (λ directory. IsStoreOf file.now directory) }
     // What is spelled so is read, unless memory runs out.
-    ensures again { (parts : Parts) → IsDirectory parts → file.now ≡ store_text parts
+    ensures again { (parts : Parts) → IsDirectory parts → IsStoreOf file.now parts
         → IsVerdict (λ directory. directory) fault_in result (Ok parts) }
     // Which fault it is.
     ensures answers { IsVerdict (λ directory. directory) fault_in result (store_of file.now) }
-    // Nothing else is a store: the octets of one are the spelling of a directory.
+    // Nothing else is a store: the octets of one are a spelling of a directory.
     ensures only { (parts : Parts) → store_of file.now ≡ Ok parts
-        → (file.now ≡ store_text parts) × IsDirectory parts }
+        → IsStoreOf file.now parts × IsDirectory parts }
 {
     let parts = match read_parts(alloc, file) {
         Ok(parts) => parts,
@@ -52,17 +54,23 @@ pub fn read_store(alloc: Global, file: &[u8]) -> Result<Directory, StoreStop>
 fn read_parts(alloc: Global, octets: &[u8]) -> Result<Parts, Stop>
     ensures { IsVerdict (λ parts. parts) left_in result (parts_at octets.now) }
 {
-    let rest = read_first(octets)?;
+    let (version, rest) = read_first(octets)?;
     let (labels, rest) = read_second(alloc, rest)?;
-    read_definitions(alloc, labels, rest)
+    read_definitions(alloc, version, labels, rest)
 }
 
-// The definitions of the sections, with these labels.
+// The definitions of the sections in this version, with these labels.
 #[tactic(auto, unfolding(crate::specs::Store::definitions_at))]
-fn read_definitions(alloc: Global, labels: Labels, octets: &[u8]) -> Result<Parts, Stop>
-    ensures { IsVerdict (λ parts. parts) left_in result (definitions_at labels octets.now) }
+fn read_definitions(
+    alloc: Global,
+    version: StoreVersion,
+    labels: Labels,
+    octets: &[u8],
+) -> Result<Parts, Stop>
+    ensures { IsVerdict (λ parts. parts) left_in result (definitions_at version labels octets.now) }
 {
     let mut known = EarlierDefinitions {
+        version,
         elements: &[],
         composites: &[],
         segments: &[],
@@ -88,15 +96,25 @@ fn read_definitions(alloc: Global, labels: Labels, octets: &[u8]) -> Result<Part
     })
 }
 
-// The octets after the first line.
-fn read_first(octets: &[u8]) -> Result<&[u8], Stop>
-    ensures { IsVerdict (λ rest. (tt, rest.now)) left_in result (lined first_in octets.now) }
+// The version that the first line names, and the octets after it.
+fn read_first(octets: &[u8]) -> Result<(StoreVersion, &[u8]), Stop>
+    ensures { IsVerdict (λ x. (x.0, x.1.now)) left_in result (lined first_in octets.now) }
 {
     let (line, rest) = read_line(octets)?;
+    let version = read_version(line).ok_or(Stop::at(octets))?;
+    Ok((version, rest))
+}
+
+// The version that a line names.
+fn read_version(line: &[u8]) -> Option<StoreVersion>
+    ensures { result ≡ first_in line.now }
+{
     if line == b"EDIDIR1".as_slice() {
-        Ok(rest)
+        Some(StoreVersion::First)
+    } else if line == b"EDIDIR2".as_slice() {
+        Some(StoreVersion::Second)
     } else {
-        Err(Stop::at(octets))
+        None
     }
 }
 

@@ -6,11 +6,16 @@ ghost use Rattle.dir_store.specs.Rules as rules;
 use crate::definition_line::{MOST_MEMBERS, is_between, part_of};
 use crate::earlier::EarlierDefinitions;
 use crate::line::{comes_after, read_head, read_number};
+use crate::version::StoreVersion;
 use edi_octets::{
-    four_words, is_message_name, read_composite_code, read_element_code, read_status, two_words,
+    four_words, is_message_name, read_composite_code, read_element_code, read_status, three_words,
+    two_words,
 };
 use edi_tables::{ItemDef, MessageDef, SegmentDef, TableRow, Tag};
 use service_tables::service_segment;
+
+// The greatest number of repetitions that an item may have.
+const MOST_REPETITIONS: u64 = 99;
 
 /// The tag of a segment on a line, in order and not a service segment's, and how many items follow: 1 to 99.
 pub(crate) fn segment_on(line: &[u8], before: Option<&SegmentDef>) -> Option<(Tag, u64)>
@@ -28,21 +33,39 @@ pub(crate) fn segment_on(line: &[u8], before: Option<&SegmentDef>) -> Option<(Ta
     Some((tag, count))
 }
 
-/// The item on a line: a data element or a composite of the store, and a status.
+/// The item on a line: a data element or a composite of the store, a status, and a number of repetitions.
 pub(crate) fn item_on(line: &[u8], known: &EarlierDefinitions<'_>) -> Option<ItemDef>
-    ensures { result ≡ rules.item_in known.now.elements.now known.now.composites.now line.now }
+    ensures { result
+        ≡ rules.item_in known.now.version known.now.elements.now known.now.composites.now line.now }
 {
-    let (word, status) = two_words(line)?;
+    let (word, status, reps) = item_words(known.version, line)?;
     let must = read_status(status)?;
     if let Some(code) = read_element_code(word) {
         let part = part_of(known, code, must)?;
-        return Some(ItemDef::Alone { part });
+        return Some(ItemDef::Alone { part, reps });
     }
     let code = read_composite_code(word)?;
     if known.has_composite(code) {
-        Some(ItemDef::Composite { code, must })
+        Some(ItemDef::Composite { code, must, reps })
     } else {
         None
+    }
+}
+
+// The words of an item's line that are its code and its status, and its number of repetitions.
+fn item_words(version: StoreVersion, line: &[u8]) -> Option<(&[u8], &[u8], u8)>
+    ensures { option_map (λ w. (w.0.now, w.1.now, w.2)) result ≡ rules.item_words_in version line.now }
+{
+    match version {
+        StoreVersion::First => {
+            let (code, status) = two_words(line)?;
+            Some((code, status, 1))
+        }
+        StoreVersion::Second => {
+            let (code, status, reps) = three_words(line)?;
+            let reps = read_between(1, MOST_REPETITIONS, reps)?;
+            Some((code, status, reps as u8))
+        }
     }
 }
 

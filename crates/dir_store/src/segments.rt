@@ -1,22 +1,24 @@
 //! The lines of segments and messages.
 ghost use Rattle.std.specs.Prelude.{◌≡◌, ◌++◌, OnOk};
-ghost use Rattle.dir_store.specs.Spelling.{segment_text, item_text, row_text, row_name, message_text};
+ghost use Rattle.dir_store.specs.declared.version.StoreVersion.TheVariants.{Second};
+ghost use Rattle.dir_store.specs.Spelling.{line_of, segment_text, item_words, item_text, row_text, row_name, message_text};
 ghost use Rattle.dir_store.specs.Store.{segment_at, item_at, row_at, message_at};
 
-use crate::definitions::put_used;
 use crate::earlier::EarlierDefinitions;
 use crate::entry::{Entry, put_listed, read_several};
 use crate::line::read_line;
 use crate::line_stop::Stop;
 use crate::segment_line::{item_on, message_on, row_on, segment_on};
 use edi_octets::{put_decimal, put_status};
-use edi_tables::{Chunk, ItemDef, List as Members, MessageDef, SegmentDef, Table, TableRow, Tag};
+use edi_tables::{
+    Chunk, Code, ItemDef, List as Members, MessageDef, SegmentDef, Table, TableRow, Tag,
+};
 use std::alloc::{AllocError, Global};
 
 impl Entry for SegmentDef {
-    ghost text = { segment_text };
+    ghost text = { segment_text Second };
 
-    ghost read_at = { λ known. segment_at known.elements.now known.composites.now };
+    ghost read_at = { λ known. segment_at known.version known.elements.now known.composites.now };
 
     #[tactic(auto, unfolding(crate::specs::Store::segment_at))]
     fn read<'o>(
@@ -38,9 +40,9 @@ impl Entry for SegmentDef {
 }
 
 impl Entry for ItemDef {
-    ghost text = { item_text };
+    ghost text = { item_text Second };
 
-    ghost read_at = { λ known. item_at known.elements.now known.composites.now };
+    ghost read_at = { λ known. item_at known.version known.elements.now known.composites.now };
 
     #[tactic(auto, unfolding(crate::specs::Store::item_at))]
     fn read<'o>(
@@ -56,10 +58,22 @@ impl Entry for ItemDef {
 
     fn put(&self, out: &mut Chunk) -> Result<(), AllocError> {
         match self {
-            ItemDef::Alone { part } => put_used(out, part.code, part.must),
-            ItemDef::Composite { code, must } => put_used(out, *code, *must),
+            ItemDef::Alone { part, reps } => put_item(out, part.code, part.must, *reps),
+            ItemDef::Composite { code, must, reps } => put_item(out, *code, *must, *reps),
         }
     }
+}
+
+// Puts the line of an item: its code, its status and its greatest number of repetitions.
+fn put_item(out: &mut Chunk, code: Code, must: bool, reps: u8) -> Result<(), AllocError>
+    ensures { OnOk result (out.new ≡ out.old ++ line_of (item_words Second code.octets must reps)) }
+{
+    out.add(&code.octets)?;
+    out.add(b" ")?;
+    put_status(out, must)?;
+    out.add(b" ")?;
+    put_decimal(out, u64::from(reps))?;
+    out.add(b"\n")
 }
 
 impl Entry for MessageDef {

@@ -10,7 +10,8 @@ use dir_compile::{Directory, Parts};
 use edi_tables::Chunk;
 use std::alloc::{AllocError, Global};
 
-/// The one spelling of a directory. It may have more octets than a store that is read may have.
+/// The one spelling of a directory that is written, in version 2. It may have more octets than a store that is read may
+/// have.
 pub fn write_store(alloc: Global, dir: &Directory) -> Result<Chunk, AllocError>
     ensures spells { IfOk result (λ text. text ≡ store_text dir.now) }
 
@@ -23,12 +24,12 @@ pub fn write_store(alloc: Global, dir: &Directory) -> Result<Chunk, AllocError>
 }
 
 // The spelling of these parts.
-#[tactic(auto, unfolding(crate::specs::Spelling::store_text))]
+#[tactic(auto, unfolding(crate::specs::Spelling::spelling_of))]
 fn spell(alloc: Global, parts: &Parts) -> Result<Chunk, AllocError>
     ensures { IfOk result (λ text. text ≡ store_text parts.now) }
 {
     let mut out = Chunk::empty(alloc);
-    out.add(b"EDIDIR1\n")?;
+    out.add(b"EDIDIR2\n")?;
     put_labels(&mut out, parts)?;
     put_listed(&mut out, b"E", parts.elements.items())?;
     put_listed(&mut out, b"L", parts.lists.items())?;

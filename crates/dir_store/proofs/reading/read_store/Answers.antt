@@ -1,7 +1,7 @@
 use Rattle.std.proofs.Common.{◌≡◌, Ok, Err, IfSome, length, refl, ap, sym, ◌∙◌, subst}
 use Rattle.dir_store.specs.Stop.{fault_in}
 use Rattle.dir_store.specs.LineStop.{left_in}
-use Rattle.dir_store.specs.Spelling.{store_text}
+use Rattle.dir_store.specs.Spelling.{IsStoreOf}
 use Rattle.dir_store.specs.Store.{store_of}
 use Rattle.dir_store.proofs.WholeLemmas.{store-takes, placed-stop, placed-parts, spelled-gives, spelled-stop}
 use Rattle.dir_store.proofs.reading.read_store.Goals as goal
@@ -22,7 +22,7 @@ of-requires-2 c =
 pub returns-in-Ok-of-clause-spelled : goal.returns-in-Ok-of-clause-spelled
 returns-in-Ok-of-clause-spelled c =
     let law = store-takes c.args.file.now c.in-Ok.parts c.requires (placed-parts c.args.file.now c.in-Ok.parts c.in-Ok.ensures) in
-    law.0 ∙ ap store_text (sym c.in-Ok-of.ensures)
+    subst (IsStoreOf c.args.file.now) (sym c.in-Ok-of.ensures) law.0
 
 pub returns-in-Ok-of-clause-answers : goal.returns-in-Ok-of-clause-answers
 returns-in-Ok-of-clause-answers c =

@@ -1,0 +1,2 @@
+pub mod LeftRows
+pub mod RowsNarrow

@@ -1,2 +1,3 @@
 pub mod LeftRows
 pub mod RowsNarrow
+pub mod GroupsKept

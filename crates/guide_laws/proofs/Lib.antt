@@ -1,3 +1,5 @@
 pub mod LeftRows
 pub mod RowsNarrow
 pub mod GroupsKept
+pub mod Members
+pub mod CandidatesKept

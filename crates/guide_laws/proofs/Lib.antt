@@ -3,3 +3,4 @@ pub mod RowsNarrow
 pub mod GroupsKept
 pub mod Members
 pub mod CandidatesKept
+pub mod PassedKept

@@ -4,3 +4,4 @@ pub mod GroupsKept
 pub mod Members
 pub mod CandidatesKept
 pub mod PassedKept
+pub mod CountsKept

@@ -53,33 +53,57 @@ module _ (base nodes : List Node) (to : ℕ → ℕ) (narrows : Narrows base nod
           | inr some ↦ inr (some.0, omega (arith, laws.parent_before k some.0 some.1, laws.held_within k some.0 some.1), same ∙ ap (option_map to) some.1)
         ])
 
-    -- the mandatory nodes of the base that come later are nodes that come later
-    pub later_back : (f j : ℕ) → f < length nodes → Contains (later_nodes base (to f)) j → is_must_at base j ≡ true → (i : ℕ) × (i < length nodes) × (to i ≡ j) × Contains (later_nodes nodes f) i
+    -- where j comes later in the base than the level of a node that is left
+    record ComesLater (f j : ℕ) : Type 0 where
+      past : to f < j
+      inside : j < length base
+      level : ℕ
+      here : Contains (f ∷ groups_round nodes f) level
+      within : level < length nodes
+      later : to level < j
+      same : parent_at base j ≡ option_map to (parent_at nodes level)
+
+    comes_later : (f j : ℕ) → f < length nodes → Contains (later_nodes base (to f)) j → ComesLater f j
     unfolding later_nodes
-    later_back f j f_within found must =
+    comes_later f j f_within found =
         let levels : List ℕ = f ∷ groups_round nodes f in
         let parts = of_filter (λ j. list_any (λ i. nat_lt i j && are_siblings base i j) (to f ∷ groups_round base (to f))) (range_with_len (to f + 1) (length base - (to f + 1))) j found in
         let bounds = of_range (to f + 1) (length base - (to f + 1)) j parts.0 in
-        let inside : j < length base = omega (arith, bounds.0, bounds.1) in
-        let some : list_any (λ k. is_later base j (to k)) levels ≡ true =
-        sym (any_map (is_later base j) to levels) ∙ ap (λ groups. list_any (is_later base j) (to f ∷ groups)) (sym (groups_kept base nodes to narrows outer inner f f_within)) ∙ parts.1 in
+        let moved : list_any (λ k. is_later base j (to k)) levels ≡ list_any (is_later base j) (to f ∷ groups_round base (to f)) =
+        sym (any_map (is_later base j) to levels) ∙ ap (λ groups. list_any (is_later base j) (to f ∷ groups)) (sym (groups_kept base nodes to narrows outer inner f f_within)) in
+        let some : list_any (λ k. is_later base j (to k)) levels ≡ true = moved ∙ parts.1 in
         let level = any_found (λ k. is_later base j (to k)) levels some in
-        let k : ℕ = level.0 in
-        let tests = and_parts (nat_lt (to k) j) (are_siblings base (to k) j) level.2 in
-        let k_within : k < length nodes = All-contains (λ g. g < length nodes) levels k (All-cons (λ g. g < length nodes) f (groups_round nodes f) f_within (groups_within nodes laws f)) level.1 in
-        let same : parent_at base j ≡ option_map to (parent_at nodes k) =
-        sym (same_parent (parent_at base (to k)) (parent_at base j) tests.1) ∙ narrows.parent k k_within in
-        let here = sibling_left k j k_within inside must same in
-        let i : ℕ = here.0 in
-        let after : f < i = to_back base nodes to narrows f i (omega (arith, bounds.0, here.2)) in
-        let later : k < i = to_back base nodes to narrows k i (omega (arith, ltb-true (to k) j tests.0, here.2)) in
-        let siblings : parent_at nodes k ≡ parent_at nodes i =
-        parents_once (parent_at nodes k) (parent_at nodes i) (sym same ∙ ap (parent_at base) (sym here.2) ∙ narrows.parent i here.1) in (
-          i, here.1, here.2,
-          in_filter (λ j. list_any (λ i. nat_lt i j && are_siblings nodes i j) levels) (range_with_len (f + 1) (length nodes - (f + 1))) i
-              (in_range (f + 1) (length nodes - (f + 1)) i (omega arith) (omega (arith, here.1)))
-              (any_member (is_later nodes i) levels k level.1 (and_from _ _ (lt-ltb k i later) (siblings_same nodes k i siblings))),
-        )
+        let tests = and_parts (nat_lt (to level.0) j) (are_siblings base (to level.0) j) level.2 in
+        let within : level.0 < length nodes = All-contains (λ g. g < length nodes) levels level.0 (All-cons (λ g. g < length nodes) f (groups_round nodes f) f_within (groups_within nodes laws f)) level.1 in
+        record {
+          past = omega (arith, bounds.0);
+          inside = omega (arith, bounds.0, bounds.1);
+          level = level.0;
+          here = level.1;
+          within = within;
+          later = ltb-true (to level.0) j tests.0;
+          same = sym (same_parent (parent_at base (to level.0)) (parent_at base j) tests.1) ∙ narrows.parent level.0 within;
+        }
+
+    -- a node of a later level comes later
+    comes_here : (f k i : ℕ) → f < i → i < length nodes → Contains (f ∷ groups_round nodes f) k → k < i → parent_at nodes k ≡ parent_at nodes i → Contains (later_nodes nodes f) i
+    unfolding later_nodes
+    comes_here f k i past within level later siblings =
+        in_filter (λ j. list_any (λ i. nat_lt i j && are_siblings nodes i j) (f ∷ groups_round nodes f)) (range_with_len (f + 1) (length nodes - (f + 1))) i
+        (in_range (f + 1) (length nodes - (f + 1)) i (omega arith) (omega arith))
+        (any_member (is_later nodes i) (f ∷ groups_round nodes f) k level (and_from _ _ (lt-ltb k i later) (siblings_same nodes k i siblings)))
+
+    -- the mandatory nodes of the base that come later are nodes that come later
+    pub later_back : (f j : ℕ) → f < length nodes → Contains (later_nodes base (to f)) j → is_must_at base j ≡ true → (i : ℕ) × (i < length nodes) × (to i ≡ j) × Contains (later_nodes nodes f) i
+    later_back f j f_within found must =
+        let comes = comes_later f j f_within found in
+        let left = sibling_left comes.level j comes.within comes.inside must comes.same in
+        let i : ℕ = left.0 in
+        let after : f < i = to_back base nodes to narrows f i (omega (arith, comes.past, left.2)) in
+        let later : comes.level < i = to_back base nodes to narrows comes.level i (omega (arith, comes.later, left.2)) in
+        let siblings : parent_at nodes comes.level ≡ parent_at nodes i =
+        parents_once (parent_at nodes comes.level) (parent_at nodes i) (sym comes.same ∙ ap (parent_at base) (sym left.2) ∙ narrows.parent i left.1) in
+        (i, left.1, left.2, comes_here f comes.level i after left.1 comes.here later siblings)
 
     -- a trigger is the node after a group
     trigger_of : (c : ℕ) (found : Option ℕ) → parent_at nodes c ≡ found → is_trigger_of found c ≡ true → (g : ℕ) × (g + 1 ≡ c) × (is_group_at nodes g ≡ true)
@@ -87,12 +111,12 @@ module _ (base nodes : List Node) (to : ℕ → ℕ) (narrows : Narrows base nod
     trigger_of c (Some g) up trigger = (g, eqb-true (g + 1) c trigger, laws.parent_is_group c g up)
 
     -- the group whose trigger c is, and where both are in the base
-    group_of : (c : ℕ) → is_trigger_at nodes c ≡ true → (g : ℕ) × (c - 1 ≡ g) × (to c - 1 ≡ to g)
+    pub group_of : (c : ℕ) → is_trigger_at nodes c ≡ true → (g : ℕ) × (c - 1 ≡ g) × (to c - 1 ≡ to g) × (is_group_at nodes g ≡ true)
     group_of c trigger =
         let found = trigger_of c (parent_at nodes c) refl trigger in
         let next = trigger_next base nodes to narrows outer inner found.0 found.2 in
         let there : to c ≡ to found.0 + 1 = ap to (sym found.1) ∙ next in
-        (found.0, omega (arith, found.1), omega arith)
+        (found.0, omega (arith, found.1), omega arith, found.2)
 
     -- the node that is reached, by the three tests
     abbrev reached_by : (repeat own trigger : Bool) → (end c : ℕ) → ℕ

@@ -5,3 +5,4 @@ pub mod Members
 pub mod CandidatesKept
 pub mod PassedKept
 pub mod CountsKept
+pub mod RanksKept

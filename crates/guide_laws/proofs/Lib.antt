@@ -6,3 +6,4 @@ pub mod CandidatesKept
 pub mod PassedKept
 pub mod CountsKept
 pub mod RanksKept
+pub mod CleanReading

@@ -40,23 +40,23 @@ some_only : {A : Type 0} (x : A) → x ∷ [] ≡ [] → ⊥
 some_only x none = cc
 
 -- a list of which each member is there
-all_there : {A : Type 0} (xs : List (Option A)) → ((k : ℕ) → k < length xs → (x : A) × (get_or xs k None ≡ Some x)) → map Some (filter_map (λ (p : Option A). p) xs) ≡ xs
+pub all_there : {A : Type 0} (xs : List (Option A)) → ((k : ℕ) → k < length xs → (x : A) × (get_or xs k None ≡ Some x)) → map Some (filter_map (λ (p : Option A). p) xs) ≡ xs
 all_there [] each = refl
 all_there (None ∷ xs) each = let here = each 0 (omega arith) in absurd (let no : ⊥ = cc (here.1) in no)
 all_there (Some x ∷ xs) each = ap (λ more. Some x ∷ more) (all_there xs (λ k within. each (suc k) (omega arith)))
 
-tag_in_some : (names : List Tag) (k : ℕ) → tag_in (map Some names) k ≡ slice_get names k
+pub tag_in_some : (names : List Tag) (k : ℕ) → tag_in (map Some names) k ≡ slice_get names k
 tag_in_some [] k = refl
 tag_in_some (name ∷ names) zero = refl
 tag_in_some (name ∷ names) (suc k) = tag_in_some names k
 
-tag_in_is : (tags : List (Option Tag)) (k : ℕ) → tag_in tags k ≡ get_or tags k None
+pub tag_in_is : (tags : List (Option Tag)) (k : ℕ) → tag_in tags k ≡ get_or tags k None
 tag_in_is [] k = refl
 tag_in_is (tag ∷ tags) zero = refl
 tag_in_is (tag ∷ tags) (suc k) = tag_in_is tags k
 
 -- two tags that are the same are there, and one
-same_tags : (a b : Option Tag) → are_same_tag a b ≡ true → (tag : Tag) × (a ≡ Some tag) × (b ≡ a)
+pub same_tags : (a b : Option Tag) → are_same_tag a b ≡ true → (tag : Tag) × (a ≡ Some tag) × (b ≡ a)
 same_tags None b same = absurd (false≢true same)
 same_tags (Some a) None same = absurd (false≢true same)
 same_tags (Some a) (Some b) same = (a, refl, ap (λ (o : List ℕ). let t : Tag = record { octets = o } in Some t) (sym ((bytes_eq-Decides a.octets b.octets).0 same)))
@@ -74,7 +74,7 @@ module _ (nodes : List Node) where
       ap (λ (b : Bool). (if b then 1 else 0) + (if is_filled (missing_between nodes (last_placed placed) c) then 2 else 0)) (none_over (is_over nodes placed c) c parts.1)
       ∙ ap (λ (xs : List ℕ). 0 + (if is_filled xs then 2 else 0)) (map_none Missing (missing_between nodes (last_placed placed) c) parts.0)
 
-  placed_of_none : (placed : List (Option ℕ)) (member : Option ℕ) → faults_of nodes placed member ≡ [] → (c : ℕ) × (member ≡ Some c)
+  pub placed_of_none : (placed : List (Option ℕ)) (member : Option ℕ) → faults_of nodes placed member ≡ [] → (c : ℕ) × (member ≡ Some c)
   placed_of_none placed None none = absurd (some_only Unplaced none)
   placed_of_none placed (Some c) none = (c, refl)
 

@@ -7,3 +7,4 @@ pub mod PassedKept
 pub mod CountsKept
 pub mod RanksKept
 pub mod CleanReading
+pub mod FreeOfNarrowed

@@ -8,3 +8,4 @@ pub mod CountsKept
 pub mod RanksKept
 pub mod CleanReading
 pub mod FreeOfNarrowed
+pub mod LeftLawful

@@ -146,6 +146,10 @@ module _ (rows : List TableRow) (lines : TableChange) (lawful : table_faults row
       } in
       is ∙ ap Some (sym same) ∙ sym (ap (option_map to) (parent_of_is narrowed i found.0 here))
 
+  -- the group of a row that is left is that of its row of the base
+  pub parent_left : (i : ℕ) → i < many → parent_of rows (to i) ≡ option_map to (parent_of narrowed i)
+  parent_left i within = parent_by i (parent_of rows (to i)) refl within
+
   left_by : (j : ℕ) → j < length base → is_left base lines j ≡ true → (i : ℕ) × (i < length (nodes_of narrowed)) × (to i ≡ j)
   left_by j within there =
       let found = node_found base lines j within there in
@@ -163,7 +167,7 @@ module _ (rows : List TableRow) (lines : TableChange) (lawful : table_faults row
         is_must_at-nodes_of narrowed i (in_narrowed i here) ∙ (narrowed_changed rows lines narrower i here).must (sym (is_must_at-nodes_of rows (to i) (in_base i here)) ∙ must);
     max = λ i within. let here = in_left i within in
         omega (arith, max_at-nodes_of narrowed i (in_narrowed i here), (narrowed_changed rows lines narrower i here).high, max_at-nodes_of rows (to i) (in_base i here));
-    parent = λ i within. parent_at-nodes_of rows (to i) ∙ parent_by i (parent_of rows (to i)) refl (in_left i within) ∙ sym (ap (option_map to) (parent_at-nodes_of narrowed i));
+    parent = λ i within. parent_at-nodes_of rows (to i) ∙ parent_left i (in_left i within) ∙ sym (ap (option_map to) (parent_at-nodes_of narrowed i));
     left = λ j within must held. left_by j within (must_left base laws lines narrower j must (⊎_elim (λ outside. inl outside)
         (λ group. inr (to group.0, (node_passes base lines group.0 (in_left group.0 group.1)).1, group.2)) held));
   }

@@ -1,11 +1,10 @@
 -- A message without a structure error has a derivation: the entries of its reading.
-use Rattle.std.proofs.Common.{◌≡◌, ℕ, zero, suc, ◌+◌, ◌-◌, ◌<◌, ◌≤◌, Bool, true, false, List, [], ◌∷◌, ◌++◌, Option, Some, None, map, length, take, get_or, refl, sym, ap, subst, ◌∙◌, inl, inr, ⊎_elim, arith}
+use Rattle.std.proofs.Common.{◌≡◌, ℕ, zero, suc, ◌+◌, ◌-◌, ◌<◌, Bool, true, false, List, [], ◌∷◌, Option, Some, None, map, length, take, get_or, refl, sym, ap, subst, ◌∙◌, inl, inr, arith}
 use Rattle.std.specs.Prelude.{codes, Contains, filter, nat_lt, slice_get, slice_index, ◌&&◌, if◌then◌else◌}
 use Rattle.std.specs.List.{filter_map, flat_map, list_any, range_with_len}
-use Rattle.std.specs.Option.{option_map}
 use Rattle.std.proofs.lemmas.Bool.{cases_eq, false≢true}
 use Rattle.std.proofs.lemmas.List.{get_or-map, length-map, take-map}
-use Rattle.std.proofs.lemmas.Option.{slice_get-map, slice_get_within}
+use Rattle.std.proofs.lemmas.Option.{slice_get_within}
 use Rattle.std.proofs.lemmas.Slice.Eq.{bytes_eq-Decides}
 use Rattle.edi_tables.specs.declared.tag.Tag.{Tag}
 use Rattle.edi_tables.specs.declared.table.Node.{Node}
@@ -20,11 +19,11 @@ use Rattle.edi_tables.proofs.Lawful.{named_is}
 use Rattle.edi_tables.proofs.Placements.{filter_some, last_of}
 use Rattle.edi_tables.proofs.Stretches.{passing_end}
 use Rattle.edi_tables.proofs.TableLaws.{HasTableLaws, table_laws}
-use Rattle.table_walk.specs.Reading.{has_tag, IsMember, member_at, IsReading}
+use Rattle.table_walk.specs.Reading.{IsMember, member_at, IsReading}
 use Rattle.table_walk.specs.Errors.{Fault, StructureError, faults_of, faults_at, at_place, open_faults, errors_of_placed}
 use Rattle.table_walk.specs.Errors.Fault.{Missing, Over, Unplaced}
 use Rattle.table_walk.proofs.Sound.{member_fits}
-use Rattle.guide_laws.proofs.Members.{in_range, in_tail}
+use Rattle.guide_laws.proofs.Members.{in_range}
 
 -- what comes of each member, where nothing comes of all
 flat_none : {A : Type 0} (made : ℕ → List A) (xs : List ℕ) (x : ℕ) → flat_map made xs ≡ [] → Contains xs x → made x ≡ []

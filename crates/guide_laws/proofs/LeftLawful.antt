@@ -1,5 +1,5 @@
 -- The rows that a guide leaves break no rule of segment tables.
-use Rattle.std.proofs.Common.{◌≡◌, ℕ, zero, suc, ◌+◌, ◌-◌, ◌<◌, ◌≤◌, Bool, true, false, List, [], ◌∷◌, ◌++◌, Option, Some, None, length, refl, sym, ap, subst, ◌∙◌, inl, inr, ⊎_elim, arith}
+use Rattle.std.proofs.Common.{◌≡◌, ℕ, zero, suc, ◌+◌, ◌-◌, ◌<◌, ◌≤◌, Bool, true, false, List, [], ◌++◌, Option, Some, None, length, refl, sym, ap, subst, ◌∙◌, inl, inr, arith}
 use Rattle.std.specs.Prelude.{codes, nat_lt, not, slice_get, ◌==◌, ◌&&◌, ◌||◌, if◌then◌else◌}
 use Rattle.std.specs.List.{All}
 use Rattle.std.specs.Option.{option_map}
@@ -10,13 +10,13 @@ use Rattle.edi_tables.specs.declared.table.Node.{Node}
 use Rattle.edi_tables.specs.declared.table.TableKind.{TableKind}
 use Rattle.edi_tables.specs.declared.table.TableKind.TheVariants.{NoUnhUnt, EnvelopeTag, BadMax, BadDepth, TooDeep, NoTrigger}
 use Rattle.edi_tables.specs.Rows.{has_name, is_group_row, is_frame_row, breaks_frame, breaks_envelope, breaks_max, depth_behind, row_before, breaks_depth, is_trigger_row, breaks_trigger, when, row_faults, depth_at, parent_of, table_faults, nodes_of}
-use Rattle.edi_tables.specs.Walk.{parent_at, is_group_at}
-use Rattle.edi_tables.proofs.Depths.{IsParent, parent_of_some, parent_of_at_none}
-use Rattle.edi_tables.proofs.Faults.{KeepsRules, no_first_fault, no_faults_of_place, few_rows}
+use Rattle.edi_tables.specs.Walk.{is_group_at}
+use Rattle.edi_tables.proofs.Depths.{parent_of_some, parent_of_at_none}
+use Rattle.edi_tables.proofs.Faults.{KeepsRules, no_first_fault, no_faults_of_place}
 use Rattle.edi_tables.proofs.Lawful.{row_at, at_row, depth_row, IsTrigger, IsFrame, keeps, depth_bound, first_frame, last_frame, parent_group, outside_rows, trigger_row, max_row, only_first, only_last}
-use Rattle.edi_tables.proofs.Made.{length-nodes_of, is_group_at-nodes_of, parent_at-nodes_of}
+use Rattle.edi_tables.proofs.Made.{length-nodes_of, is_group_at-nodes_of}
 use Rattle.edi_tables.proofs.TableLaws.{HasTableLaws, table_laws_of_rows}
-use Rattle.guide_laws.specs.Guide.{TableChange, is_left, narrowed_rows, IsNarrower, left_nodes, base_node}
+use Rattle.guide_laws.specs.Guide.{TableChange, narrowed_rows, IsNarrower, left_nodes, base_node}
 use Rattle.guide_laws.proofs.LeftRows.{IsChanged, node_passes, node_rises, node_found, narrowed_long, narrowed_changed}
 use Rattle.guide_laws.proofs.RowsNarrow.{must_left, first_left, node_first, node_back, in_narrowed, in_base, depth_left, parent_left}
 
@@ -86,17 +86,20 @@ module _ (rows : List TableRow) (lines : TableChange) (lawful : table_faults row
   first : to 0 ≡ 0
   first = node_first base laws lines narrower
 
+  last_by : (i j : ℕ) → i + 1 ≡ many → j < many → to j + 1 ≡ length base → to i + 1 ≡ length base
+  last_by i j last within end = elim (cases_eq j i) [
+    | inl same ↦ ap (λ (k : ℕ). base_node base lines k + 1) (sym same) ∙ end
+    | inr differ ↦ absurd (omega (arith, node_rises base lines j i (omega arith), (node_passes base lines i (omega arith)).0))
+  ]
+
   -- the node that stands last is left, and stands last
   last_there : (i : ℕ) → i + 1 ≡ many → to i + 1 ≡ length rows
   last_there i last =
       let n : ℕ = length base - 1 in
       let end : n + 1 ≡ length base = omega (arith, laws.some) in
       let found = node_found base lines n (omega arith) (must_left base laws lines narrower n (laws.last_must n end) (inl (laws.last_parent n end))) in
-      let within = (node_passes base lines i (omega arith)).0 in
-      elim (cases_eq found.0 i) [
-        | inl same ↦ omega (arith, ap (base_node base lines) same, found.2, length-nodes_of rows)
-        | inr differ ↦ absurd (omega (arith, node_rises base lines found.0 i (omega (arith, found.1)), found.2, within))
-      ]
+      let there : to found.0 + 1 ≡ length base = omega (arith, found.2) in
+      last_by i found.0 last found.1 there ∙ length-nodes_of rows
 
   last_back : (i : ℕ) → i < many → to i + 1 ≡ length rows → i + 1 ≡ many
   last_back i within last = elim (cases_eq (i + 1) many) [

@@ -2,7 +2,7 @@
 use Rattle.std.proofs.Common.{◌≡◌, ℕ, suc, ◌+◌, ◌<◌, ◌≤◌, Bool, true, false, List, [], ◌∷◌, Option, Some, None, map, length, get_or, refl, sym, ap, subst, ◌∙◌, ⊎_elim, arith}
 use Rattle.std.specs.Prelude.{AllPairs, Contains, filter, find, ◌==◌}
 use Rattle.std.specs.List.{All, list_any, enumerate_from, range_with_len}
-use Rattle.std.proofs.lemmas.Bool.{cases_Bool, cases_lt, cond_both, eqb-true, false≢true, not-true, not_from_true, or_cases, or_left, or_right}
+use Rattle.std.proofs.lemmas.Bool.{cases_lt, cond_both, eqb-true, or_cases, or_left, or_right}
 use Rattle.std.proofs.lemmas.List.{get_or-map, get_or_default, get_or_past, length-map}
 use Rattle.std.proofs.lemmas.List.Elements.{All-get_or, All-head, All-tail}
 use Rattle.std.proofs.lemmas.List.FromFn.{length-range_with_len, get_or-range_with_len}
@@ -15,7 +15,7 @@ use Rattle.edi_tables.proofs.Depths.{blank_row}
 use Rattle.edi_tables.proofs.Lawful.{row_at}
 use Rattle.edi_tables.proofs.Made.{length-nodes_of, is_must_at-nodes_of, max_at-nodes_of}
 use Rattle.edi_tables.proofs.Places.{Passes, passing_each, kept}
-use Rattle.guide_laws.specs.Guide.{NodeChange, TableChange, is_left_out_by, is_left, row_by_line, changed_row, narrowed_rows, IsNarrower, left_nodes, base_node}
+use Rattle.guide_laws.specs.Guide.{NodeChange, TableChange, is_left, row_by_line, changed_row, narrowed_rows, IsNarrower, left_nodes, base_node}
 use Rattle.guide_laws.specs.Guide.NodeChange.{Drop, Keep}
 
 -- a row with its number

@@ -9,3 +9,5 @@ pub mod RanksKept
 pub mod CleanReading
 pub mod FreeOfNarrowed
 pub mod LeftLawful
+pub mod Itself
+pub mod Worked

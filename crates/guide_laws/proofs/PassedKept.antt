@@ -1,14 +1,14 @@
 -- A mandatory node of the base that a step passes is passed in the narrowed table too.
-use Rattle.std.proofs.Common.{◌≡◌, ℕ, ◌+◌, ◌-◌, ◌<◌, ◌≤◌, Bool, true, false, List, [], ◌∷◌, Option, Some, None, map, length, refl, sym, ap, ◌∙◌, ◌⊎◌, inl, inr, ⊎_elim, arith}
-use Rattle.std.specs.Prelude.{Contains, filter, nat_lt, ◌==◌, ◌&&◌, if◌then◌else◌}
-use Rattle.std.specs.List.{All, list_any, range_with_len}
+use Rattle.std.proofs.Common.{◌≡◌, ℕ, ◌+◌, ◌-◌, ◌<◌, Bool, true, false, List, [], ◌∷◌, Option, Some, None, length, refl, sym, ap, ◌∙◌, inl, inr, arith}
+use Rattle.std.specs.Prelude.{Contains, nat_lt, ◌==◌, ◌&&◌, if◌then◌else◌}
+use Rattle.std.specs.List.{list_any, range_with_len}
 use Rattle.std.specs.Option.{option_map}
 use Rattle.std.proofs.lemmas.Bool.{and_from, and_parts, eqb-true, false≢true, lt-ltb, ltb-true}
 use Rattle.std.proofs.lemmas.List.Elements.{All-cons, All-contains}
+use Rattle.std.proofs.lemmas.Option.{none-some, same_Some}
 use Rattle.edi_tables.specs.declared.table.Node.{Node}
 use Rattle.edi_tables.specs.Rows.{IsTable}
 use Rattle.edi_tables.specs.Walk.{parent_at, is_must_at, end_at, is_group_at, are_siblings, is_trigger_of, is_trigger_at, groups_round, later_nodes, is_repeat, reached_node, missing_between, missing_past}
-use Rattle.edi_tables.proofs.Ahead.{round_group}
 use Rattle.edi_tables.proofs.Depths.{some_or_none}
 use Rattle.edi_tables.proofs.GroupLaws.{groups_within}
 use Rattle.edi_tables.proofs.Placements.{repeat_round}
@@ -20,19 +20,13 @@ use Rattle.guide_laws.specs.Narrows.{Narrows}
 use Rattle.guide_laws.proofs.GroupsKept.{any_map, to_back, to_once, same_kept, trigger_next, groups_kept, trigger_kept, round_kept, repeat_kept}
 use Rattle.guide_laws.proofs.Members.{in_range, of_range, in_filter, of_filter, none_in, not_in, any_found, any_member}
 
-none_some : (g : ℕ) → None ≡ Some g → ⊥
-none_some g same = cc
-
-some_same : (g h : ℕ) → Some g ≡ Some h → g ≡ h
-some_same g h same = cc
-
 module _ (base nodes : List Node) (to : ℕ → ℕ) (narrows : Narrows base nodes to) where
   -- two groups that are the same in the base are the same
   parents_once : (one two : Option ℕ) → option_map to one ≡ option_map to two → one ≡ two
   parents_once None None same = refl
-  parents_once None (Some h) same = absurd (none_some (to h) same)
-  parents_once (Some g) None same = absurd (none_some (to g) (sym same))
-  parents_once (Some g) (Some h) same = ap Some (to_once base nodes to narrows g h (some_same (to g) (to h) same))
+  parents_once None (Some h) same = absurd (none-some (to h) same)
+  parents_once (Some g) None same = absurd (none-some (to g) (sym same))
+  parents_once (Some g) (Some h) same = ap Some (to_once base nodes to narrows g h (same_Some (to g) (to h) same))
 
   module _ (outer : IsTable base) (inner : IsTable nodes) where
     base_laws : HasTableLaws base

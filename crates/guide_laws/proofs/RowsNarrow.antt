@@ -1,26 +1,21 @@
 -- The rows that a guide leaves are a table that narrows the base.
-use Rattle.std.proofs.Common.{◌≡◌, ℕ, ◌+◌, ◌<◌, ◌≤◌, true, false, List, [], Option, Some, None, length, refl, sym, ap, ◌∙◌, ◌⊎◌, inl, inr, ⊎_elim, arith}
+use Rattle.std.proofs.Common.{◌≡◌, ℕ, ◌<◌, ◌≤◌, true, false, List, [], Option, Some, None, length, refl, sym, ap, ◌∙◌, ◌⊎◌, inl, inr, ⊎_elim, arith}
 use Rattle.std.specs.List.{All, list_any}
 use Rattle.std.specs.Option.{option_map}
 use Rattle.std.proofs.lemmas.Bool.{and_from, and_parts, cases_Bool, cases_eq, cases_order, false≢true, leb-true, le-leb, lt-ltb, ltb-true, not-true, not_from_false}
+use Rattle.std.proofs.lemmas.Option.{none-some, same_Some}
 use Rattle.edi_tables.specs.declared.segment.TableRow.{TableRow}
 use Rattle.edi_tables.specs.declared.table.Node.{Node}
 use Rattle.edi_tables.specs.Rows.{depth_at, parent_of, table_faults, nodes_of}
-use Rattle.edi_tables.specs.Walk.{parent_at, is_must_at, end_at, tag_at, max_at}
+use Rattle.edi_tables.specs.Walk.{parent_at, is_must_at, end_at}
 use Rattle.edi_tables.proofs.Depths.{some_or_none, IsParent, parent_of_some, parent_of_at_none, parent_of_is, parent_of_none}
-use Rattle.edi_tables.proofs.Lawful.{row_at, depth_row}
+use Rattle.edi_tables.proofs.Lawful.{depth_row}
 use Rattle.edi_tables.proofs.Made.{length-nodes_of, tag_at-nodes_of, is_must_at-nodes_of, max_at-nodes_of, parent_at-nodes_of}
 use Rattle.edi_tables.proofs.TableLaws.{HasTableLaws, table_laws_of_rows}
 use Rattle.guide_laws.specs.Guide.{NodeChange, TableChange, is_left_out_by, is_left, narrowed_rows, IsNarrower, left_nodes, base_node}
 use Rattle.guide_laws.specs.Guide.NodeChange.{Drop, Keep}
 use Rattle.guide_laws.specs.Narrows.{Narrows}
-use Rattle.guide_laws.proofs.LeftRows.{IsChanged, any_more, none_any, node_passes, node_rises, node_found, narrowed_long, narrowed_changed}
-
-none_some : (g : ℕ) → None ≡ Some g → ⊥
-none_some g same = cc
-
-some_same : (g h : ℕ) → Some g ≡ Some h → g ≡ h
-some_same g h same = cc
+use Rattle.guide_laws.proofs.LeftRows.{any_more, none_any, node_passes, node_rises, node_found, narrowed_long, narrowed_changed}
 
 module _ (base : List Node) (laws : HasTableLaws base) (lines : TableChange) (narrower : All (IsNarrower base) lines) where
   -- where each optional node that holds i holds k too
@@ -44,10 +39,13 @@ module _ (base : List Node) (laws : HasTableLaws base) (lines : TableChange) (na
   -- the group of a node that is left is left
   pub group_left : (k g : ℕ) → parent_at base k ≡ Some g → is_left base lines k ≡ true → is_left base lines g ≡ true
   group_left k g is there =
-      left_too g k (λ d from below optional. (omega (arith, laws.parent_before k g is), elim (cases_eq d g) [
-        | inl same ↦ omega (arith, laws.before_parent_end k g is, ap (end_at base) same)
-        | inr differ ↦ omega (arith, laws.before_parent_end k g is, laws.ends_inside d g (omega arith) below)
-      ])) there
+      left_too g k (λ d from below optional. (
+        omega (arith, laws.parent_before k g is),
+        elim (cases_eq d g) [
+          | inl same ↦ omega (arith, laws.before_parent_end k g is, ap (end_at base) same)
+          | inr differ ↦ omega (arith, laws.before_parent_end k g is, laws.ends_inside d g (omega arith) below)
+        ],
+      )) there
 
   -- where an optional node holds a mandatory one, that one has a group, which it holds
   held_by : (j d : ℕ) → is_must_at base j ≡ true → d ≤ j → j < end_at base d → is_must_at base d ≡ false → (h : ℕ) × (d ≤ h) × (parent_at base j ≡ Some h)
@@ -60,7 +58,7 @@ module _ (base : List Node) (laws : HasTableLaws base) (lines : TableChange) (na
   out_of_none j must outside (d, Drop) optional out =
       let parts = and_parts _ _ out in
       let held = held_by j d must (leb-true d j parts.0) (ltb-true j (end_at base d) parts.1) optional in
-      absurd (none_some held.0 (sym outside ∙ held.2))
+      absurd (none-some held.0 (sym outside ∙ held.2))
   out_of_none j must outside (d, Keep _ _) optional out = out
 
   -- so a mandatory node outside all groups is left, and one whose group is left
@@ -72,7 +70,7 @@ module _ (base : List Node) (laws : HasTableLaws base) (lines : TableChange) (na
   must_left j must (inr (g, there, up)) =
       left_too j g (λ d from below optional.
       let held = held_by j d must from below optional in
-      let same : held.0 ≡ g = some_same held.0 g (sym held.2 ∙ up) in
+      let same : held.0 ≡ g = same_Some held.0 g (sym held.2 ∙ up) in
       (omega (arith, held.1), omega (arith, laws.parent_before j g up))) there
 
   pub first_left : is_left base lines 0 ≡ true

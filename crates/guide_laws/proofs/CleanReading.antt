@@ -115,9 +115,6 @@ module _ (nodes : List Node) where
       first (x ∷ xs) is = let same : x ≡ 0 = cc in ap Some same
 
       module _ (k : ℕ) (within : k + 1 < length entries) where
-        abbrev c : ℕ
-        c = slice_index entries (k + 1)
-
         here : member_at (map Some entries) (k + 1) ≡ Some (slice_index entries (k + 1))
         here = get_or-map Some entries (k + 1) 0 None within
 

@@ -1,4 +1,4 @@
--- The groups of a narrowed table: what stands round a node, and which nodes are triggers, are as in the base.
+-- The groups of a narrowed table: the groups round a node, and which nodes are triggers, are as in the base.
 use Rattle.std.proofs.Common.{◌≡◌, ℕ, zero, suc, ◌+◌, ◌<◌, ◌≤◌, Bool, true, false, List, [], ◌∷◌, Option, Some, None, map, length, refl, sym, ap, ◌∙◌, inl, inr, arith}
 use Rattle.std.specs.Prelude.{nat_eq, ◌==◌, ◌&&◌, ◌||◌, if◌then◌else◌}
 use Rattle.std.specs.List.{All, list_any}
@@ -81,7 +81,7 @@ module _ (base nodes : List Node) (to : ℕ → ℕ) (narrows : Narrows base nod
     laws : HasTableLaws nodes
     laws = table_laws nodes inner
 
-    -- directly after a group stands the trigger that stands there in the base
+    -- directly after a group is its trigger of the base
     pub trigger_next : (g : ℕ) → is_group_at nodes g ≡ true → to (g + 1) ≡ to g + 1
     trigger_next g group =
         let within : g < length nodes = omega (arith, laws.trigger_within g group) in
@@ -123,12 +123,12 @@ module _ (base nodes : List Node) (to : ℕ → ℕ) (narrows : Narrows base nod
     entry_by i true group = sym (trigger_next i group)
     entry_by i false group = refl
 
-    -- the entry that stands for a node
+    -- the entry for a node
     pub entry_kept : (i : ℕ) → i < length nodes → entry_for base (to i) ≡ to (entry_for nodes i)
     entry_kept i within =
         ap (λ (group : Bool). if group then to i + 1 else to i) (group_kept i within) ∙ entry_by i (is_group_at nodes i) refl
 
-    -- whether a group stands round a node
+    -- whether a group is round a node
     pub round_kept : (c g : ℕ) → c < length nodes → is_round base (to c) (to g) ≡ is_round nodes c g
     round_kept c g within =
         ap (list_any (nat_eq (to g))) (groups_kept c within) ∙ any_map (nat_eq (to g)) to (groups_round nodes c)

@@ -35,7 +35,7 @@ none_broken rows i row kept =
     ∙ ap (λ b. faults_by false false false false b (breaks_trigger rows i row)) (le-ltb 16 row.depth kept.deep)
     ∙ ap (λ b. faults_by false false false false false b) kept.trigger
 
--- a row that stands once stays so
+-- a row that is there once stays so
 once_kept : (before after : TableRow) → IsChanged before after → before.max ≡ 1 → after.max ≡ 1
 once_kept before after changed once = let some = changed.low (omega arith) in omega (arith, some, changed.high)
 
@@ -92,7 +92,7 @@ module _ (rows : List TableRow) (lines : TableChange) (lawful : table_faults row
     | inr differ ↦ absurd (omega (arith, node_rises base lines j i (omega arith), (node_passes base lines i (omega arith)).0))
   ]
 
-  -- the node that stands last is left, and stands last
+  -- the last node is left, and is the last
   last_there : (i : ℕ) → i + 1 ≡ many → to i + 1 ≡ length rows
   last_there i last =
       let n : ℕ = length base - 1 in

@@ -4,7 +4,7 @@ use Rattle.std.specs.Prelude.{AllPairs, Contains, filter, find, ◌==◌}
 use Rattle.std.specs.List.{All, list_any, enumerate_from, range_with_len}
 use Rattle.std.proofs.lemmas.Bool.{cases_lt, cond_both, eqb-true, or_cases, or_left, or_right}
 use Rattle.std.proofs.lemmas.List.{get_or-map, get_or_default, get_or_past, length-map}
-use Rattle.std.proofs.lemmas.List.Elements.{All-get_or, All-head, All-tail}
+use Rattle.std.proofs.lemmas.List.Elements.{All-from_get_or, All-get_or, All-head, All-tail}
 use Rattle.std.proofs.lemmas.List.FromFn.{length-range_with_len, get_or-range_with_len}
 use Rattle.std.proofs.lemmas.List.Kept.{AllPairs-filter}
 use Rattle.edi_tables.specs.declared.segment.TableRow.{TableRow}
@@ -151,3 +151,12 @@ module _ (rows : List TableRow) (lines : TableChange) where
         subst (IsChanged (row_at rows k)) (sym (narrowed_row i within))
         (changed_by (nodes_of rows) k (row_at rows k) (sym (is_must_at-nodes_of rows k inside)) (sym (max_at-nodes_of rows k inside)) (find (λ (line : ℕ × NodeChange). line.0 == k) lines)
         (says_of (nodes_of rows) k lines narrower))
+
+    -- what each row of the base has, and a changed row keeps, each row that is left has
+    pub narrowed_all : (P : TableRow → Type 0) → ((before after : TableRow) → IsChanged before after → P before → P after) → All P rows → All P (narrowed_rows lines rows)
+    narrowed_all P keeps all =
+        All-from_get_or P (narrowed_rows lines rows) blank_row (λ i within.
+        let here : i < length (left_nodes (nodes_of rows) lines) = omega (arith, narrowed_long) in
+        let k : ℕ = base_node (nodes_of rows) lines i in
+        keeps (row_at rows k) (row_at (narrowed_rows lines rows) i) (narrowed_changed i here)
+        (All-get_or P rows k blank_row (omega (arith, (node_passes (nodes_of rows) lines i here).0, length-nodes_of rows)) all))

@@ -29,9 +29,6 @@ module _ (base nodes : List Node) (to : ℕ → ℕ) (narrows : Narrows base nod
   parents_once (Some g) (Some h) same = ap Some (to_once base nodes to narrows g h (same_Some (to g) (to h) same))
 
   module _ (outer : IsTable base) (inner : IsTable nodes) where
-    base_laws : HasTableLaws base
-    base_laws = table_laws base outer
-
     laws : HasTableLaws nodes
     laws = table_laws nodes inner
 

@@ -18,16 +18,16 @@ use Rattle.guide_laws.specs.Narrows.{Narrows}
 use Rattle.guide_laws.proofs.LeftRows.{any_more, none_any, node_passes, node_rises, node_found, narrowed_long, narrowed_changed}
 
 module _ (base : List Node) (laws : HasTableLaws base) (lines : TableChange) (narrower : All (IsNarrower base) lines) where
-  -- where each optional node that holds i holds k too
+  -- where each conditional node that holds i holds k too
   abbrev HeldToo : ℕ → ℕ → Type 0
   HeldToo i k = (d : ℕ) → d ≤ i → i < end_at base d → is_must_at base d ≡ false → (d ≤ k) × (k < end_at base d)
 
   out_too : (i k : ℕ) → HeldToo i k → (line : ℕ × NodeChange) → IsNarrower base line → is_left_out_by base i line ≡ true → is_left_out_by base k line ≡ true
-  out_too i k held (d, Drop) optional out =
+  out_too i k held (d, Drop) conditional out =
       let parts = and_parts _ _ out in
-      let there = held d (leb-true d i parts.0) (ltb-true i (end_at base d) parts.1) optional in
+      let there = held d (leb-true d i parts.0) (ltb-true i (end_at base d) parts.1) conditional in
       and_from _ _ (le-leb d k there.0) (lt-ltb k (end_at base d) there.1)
-  out_too i k held (d, Keep must max) optional out = absurd (false≢true out)
+  out_too i k held (d, Keep must max) conditional out = absurd (false≢true out)
 
   -- i is left where k is
   left_too : (i k : ℕ) → HeldToo i k → is_left base lines k ≡ true → is_left base lines i ≡ true
@@ -39,7 +39,7 @@ module _ (base : List Node) (laws : HasTableLaws base) (lines : TableChange) (na
   -- the group of a node that is left is left
   pub group_left : (k g : ℕ) → parent_at base k ≡ Some g → is_left base lines k ≡ true → is_left base lines g ≡ true
   group_left k g is there =
-      left_too g k (λ d from below optional. (
+      left_too g k (λ d from below conditional. (
         omega (arith, laws.parent_before k g is),
         elim (cases_eq d g) [
           | inl same ↦ omega (arith, laws.before_parent_end k g is, ap (end_at base) same)
@@ -47,19 +47,19 @@ module _ (base : List Node) (laws : HasTableLaws base) (lines : TableChange) (na
         ],
       )) there
 
-  -- where an optional node holds a mandatory one, that one has a group, which it holds
+  -- where an conditional node holds a mandatory one, that one has a group, which it holds
   held_by : (j d : ℕ) → is_must_at base j ≡ true → d ≤ j → j < end_at base d → is_must_at base d ≡ false → (h : ℕ) × (d ≤ h) × (parent_at base j ≡ Some h)
-  held_by j d must from below optional = elim (cases_eq d j) [
-    | inl same ↦ absurd (false≢true (sym optional ∙ ap (is_must_at base) same ∙ must))
+  held_by j d must from below conditional = elim (cases_eq d j) [
+    | inl same ↦ absurd (false≢true (sym conditional ∙ ap (is_must_at base) same ∙ must))
     | inr differ ↦ laws.held_inside d j (omega arith) below
   ]
 
   out_of_none : (j : ℕ) → is_must_at base j ≡ true → parent_at base j ≡ None → (line : ℕ × NodeChange) → IsNarrower base line → is_left_out_by base j line ≡ true → false ≡ true
-  out_of_none j must outside (d, Drop) optional out =
+  out_of_none j must outside (d, Drop) conditional out =
       let parts = and_parts _ _ out in
-      let held = held_by j d must (leb-true d j parts.0) (ltb-true j (end_at base d) parts.1) optional in
+      let held = held_by j d must (leb-true d j parts.0) (ltb-true j (end_at base d) parts.1) conditional in
       absurd (none-some held.0 (sym outside ∙ held.2))
-  out_of_none j must outside (d, Keep _ _) optional out = out
+  out_of_none j must outside (d, Keep _ _) conditional out = out
 
   -- so a mandatory node outside all groups is left, and one whose group is left
   pub must_left : (j : ℕ) → is_must_at base j ≡ true → (parent_at base j ≡ None) ⊎ ((g : ℕ) × (is_left base lines g ≡ true) × (parent_at base j ≡ Some g)) → is_left base lines j ≡ true
@@ -68,8 +68,8 @@ module _ (base : List Node) (laws : HasTableLaws base) (lines : TableChange) (na
     | inr none ↦ not_from_false _ none
   ]
   must_left j must (inr (g, there, up)) =
-      left_too j g (λ d from below optional.
-      let held = held_by j d must from below optional in
+      left_too j g (λ d from below conditional.
+      let held = held_by j d must from below conditional in
       let same : held.0 ≡ g = same_Some held.0 g (sym held.2 ∙ up) in
       (omega (arith, held.1), omega (arith, laws.parent_before j g up))) there
 
@@ -153,7 +153,7 @@ module _ (rows : List TableRow) (lines : TableChange) (lawful : table_faults row
       let found = node_found base lines j within there in
       (found.0, omega (arith, found.1, length-nodes_of narrowed, narrowed_long rows lines), found.2)
 
-  -- a guide whose lines may stand leaves rows that narrow the table
+  -- a guide whose lines each make a node stricter leaves rows that narrow the table
   pub rows_narrow : Narrows (nodes_of rows) (nodes_of (narrowed_rows lines rows)) (base_node (nodes_of rows) lines)
   rows_narrow = record {
     rises = node_rises base lines;

@@ -1,4 +1,4 @@
--- A guide on the test order: which rows it leaves, which lines may stand, and which may not.
+-- A guide on the test order: which rows it leaves, which lines are allowed, and which are not.
 use Rattle.std.proofs.Common.{◌≡◌, ℕ, Bool, true, false, [], ◌∷◌, Option, None, refl, sym, subst, arith}
 use Rattle.std.specs.Prelude.{codes}
 use Rattle.std.specs.List.{All}

@@ -1,5 +1,5 @@
 -- What is answered for the files of a shelf under the name of a manifest.
-use Rattle.std.proofs.Common.{◌≡◌, ◌≤◌, ◌<◌, ◌^◌, inl, inr, ℕ, Bool, true, false, List, length, Option, Some, None, Ok, Err, refl, sym, ap, ◌∙◌, arith}
+use Rattle.std.proofs.Common.{◌≡◌, ◌≤◌, ◌<◌, ◌^◌, ℕ, Bool, true, false, List, length, Option, Some, None, Ok, Err, refl, sym, ap, ◌∙◌, arith}
 use Rattle.std.specs.Prelude.{nat_lt, if◌then◌else◌}
 use Rattle.std.proofs.lemmas.Bool.{ltb-false}
 use Rattle.edi_tables.specs.First.{IsVerdict, unless_faulty}
@@ -19,18 +19,16 @@ use Rattle.dir_compile.specs.Directory.{IsDirectory, directory_of}
 use Rattle.dir_compile.specs.Stop.{fault_in}
 use Rattle.dir_store.specs.declared.stop.StoreStop.{StoreStop}
 use Rattle.dir_store.specs.declared.stop.StoreStop.TheVariants as store
-use Rattle.dir_store.specs.declared.version.StoreVersion.{StoreVersion}
-use Rattle.dir_store.specs.declared.version.StoreVersion.TheVariants.{First, Second}
-use Rattle.dir_store.specs.Spelling.{spelling_of, IsStoreOf}
+use Rattle.dir_store.specs.Spelling.{IsStoreOf, begins_as_store}
 use Rattle.dir_store.specs.Stop as place
 use Rattle.dir_store.specs.Store.{store_of}
-use Rattle.dir_store.proofs.WholeLemmas.{store-again}
+use Rattle.dir_store.proofs.WholeLemmas.{store-again, store-begins}
 use Rattle.dir_load.specs.declared.manifest.Manifest.{Manifest}
 use Rattle.dir_load.specs.declared.stop.FileFault.TheVariants.{Unread as unread, Grammar}
 use Rattle.dir_load.specs.declared.stop.LoadStop.{LoadStop}
 use Rattle.dir_load.specs.declared.stop.LoadStop.TheVariants.{Refused, Fault, Memory}
 use Rattle.dir_load.specs.declared.stop.Refusal.TheVariants.{File, Store}
-use Rattle.dir_load.specs.Load.{Found, and_then, found_on, is_store, lines_under, load_of, load_with, map_err, octets_under, parts_refusal, parts_with, refusals_of, store_under}
+use Rattle.dir_load.specs.Load.{Found, and_then, found_on, lines_under, load_of, load_with, map_err, octets_under, parts_refusal, parts_with, refusals_of, store_under}
 use Rattle.dir_load.specs.Manifest.{manifest_in}
 use Rattle.dir_load.specs.Stop.{IsStopAt, IsStopIn, compile_stop, grammar_stop, refusal_in, unread_stop}
 use Rattle.dir_load.proofs.AnswerLemmas.{Answers-and_then}
@@ -54,11 +52,11 @@ module _ {Y : Type 0} (shown : Y → Parts) (files : List ShelfFile) (name : Lis
 
   module _ (octets : List ℕ) where
     -- they are a store, or lines
-    pub load_of-store : octets_named 4194304 files name ≡ Ok octets → is_store octets ≡ true → load_of files name ≡ store_under name octets
+    pub load_of-store : octets_named 4194304 files name ≡ Ok octets → begins_as_store octets ≡ true → load_of files name ≡ store_under name octets
     load_of-store read is =
         load_of-read octets read ∙ ap (λ (b : Bool). if b then store_under name octets else lines_under files name octets) is
 
-    pub load_of-lines : octets_named 4194304 files name ≡ Ok octets → is_store octets ≡ false → load_of files name ≡ lines_under files name octets
+    pub load_of-lines : octets_named 4194304 files name ≡ Ok octets → begins_as_store octets ≡ false → load_of files name ≡ lines_under files name octets
     load_of-lines read is =
         load_of-read octets read ∙ ap (λ (b : Bool). if b then store_under name octets else lines_under files name octets) is
 
@@ -111,20 +109,10 @@ within-limit limit (Some found) octets is =
     let w = within (nat_lt limit (length found)) found octets is in
     omega (arith, ltb-false limit (length found) w.0, ap length w.1)
 
--- a spelling of a directory is a store
-spelling-is_store : (version : StoreVersion) (parts : Parts) → is_store (spelling_of version parts) ≡ true
-unfolding spelling_of
-spelling-is_store First parts = refl
-spelling-is_store Second parts = refl
-
-spelled-is_store : (octets : List ℕ) (parts : Parts) → IsStoreOf octets parts → is_store octets ≡ true
-spelled-is_store octets parts (inl same) = ap is_store same ∙ spelling-is_store Second parts
-spelled-is_store octets parts (inr old) = ap is_store old.1 ∙ spelling-is_store First parts
-
 -- a directory is loaded from its store
 pub load_of-spelled : (files : List ShelfFile) (name octets : List ℕ) (parts : Parts) → IsDirectory parts → IsStoreOf octets parts → octets_named 4194304 files name ≡ Ok octets → load_of files name ≡ Ok parts
 load_of-spelled files name octets parts is spelled read =
     let short = within-limit 4194304 (file_named name files) octets read in
     let few : length octets < 10 ^ 19 = omega (arith, short) in
-    load_of-store (λ (p : Parts). p) files name octets read (spelled-is_store octets parts spelled)
+    load_of-store (λ (p : Parts). p) files name octets read (store-begins octets parts spelled)
     ∙ ap (map_err (Store name)) (store-again octets parts is spelled few)

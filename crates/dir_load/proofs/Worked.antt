@@ -69,12 +69,20 @@ other_element : load_of (with_composites ∷ elements ∷ file (codes "c") (code
 unfolding load_of manifest_in lines_from is_name_of elements_in composites_in entries_of fields_of cells_of indentation_of repr_in directory_of compile_faults
 other_element = refl
 
--- a store whose third line breaks a rule
+-- a store whose third line breaks a rule, in either version
 faulty_store : load_of (file (codes "m") (codes "EDIDIR1" ++ 10 ∷ codes "D 96A UN" ++ 10 ∷ codes "E two" ++ 10 ∷ []) ∷ []) (codes "m") ≡ Err (Store (codes "m") 17)
 unfolding load_of store_of parts_at definitions_at section_at
 faulty_store = refl
 
--- without LF there is no store
-no_store : load_of (file (codes "m") (codes "EDIDIR1") ∷ []) (codes "m") ≡ Err (File (codes "m") (Grammar (record { line = 1; kind = BadLine })))
+faulty_new_store : load_of (file (codes "m") (codes "EDIDIR2" ++ 10 ∷ codes "D 96A UN" ++ 10 ∷ codes "E two" ++ 10 ∷ []) ∷ []) (codes "m") ≡ Err (Store (codes "m") 17)
+unfolding load_of store_of parts_at definitions_at section_at
+faulty_new_store = refl
+
+-- without LF there is no store, and there is none of version 3
+no_store : load_of (file (codes "m") (codes "EDIDIR2") ∷ []) (codes "m") ≡ Err (File (codes "m") (Grammar (record { line = 1; kind = BadLine })))
 unfolding load_of manifest_in lines_from
 no_store = refl
+
+no_version : load_of (file (codes "m") (codes "EDIDIR3" ++ 10 ∷ codes "D 96A UN" ++ 10 ∷ []) ∷ []) (codes "m") ≡ Err (File (codes "m") (Grammar (record { line = 1; kind = BadLine })))
+unfolding load_of manifest_in lines_from
+no_version = refl

@@ -1,6 +1,6 @@
 -- What the files of a shelf give under the name of a manifest.
-use Rattle.std.specs.Prelude.{◌||◌, Bool, nat_eq, List, [], ◌∷◌, Result, Ok, Err, if◌then◌else◌}
-use Rattle.std.specs.List.{flat_map, starts_with}
+use Rattle.std.specs.Prelude.{List, [], ◌∷◌, Result, Ok, Err, if◌then◌else◌}
+use Rattle.std.specs.List.{flat_map}
 use Rattle.std.specs.Result.{result_map_both, result_unwrap_or}
 use Rattle.edi_tables.specs.Octets.{Octets}
 use Rattle.edi_tables.specs.First.{unless_faulty}
@@ -20,9 +20,7 @@ use Rattle.dir_segments.specs.Segments.{segments_in_file}
 use Rattle.dir_messages.specs.Message.{message_in}
 use Rattle.dir_compile.specs.Directory.{Directory, directory_of}
 use Rattle.dir_compile.specs.Stop.{PartsFault}
-use Rattle.dir_store.specs.declared.version.StoreVersion.{StoreVersion}
-use Rattle.dir_store.specs.declared.version.StoreVersion.TheVariants.{First, Second}
-use Rattle.dir_store.specs.Spelling.{first_line, line_of}
+use Rattle.dir_store.specs.Spelling.{begins_as_store}
 use Rattle.dir_store.specs.Store.{store_of}
 use Rattle.dir_load.specs.declared.manifest.FileKind.{FileKind}
 use Rattle.dir_load.specs.declared.manifest.FileKind.TheVariants.{Elements, Codes, Composites, Segments, Message}
@@ -143,17 +141,11 @@ lines_under files name octets =
 abbrev pub store_under : Octets → Octets → Result Directory Refusal
 store_under name octets = map_err (refusal.Store name) (store_of octets)
 
--- octets begin with the first line of a version
-abbrev pub is_store_in : StoreVersion → Octets → Bool
-is_store_in version octets = starts_with nat_eq octets (line_of (first_line version ∷ []))
-
--- a manifest that begins with `EDIDIR1` and LF, or with `EDIDIR2` and LF, is a store, and every other one is lines
-abbrev pub is_store : Octets → Bool
-is_store octets = is_store_in First octets || is_store_in Second octets
-
--- the directory of a manifest, the octets of the file of that name
+-- the directory of a manifest, the octets of the file of that name: one that begins with the first line of a store is a
+-- store, and every other one is lines
 abbrev pub octets_under : List ShelfFile → Octets → Octets → Result Directory Refusal
-octets_under files name octets = if is_store octets then store_under name octets else lines_under files name octets
+octets_under files name octets =
+    if begins_as_store octets then store_under name octets else lines_under files name octets
 
 -- what files give under the name of a manifest: it is absent, has over 4,194,304 octets, or is a store or lines
 unfoldable pub load_of : List ShelfFile → Octets → Result Directory Refusal

@@ -6,8 +6,8 @@ ghost use Rattle.edi_ports.specs.Faults.{IsFair};
 ghost use Rattle.edi_ports.specs.Named.{octets_named};
 ghost use Rattle.dir_compile.specs.declared.parts.Parts.{Parts};
 ghost use Rattle.dir_compile.specs.Directory.{IsDirectory};
-ghost use Rattle.dir_store.specs.Spelling.{IsStoreOf};
-ghost use Rattle.dir_load.specs.Load.{is_store as is_store_of, lines_under, load_of, store_under};
+ghost use Rattle.dir_store.specs.Spelling.{IsStoreOf, begins_as_store};
+ghost use Rattle.dir_load.specs.Load.{lines_under, load_of, store_under};
 ghost use Rattle.dir_load.specs.Stop.{refusal_in};
 
 use crate::LoadStop;
@@ -49,7 +49,7 @@ pub fn load<S: Shelf>(alloc: Global, shelf: &mut S, name: &[u8]) -> Result<Direc
 
 // Whether a manifest is a store.
 fn is_store(octets: &[u8]) -> bool
-    ensures { result ≡ is_store_of octets.now }
+    ensures { result ≡ begins_as_store octets.now }
 {
     octets.starts_with(b"EDIDIR1\n") || octets.starts_with(b"EDIDIR2\n")
 }

@@ -23,7 +23,7 @@ use Rattle.dir_store.specs.declared.version.StoreVersion.{StoreVersion}
 use Rattle.dir_store.specs.declared.version.StoreVersion.TheVariants.{First, Second}
 use Rattle.dir_store.specs.Lines.{◌>>=◌, lined}
 use Rattle.dir_store.specs.Rules.{labels_in}
-use Rattle.dir_store.specs.Spelling.{first_line, line_of, listed, repr_text, part_text, item_text, row_text, element_text, value_text, list_text, composite_text, segment_text, message_text, labels_text, spelling_of, HasNoRepetitions, IsStoreOf}
+use Rattle.dir_store.specs.Spelling.{first_line, line_of, listed, repr_text, part_text, item_text, row_text, element_text, value_text, list_text, composite_text, segment_text, message_text, labels_text, spelling_of, HasNoRepetitions, IsStoreOf, begins_as_store}
 use Rattle.dir_store.specs.Store.{first_in, section_at, element_at, list_at, composite_at, segment_at, message_at, ended, definitions_at, parts_at, store_of}
 use Rattle.dir_store.proofs.LineLemmas.{ok-is, bind_ok}
 use Rattle.dir_store.proofs.SeveralLemmas.{Each}
@@ -341,6 +341,16 @@ store-again octets parts is (inr old) few =
 pub store-once : (octets : List ℕ) (parts other : Parts) → IsDirectory parts → IsDirectory other → length octets < 10 ^ 19 → IsStoreOf octets parts → IsStoreOf octets other → other ≡ parts
 store-once octets parts other is also few one two =
     ok-is other parts (sym (store-again octets other also two few) ∙ store-again octets parts is one few)
+
+-- a spelling begins with the first line of its version
+spelling-begins : (version : StoreVersion) (parts : Parts) → begins_as_store (spelling_of version parts) ≡ true
+unfolding spelling_of
+spelling-begins First parts = refl
+spelling-begins Second parts = refl
+
+pub store-begins : (octets : List ℕ) (parts : Parts) → IsStoreOf octets parts → begins_as_store octets ≡ true
+store-begins octets parts (inl same) = ap begins_as_store same ∙ spelling-begins Second parts
+store-begins octets parts (inr old) = ap begins_as_store old.1 ∙ spelling-begins First parts
 
 -- ---- what a reader of stores answers
 

@@ -1,6 +1,6 @@
 -- The spellings of a directory: the one that is written, and the older one that is read besides.
-use Rattle.std.specs.Prelude.{◌≡◌, ◌⊎◌, ◌<◌, ◌^◌, ◌==◌, ℕ, Bool, true, false, List, [], ◌∷◌, ◌++◌, length, Option, Some, None, codes, decimal}
-use Rattle.std.specs.List.{flat_map, join_with_byte, list_all}
+use Rattle.std.specs.Prelude.{◌≡◌, ◌⊎◌, ◌<◌, ◌^◌, ◌==◌, ◌||◌, nat_eq, ℕ, Bool, true, false, List, [], ◌∷◌, ◌++◌, length, Option, Some, None, codes, decimal}
+use Rattle.std.specs.List.{flat_map, join_with_byte, list_all, starts_with}
 use Rattle.edi_tables.specs.Octets.{Octets}
 use Rattle.edi_tables.specs.declared.tag.Tag.{Tag}
 use Rattle.edi_tables.specs.declared.element.Class.{Class}
@@ -92,6 +92,12 @@ message_text message = listed message.name row_text message.rows
 abbrev pub first_line : StoreVersion → Octets
 first_line First = codes "EDIDIR1"
 first_line Second = codes "EDIDIR2"
+
+-- octets begin with the first line of a store: `EDIDIR1` and LF, or `EDIDIR2` and LF
+abbrev pub begins_as_store : Octets → Bool
+begins_as_store octets =
+    starts_with nat_eq octets (line_of (first_line First ∷ []))
+    || starts_with nat_eq octets (line_of (first_line Second ∷ []))
 
 -- the labels of a directory: version, release and agency
 abbrev pub labels_text : Parts → Octets

@@ -1,6 +1,6 @@
 use Rattle.std.proofs.Common.{◌≡◌, List, ℕ, true, false, sym, ap, ◌∙◌}
 use Rattle.dir_compile.specs.declared.parts.Parts.{Parts}
-use Rattle.dir_load.specs.Load.{is_store}
+use Rattle.dir_store.specs.Spelling.{begins_as_store}
 use Rattle.dir_load.proofs.LoadLemmas.{Answers-unread, load_of-lines, load_of-spelled, load_of-store}
 use Rattle.dir_load.proofs.loading.load.Goals as goal
 
@@ -13,7 +13,7 @@ returns-in-Err-clause-again g c = λ files octets directory. load_of-spelled fil
 
 pub returns-then-is_store-clause-loads : goal.returns-then-is_store-clause-loads
 returns-then-is_store-clause-loads g c files told =
-    let is : is_store c.in-Ok.octets.items ≡ true = sym (c.is_store.ensures ∙ ap is_store c.deref.ensures.value) ∙ c.if-is_store.true in
+    let is : begins_as_store c.in-Ok.octets.items ≡ true = sym (c.is_store.ensures ∙ ap begins_as_store c.deref.ensures.value) ∙ c.if-is_store.true in
     rw (load_of-store (λ (d : Parts). d) files c.args.name.now c.in-Ok.octets.items (c.in-Ok.ensures.reads files told) is) (rw c.deref-then-is_store.ensures.value at c.load_store.ensures.loads)
 
 pub returns-then-is_store-clause-again : goal.returns-then-is_store-clause-again
@@ -21,7 +21,7 @@ returns-then-is_store-clause-again g c = λ files octets directory. load_of-spel
 
 pub returns-clause-loads : goal.returns-clause-loads
 returns-clause-loads g c files told =
-    let is : is_store c.in-Ok.octets.items ≡ false = sym (c.is_store.ensures ∙ ap is_store c.deref.ensures.value) ∙ c.if-is_store.false in
+    let is : begins_as_store c.in-Ok.octets.items ≡ false = sym (c.is_store.ensures ∙ ap begins_as_store c.deref.ensures.value) ∙ c.if-is_store.false in
     rw (load_of-lines (λ (d : Parts). d) files c.args.name.now c.in-Ok.octets.items (c.in-Ok.ensures.reads files told) is) (rw c.deref-else-is_store.ensures.value at c.load_lines.ensures.loads files (c.in-Ok.ensures.files ∙ told))
 
 pub returns-clause-again : goal.returns-clause-again

@@ -31,8 +31,8 @@ is_numbered_element fields =
 abbrev pub without_from_end : ℕ → List Octets → List Octets
 without_from_end n fields = reverse (take (n - 1) (reverse fields) ++ drop n (reverse fields))
 
--- an item's fields after its position, with the number taken out: a composite's is the last of them, a data element's the
--- one before the last
+-- an item's fields after its position, with the number taken out: a composite's is the last of them, a data element's
+-- the one before the last
 unfoldable pub item_fields : List Octets → List Octets
 item_fields fields =
     if is_numbered_composite fields then without_from_end 1 fields

@@ -110,7 +110,7 @@ abbrev pub items_faults : List CompositeDef → List Item → List DirFault
 items_faults known items =
     flat_map (λ p. item_faults known (last_of (map item_position p.0)) p.1) (with_earlier items)
 
--- an entry of this head and these items, after others: its head, its items in order, its end, where it has 1 to 99 items
+-- an entry of this head and these items, after others: its head, its items in order, its end: it has 1 to 99 items
 abbrev pub entry_faults : List CompositeDef → List (List Line) → Line → List Item → List DirFault
 entry_faults known earlier head items =
     head_faults is_tag_of earlier head ++ (items_faults known items ++ count_faults head (length items))

@@ -160,25 +160,28 @@ const fn repeated_element(must: bool, reps: u8) -> ItemDef {
     }
 }
 
-// Segment files of one item, each with that item.
+// Segment files of one item, the composite C001, each with whether it is mandatory, and its greatest number of repetitions.
 #[rattlefmt::skip]
-const REPEATED: &[(&[u8], ItemDef)] = &[
-    // the least number, and the greatest
-    (b"----------\nBGM N\n010 C001 Name here M 5\n", repeated_composite(b"C001", true, 5)),
-    (b"----------\nBGM N\n010 C001 N C 1\n", repeated_composite(b"C001", false, 1)),
-    (b"----------\nBGM N\n010 C001 N M 99\n", repeated_composite(b"C001", true, 99)),
-    (b"----------\nBGM N\n010 1001 Document name C 5 an..3\n", repeated_element(false, 5)),
-    (b"----------\nBGM N\n010 1001 N M 10 an..3\n", repeated_element(true, 10)),
-    // after a skipped mark
-    (b"----------\nBGM N\n010 * C001 N M 5\n", repeated_composite(b"C001", true, 5)),
-    (b"----------\nBGM N\n+ 010 X 1001 N C 5 an..3\n", repeated_element(false, 5)),
+const REPEATED_COMPOSITES: &[(&[u8], bool, u8)] = &[
+    (b"----------\nBGM N\n010 C001 Name here M 5\n", true, 5),
+    (b"----------\nBGM N\n010 C001 N C 1\n", false, 1),
+    (b"----------\nBGM N\n010 C001 N M 99\n", true, 99),
+    (b"----------\nBGM N\n010 * C001 N M 5\n", true, 5),
     // a name that ends in a number, without one and with one
-    (b"----------\nBGM N\n010 C001 Period 7 M\n", repeated_composite(b"C001", true, 1)),
-    (b"----------\nBGM N\n010 C001 Period 7 M 8\n", repeated_composite(b"C001", true, 8)),
-    (b"----------\nBGM N\n010 1001 Name 7 C an..3\n", repeated_element(false, 1)),
-    (b"----------\nBGM N\n010 1001 Name 7 C 8 an..3\n", repeated_element(false, 8)),
-    // an item with part lines
-    (b"----------\nBGM N\n010 C001 N M 3\n     1001 N C an3\n     1002 N M n..5\n", repeated_composite(b"C001", true, 3)),
+    (b"----------\nBGM N\n010 C001 Period 7 M\n", true, 1),
+    (b"----------\nBGM N\n010 C001 Period 7 M 8\n", true, 8),
+    // with part lines
+    (b"----------\nBGM N\n010 C001 N M 3\n     1001 N C an3\n     1002 N M n..5\n", true, 3),
+];
+
+// The same of the element 1001, an..3.
+#[rattlefmt::skip]
+const REPEATED_ELEMENTS: &[(&[u8], bool, u8)] = &[
+    (b"----------\nBGM N\n010 1001 Document name C 5 an..3\n", false, 5),
+    (b"----------\nBGM N\n010 1001 N M 10 an..3\n", true, 10),
+    (b"----------\nBGM N\n+ 010 X 1001 N C 5 an..3\n", false, 5),
+    (b"----------\nBGM N\n010 1001 Name 7 C an..3\n", false, 1),
+    (b"----------\nBGM N\n010 1001 Name 7 C 8 an..3\n", false, 8),
 ];
 
 #[test]
@@ -201,11 +204,19 @@ fn gives_what_files_define(rt: HostRuntime) -> Result<(), Fail> {
 #[test]
 fn gives_numbers_of_repetitions(rt: HostRuntime) -> Result<(), Fail> {
     let known = read_composites(rt.alloc(), COMPOSITES)?;
-    for (file, item) in REPEATED {
+    for (file, must, reps) in REPEATED_COMPOSITES {
         assert!(rt; file.len() <= LIMIT);
         let segments = read_segments(rt.alloc(), file, &known)?;
         let segment = segments.first().expect(&rt, "a segment");
-        assert_eq!(rt; segment.items.items(), [*item].as_slice(), "{file:?}");
+        let item = repeated_composite(b"C001", *must, *reps);
+        assert_eq!(rt; segment.items.items(), [item].as_slice(), "{file:?}");
+    }
+    for (file, must, reps) in REPEATED_ELEMENTS {
+        assert!(rt; file.len() <= LIMIT);
+        let segments = read_segments(rt.alloc(), file, &known)?;
+        let segment = segments.first().expect(&rt, "a segment");
+        let item = repeated_element(*must, *reps);
+        assert_eq!(rt; segment.items.items(), [item].as_slice(), "{file:?}");
     }
     Ok(())
 }

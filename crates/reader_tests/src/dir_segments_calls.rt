@@ -160,7 +160,7 @@ const fn repeated_element(must: bool, reps: u8) -> ItemDef {
     }
 }
 
-// Segment files of one item, the composite C001, each with whether it is mandatory, and its greatest number of repetitions.
+// Segment files of one item, the composite C001: whether it is mandatory, and its greatest number of repetitions.
 #[rattlefmt::skip]
 const REPEATED_COMPOSITES: &[(&[u8], bool, u8)] = &[
     (b"----------\nBGM N\n010 C001 Name here M 5\n", true, 5),

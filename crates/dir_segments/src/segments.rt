@@ -26,7 +26,8 @@ use std::alloc::Global;
 /// Else the first fault in judging order: `bad-code` and `twice` at a head, `bad-line`, `bad-position`,
 /// `bad-status` and `bad-repr` at an item line, `bad-line` at a part line out of its form or below an
 /// element, `parts-differ` at the line of an item whose part lines aren't the parts of the first known
-/// composite of its code, `bad-line` at the head of an entry with no item or more than 99.
+/// composite of its code, `bad-line` at the head of an entry with no item or more than 99. What was accepted
+/// when items had no numbers of repetitions gives the same definitions.
 pub fn read_segments(
     alloc: Global,
     file: &[u8],

@@ -1,39 +1,38 @@
--- Commands that are answered one after the other, with the text that they lead to.
+-- Commands that are answered one after the other, with the state that they lead to.
 use Rattle.std.proofs.Common.{◌≡◌, ◌⊎◌, ◌++◌, ◌<◌, ℕ, List, [], ◌∷◌, length, take, refl, sym, ap, ◌∙◌, subst, inl, inr}
 use Rattle.std.proofs.lemmas.List.{append_assoc, append-nil}
-use Rattle.dir_compile.specs.declared.parts.Parts.{Parts}
 use Rattle.edit_script.specs.declared.command.Command.{Command}
 use Rattle.edit_script.specs.declared.command.Command.TheVariants.{Replace, Errors, Tree, Contrl, Text, End}
+use Rattle.script_answers.specs.Answers.{Answers, AnswersCut, Step}
 use Rattle.script_answers.specs.Script.{IsOpen, IsEnded}
-use Rattle.script_answers.specs.Reply.{Answers, AnswersCut, IsStep}
 
--- the replies to commands, and the text after them
-abbrev pub AnswersTo : Parts → List ℕ → List Command → List ℕ → List ℕ → Type 0
-AnswersTo dir text [] out end = (out ≡ []) × (text ≡ end)
-AnswersTo dir text (c ∷ cs) out end =
-    (reply : List ℕ) × (after : List ℕ) × (rest : List ℕ)
-    × IsStep dir text c reply after × AnswersTo dir after cs rest end × (out ≡ reply ++ rest)
+-- the replies to commands, and the state after them
+abbrev pub AnswersTo : {S : Type 0} → Step S → S → List Command → List ℕ → S → Type 0
+AnswersTo {S} IsStep state [] out end = (out ≡ []) × (state ≡ end)
+AnswersTo {S} IsStep state (c ∷ cs) out end =
+    (reply : List ℕ) × (after : S) × (rest : List ℕ)
+    × IsStep state c reply after × AnswersTo IsStep after cs rest end × (out ≡ reply ++ rest)
 
 -- one command more
-pub answers_more : (dir : Parts) (text : List ℕ) (cs : List Command) (out end : List ℕ) (c : Command) (reply next : List ℕ) → AnswersTo dir text cs out end → IsStep dir end c reply next → AnswersTo dir text (cs ++ c ∷ []) (out ++ reply) next
-answers_more dir text [] out end c reply next to step =
-    (reply, next, [], subst (λ (t : List ℕ). IsStep dir t c reply next) (sym to.1) step, (refl, refl), ap (λ (xs : List ℕ). xs ++ reply) to.0 ∙ sym (append-nil reply))
-answers_more dir text (d ∷ cs) out end c reply next to step =
-    (to.0, to.1, to.2 ++ reply, to.3, answers_more dir to.1 cs to.2 end c reply next to.4 step, ap (λ (xs : List ℕ). xs ++ reply) to.5 ∙ append_assoc to.0 to.2 reply)
+pub answers_more : {S : Type 0} (IsStep : Step S) (state : S) (cs : List Command) (out : List ℕ) (end : S) (c : Command) (reply : List ℕ) (next : S) → AnswersTo IsStep state cs out end → IsStep end c reply next → AnswersTo IsStep state (cs ++ c ∷ []) (out ++ reply) next
+answers_more {S} IsStep state [] out end c reply next to step =
+    (reply, next, [], subst (λ (s : S). IsStep s c reply next) (sym to.1) step, (refl, refl), ap (λ (xs : List ℕ). xs ++ reply) to.0 ∙ sym (append-nil reply))
+answers_more {S} IsStep state (d ∷ cs) out end c reply next to step =
+    (to.0, to.1, to.2 ++ reply, to.3, answers_more IsStep to.1 cs to.2 end c reply next to.4 step, ap (λ (xs : List ℕ). xs ++ reply) to.5 ∙ append_assoc to.0 to.2 reply)
 
 -- the replies alone
-pub answers_forget : (dir : Parts) (text : List ℕ) (cs : List Command) (out end : List ℕ) → AnswersTo dir text cs out end → Answers dir text cs out
-answers_forget dir text [] out end to = to.0
-answers_forget dir text (c ∷ cs) out end to = (to.0, to.1, to.2, to.3, answers_forget dir to.1 cs to.2 end to.4, to.5)
+pub answers_forget : {S : Type 0} (IsStep : Step S) (state : S) (cs : List Command) (out : List ℕ) (end : S) → AnswersTo IsStep state cs out end → Answers IsStep state cs out
+answers_forget {S} IsStep state [] out end to = to.0
+answers_forget {S} IsStep state (c ∷ cs) out end to = (to.0, to.1, to.2, to.3, answers_forget IsStep to.1 cs to.2 end to.4, to.5)
 
 -- one command more, of whose reply there is only a proper prefix
-pub answers_cut : (dir : Parts) (text : List ℕ) (cs : List Command) (out end : List ℕ) (c : Command) (reply next : List ℕ) (n : ℕ) → AnswersTo dir text cs out end → IsStep dir end c reply next → n < length reply → AnswersCut dir text (cs ++ c ∷ []) (out ++ take n reply)
-answers_cut dir text [] out end c reply next n to step within =
-    (reply, next, n, subst (λ (t : List ℕ). IsStep dir t c reply next) (sym to.1) step, within, ap (λ (xs : List ℕ). xs ++ take n reply) to.0)
-answers_cut dir text (d ∷ []) out end c reply next n to step within =
-    (to.0, to.1, to.2 ++ take n reply, to.3, answers_cut dir to.1 [] to.2 end c reply next n to.4 step within, ap (λ (xs : List ℕ). xs ++ take n reply) to.5 ∙ append_assoc to.0 to.2 (take n reply))
-answers_cut dir text (d ∷ e ∷ cs) out end c reply next n to step within =
-    (to.0, to.1, to.2 ++ take n reply, to.3, answers_cut dir to.1 (e ∷ cs) to.2 end c reply next n to.4 step within, ap (λ (xs : List ℕ). xs ++ take n reply) to.5 ∙ append_assoc to.0 to.2 (take n reply))
+pub answers_cut : {S : Type 0} (IsStep : Step S) (state : S) (cs : List Command) (out : List ℕ) (end : S) (c : Command) (reply : List ℕ) (next : S) (n : ℕ) → AnswersTo IsStep state cs out end → IsStep end c reply next → n < length reply → AnswersCut IsStep state (cs ++ c ∷ []) (out ++ take n reply)
+answers_cut {S} IsStep state [] out end c reply next n to step within =
+    (reply, next, n, subst (λ (s : S). IsStep s c reply next) (sym to.1) step, within, ap (λ (xs : List ℕ). xs ++ take n reply) to.0)
+answers_cut {S} IsStep state (d ∷ []) out end c reply next n to step within =
+    (to.0, to.1, to.2 ++ take n reply, to.3, answers_cut IsStep to.1 [] to.2 end c reply next n to.4 step within, ap (λ (xs : List ℕ). xs ++ take n reply) to.5 ∙ append_assoc to.0 to.2 (take n reply))
+answers_cut {S} IsStep state (d ∷ e ∷ cs) out end c reply next n to step within =
+    (to.0, to.1, to.2 ++ take n reply, to.3, answers_cut IsStep to.1 (e ∷ cs) to.2 end c reply next n to.4 step within, ap (λ (xs : List ℕ). xs ++ take n reply) to.5 ∙ append_assoc to.0 to.2 (take n reply))
 
 -- one command more that isn't `end`
 pub open_more : (cs : List Command) (c : Command) → IsOpen cs → (c ≡ End → ⊥) → IsOpen (cs ++ c ∷ [])

@@ -1,4 +1,5 @@
 mod AnsweredLemmas
 mod EndedLemmas
+pub mod ReplyLemmas
 pub mod RoomLemmas
 mod RunLemmas

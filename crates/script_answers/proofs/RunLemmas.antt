@@ -5,7 +5,6 @@ use Rattle.std.specs.Prelude.{codes}
 use Rattle.edi_ports.specs.Faults.{HasRisen}
 use Rattle.edi_ports.specs.Read.{HasTaken}
 use Rattle.edi_ports.specs.Sink.{IsCut}
-use Rattle.dir_compile.specs.declared.parts.Parts.{Parts}
 use Rattle.edit_script.specs.Command.{command_text}
 use Rattle.edit_script.specs.Next.{IsAnswer, IsNext, Reader}
 use Rattle.edit_script.specs.Reading.{IsAtEnd}
@@ -19,11 +18,10 @@ use Rattle.edit_script.proofs.ScriptLemmas.{are_more, script_more}
 use Rattle.run_outcome.specs.declared.status.Status.{Status}
 use Rattle.run_outcome.specs.declared.status.Status.TheVariants.{Done, WriteFault}
 use Rattle.run_outcome.specs.Finish.{Grew, IsFinish}
+use Rattle.script_answers.specs.Answers.{IsAnswered, Step, TakesAll}
 use Rattle.script_answers.specs.Script.{Account, IsOpen, IsRest, IsRow, IsStopped, longest_script, stopped_by}
 use Rattle.run_outcome.specs.Held.{Held}
 use Rattle.run_outcome.specs.Put.{IsPutOut}
-use Rattle.script_answers.specs.Replied.{IsAnswered, TakesAll}
-use Rattle.script_answers.specs.Reply.{IsStep}
 use Rattle.script_answers.proofs.AnsweredLemmas.{AnswersTo, answers_cut, answers_forget, answers_more, ended_more, open_more, open_or_ended}
 
 -- ---- the line that tells why a script was stopped
@@ -40,8 +38,8 @@ numbered_at P n number tail same put =
 
 -- ---- how far a script is answered
 
--- the commands that were taken of a whole script and answered, what is left of it, and what was put: so the text is now that one, and the reader there
-pub record Progress (dir : Parts) (text end : List ℕ) (reader : Reader) (whole octets : List ℕ) (now held : Option (List ℕ)) : Type 0 where
+-- the commands that were taken of a whole script and answered, what is left of it, and what was put: so the state is now that one, and the reader there
+pub record Progress {S : Type 0} (IsStep : Step S) (state end : S) (reader : Reader) (whole octets : List ℕ) (now held : Option (List ℕ)) : Type 0 where
   pub commands : List Command
   pub left : List ℕ
   pub out : List ℕ
@@ -50,21 +48,21 @@ pub record Progress (dir : Parts) (text end : List ℕ) (reader : Reader) (whole
   pub whole_is : whole ≡ script_text commands ++ left
   pub now_is : now ≡ Some left
   pub held_is : held ≡ Some (octets ++ out)
-  pub answers : AnswersTo dir text commands out end
+  pub answers : AnswersTo IsStep state commands out end
   pub numbered : reader.number ≡ length commands + 1
   pub allowed : reader.left + length (script_text commands) ≡ longest_script
 
 -- where input and sink tell what they hold
-abbrev pub IsProgress : Parts → List ℕ → List ℕ → Reader → Option (List ℕ) → Option (List ℕ) → Option (List ℕ) → Option (List ℕ) → Type 0
-IsProgress dir text end reader before now held held' =
-    IfSome before (λ whole. IfSome held (λ octets. Progress dir text end reader whole octets now held'))
+abbrev pub IsProgress : {S : Type 0} → Step S → S → S → Reader → Option (List ℕ) → Option (List ℕ) → Option (List ℕ) → Option (List ℕ) → Type 0
+IsProgress {S} IsStep state end reader before now held held' =
+    IfSome before (λ whole. IfSome held (λ octets. Progress IsStep state end reader whole octets now held'))
 
 -- what a run did, where input and sink tell what they hold
-abbrev pub IsRun : Parts → List ℕ → Type 0 → Status → Option (List ℕ) → Option (List ℕ) → Option (List ℕ) → Option (List ℕ) → Type 0
-IsRun dir text Failed status before now held held' =
+abbrev pub IsRun : {S : Type 0} → Step S → S → Type 0 → Status → Option (List ℕ) → Option (List ℕ) → Option (List ℕ) → Option (List ℕ) → Type 0
+IsRun {S} IsStep state Failed status before now held held' =
     IfSome before (λ whole. IfSome held (λ octets.
     (account : Account) × (whole ≡ account.script ++ account.left) × (length account.script ≤ longest_script)
-    × (now ≡ Some account.left) × (held' ≡ Some (octets ++ account.put)) × IsRow dir text Failed status account))
+    × (now ≡ Some account.left) × (held' ≡ Some (octets ++ account.put)) × IsRow IsStep state Failed status account))
 
 -- what the next call took of what was left
 pub record Took (left taken after : List ℕ) (now : Option (List ℕ)) : Type 0 where
@@ -99,10 +97,10 @@ script_length cs c taken is =
     ap length (script_more cs c) ∙ length-append (script_text cs) (command_text c) ∙ ap (λ (xs : List ℕ). length (script_text cs) + length xs) (sym is)
 
 -- a command that isn't `end` was taken and answered
-pub progress_more : (dir : Parts) (text end next : List ℕ) (reader after : Reader) (before mid now held put held' : Option (List ℕ)) (c : Command) → IsProgress dir text end reader before mid held put → IsNext mid now reader after (Ok c) → IsAnswered dir end c next (λ (reply : List ℕ). IsPutOut put held' reply true) → (c ≡ End → ⊥) → IsProgress dir text next after before now held held'
-progress_more dir text end next reader after None mid now held put held' c p taken answered not = tt
-progress_more dir text end next reader after (Some whole) mid now None put held' c p taken answered not = tt
-progress_more dir text end next reader after (Some whole) mid now (Some octets) put held' c p taken answered not =
+pub progress_more : {S : Type 0} (IsStep : Step S) (state end next : S) (reader after : Reader) (before mid now held put held' : Option (List ℕ)) (c : Command) → IsProgress IsStep state end reader before mid held put → IsNext mid now reader after (Ok c) → IsAnswered IsStep end c next (λ (reply : List ℕ). IsPutOut put held' reply true) → (c ≡ End → ⊥) → IsProgress IsStep state next after before now held held'
+progress_more {S} IsStep state end next reader after None mid now held put held' c p taken answered not = tt
+progress_more {S} IsStep state end next reader after (Some whole) mid now None put held' c p taken answered not = tt
+progress_more {S} IsStep state end next reader after (Some whole) mid now (Some octets) put held' c p taken answered not =
     let took = took_of p.left mid now reader after p.now_is taken in
     let is : taken.taken ≡ command_text c = taken.answer.1 in
     let longer = script_length p.commands c taken.taken is in
@@ -115,16 +113,16 @@ progress_more dir text end next reader after (Some whole) mid now (Some octets) 
       whole_is = script_grown p.commands c whole p.left taken.taken took.0 p.whole_is took.1.left_is is;
       now_is = took.1.now_is;
       held_is = put_whole octets p.out answered.0 put held' p.held_is answered.2;
-      answers = answers_more dir text p.commands p.out end c answered.0 next p.answers answered.1;
+      answers = answers_more IsStep state p.commands p.out end c answered.0 next p.answers answered.1;
       numbered = omega (arith, taken.number, p.numbered, length-append p.commands (c ∷ []));
       allowed = omega (arith, taken.left, p.allowed, longer);
     }
 
 -- `end` was taken and answered
-pub run_done : (dir : Parts) (text end next : List ℕ) (Failed : Type 0) (reader after : Reader) (before mid now held put held' : Option (List ℕ)) (c : Command) → IsProgress dir text end reader before mid held put → IsNext mid now reader after (Ok c) → IsAnswered dir end c next (λ (reply : List ℕ). IsPutOut put held' reply true) → c ≡ End → IsRun dir text Failed Done before now held held'
-run_done dir text end next Failed reader after None mid now held put held' c p taken answered is_end = tt
-run_done dir text end next Failed reader after (Some whole) mid now None put held' c p taken answered is_end = tt
-run_done dir text end next Failed reader after (Some whole) mid now (Some octets) put held' c p taken answered is_end =
+pub run_done : {S : Type 0} (IsStep : Step S) (state end next : S) (Failed : Type 0) (reader after : Reader) (before mid now held put held' : Option (List ℕ)) (c : Command) → IsProgress IsStep state end reader before mid held put → IsNext mid now reader after (Ok c) → IsAnswered IsStep end c next (λ (reply : List ℕ). IsPutOut put held' reply true) → c ≡ End → IsRun IsStep state Failed Done before now held held'
+run_done {S} IsStep state end next Failed reader after None mid now held put held' c p taken answered is_end = tt
+run_done {S} IsStep state end next Failed reader after (Some whole) mid now None put held' c p taken answered is_end = tt
+run_done {S} IsStep state end next Failed reader after (Some whole) mid now (Some octets) put held' c p taken answered is_end =
     let took = took_of p.left mid now reader after p.now_is taken in
     let is : taken.taken ≡ command_text c = taken.answer.1 in
     let longer = script_length p.commands c taken.taken is in (
@@ -138,15 +136,15 @@ run_done dir text end next Failed reader after (Some whole) mid now (Some octets
         are_more p.commands c p.lawful taken.answer.0,
         ended_more p.commands c p.are_open is_end,
         refl,
-        answers_forget dir text (p.commands ++ c ∷ []) (p.out ++ answered.0) next (answers_more dir text p.commands p.out end c answered.0 next p.answers answered.1),
+        answers_forget IsStep state (p.commands ++ c ∷ []) (p.out ++ answered.0) next (answers_more IsStep state p.commands p.out end c answered.0 next p.answers answered.1),
       ),
     )
 
 -- a command was taken, and the sink failed in its reply
-pub run_cut : (dir : Parts) (text end next : List ℕ) (Failed : Type 0) (reader after : Reader) (before mid now held put held' : Option (List ℕ)) (c : Command) → IsProgress dir text end reader before mid held put → IsNext mid now reader after (Ok c) → IsAnswered dir end c next (λ (reply : List ℕ). IsPutOut put held' reply false) → IsRun dir text Failed WriteFault before now held held'
-run_cut dir text end next Failed reader after None mid now held put held' c p taken answered = tt
-run_cut dir text end next Failed reader after (Some whole) mid now None put held' c p taken answered = tt
-run_cut dir text end next Failed reader after (Some whole) mid now (Some octets) put held' c p taken answered =
+pub run_cut : {S : Type 0} (IsStep : Step S) (state end next : S) (Failed : Type 0) (reader after : Reader) (before mid now held put held' : Option (List ℕ)) (c : Command) → IsProgress IsStep state end reader before mid held put → IsNext mid now reader after (Ok c) → IsAnswered IsStep end c next (λ (reply : List ℕ). IsPutOut put held' reply false) → IsRun IsStep state Failed WriteFault before now held held'
+run_cut {S} IsStep state end next Failed reader after None mid now held put held' c p taken answered = tt
+run_cut {S} IsStep state end next Failed reader after (Some whole) mid now None put held' c p taken answered = tt
+run_cut {S} IsStep state end next Failed reader after (Some whole) mid now (Some octets) put held' c p taken answered =
     let took = took_of p.left mid now reader after p.now_is taken in
     let is : taken.taken ≡ command_text c = taken.answer.1 in
     let longer = script_length p.commands c taken.taken is in
@@ -161,7 +159,7 @@ run_cut dir text end next Failed reader after (Some whole) mid now (Some octets)
         are_more p.commands c p.lawful taken.answer.0,
         open_or_ended p.commands c p.are_open,
         refl,
-        answers_cut dir text p.commands p.out end c answered.0 next cut.0 p.answers answered.1 cut.1,
+        answers_cut IsStep state p.commands p.out end c answered.0 next cut.0 p.answers answered.1 cut.1,
       ),
     )
 
@@ -177,11 +175,11 @@ rest_of stop.Fault commands script taken left count mid now reader same is numbe
 rest_of stop.Memory commands script taken left count mid now reader same is numbered allowed answer = inl answer
 
 -- the row of a stop whose line was put whole
-stopped_row : (dir : Parts) (text : List ℕ) (Failed : Type 0) (why : ScriptStop) (status : Status) (account : Account) → status ≡ (stopped_by why).status → IsStopped dir text why (stopped_by why).output account → IsRow dir text Failed status account
-stopped_row dir text Failed why status account is stopped =
-    subst (λ (s : Status). IsRow dir text Failed s account) (sym is) (row_of why stopped)
+stopped_row : {S : Type 0} (IsStep : Step S) (state : S) (Failed : Type 0) (why : ScriptStop) (status : Status) (account : Account) → status ≡ (stopped_by why).status → IsStopped IsStep state why (stopped_by why).output account → IsRow IsStep state Failed status account
+stopped_row {S} IsStep state Failed why status account is stopped =
+    subst (λ (s : Status). IsRow IsStep state Failed s account) (sym is) (row_of why stopped)
   where
-    row_of : (why : ScriptStop) → IsStopped dir text why (stopped_by why).output account → IsRow dir text Failed (stopped_by why).status account
+    row_of : (why : ScriptStop) → IsStopped IsStep state why (stopped_by why).output account → IsRow IsStep state Failed (stopped_by why).status account
     row_of (stop.BadLine number) stopped = (stop.BadLine number, refl, stopped)
     row_of (stop.CutShort number) stopped = (stop.CutShort number, refl, stopped)
     row_of stop.TooLong stopped = (stop.TooLong, refl, stopped)
@@ -189,13 +187,13 @@ stopped_row dir text Failed why status account is stopped =
     row_of stop.Memory stopped = (stop.Memory, refl, stopped)
 
 -- no command was taken, and why was told, or the sink failed there
-pub run_stopped : (dir : Parts) (text end : List ℕ) (Failed : Type 0) (reader after : Reader) (before mid now held : Option (List ℕ)) (put held' : Held) (why : ScriptStop) (status : Status) → IsProgress dir text end reader before mid held put.octets → IsNext mid now reader after (Err why) → (why ≡ stop.Fault → Failed) → IsFinish (stopped_by why) put held' status → IsRun dir text Failed status before now held held'.octets
-run_stopped dir text end Failed reader after None mid now held put held' why status p next failed finish = tt
-run_stopped dir text end Failed reader after (Some whole) mid now None put held' why status p next failed finish = tt
-run_stopped dir text end Failed reader after (Some whole) mid now (Some octets) put held' why status p next failed finish =
+pub run_stopped : {S : Type 0} (IsStep : Step S) (state end : S) (Failed : Type 0) (reader after : Reader) (before mid now held : Option (List ℕ)) (put held' : Held) (why : ScriptStop) (status : Status) → IsProgress IsStep state end reader before mid held put.octets → IsNext mid now reader after (Err why) → (why ≡ stop.Fault → Failed) → IsFinish (stopped_by why) put held' status → IsRun IsStep state Failed status before now held held'.octets
+run_stopped {S} IsStep state end Failed reader after None mid now held put held' why status p next failed finish = tt
+run_stopped {S} IsStep state end Failed reader after (Some whole) mid now None put held' why status p next failed finish = tt
+run_stopped {S} IsStep state end Failed reader after (Some whole) mid now (Some octets) put held' why status p next failed finish =
     let took = took_of p.left mid now reader after p.now_is next in
     let script : List ℕ = script_text p.commands ++ next.taken in
-    let stopped : (line : List ℕ) → IsStopped dir text why line (record { script = script; left = took.0; put = p.out ++ line }) = λ line. (
+    let stopped : (line : List ℕ) → IsStopped IsStep state why line (record { script = script; left = took.0; put = p.out ++ line }) = λ line. (
       p.commands,
       next.taken,
       p.out,
@@ -204,7 +202,7 @@ run_stopped dir text end Failed reader after (Some whole) mid now (Some octets) 
       refl,
       subst (λ (n : ℕ). IsRest why (length p.commands) next.taken n took.0) (sym (length-append (script_text p.commands) next.taken))
           (rest_of why p.left (script_text p.commands) next.taken took.0 (length p.commands) mid now reader p.now_is took.1.now_is p.numbered p.allowed next.answer),
-      answers_forget dir text p.commands p.out end p.answers,
+      answers_forget IsStep state p.commands p.out end p.answers,
       refl,
     ) in
     let whole_is : whole ≡ script ++ took.0 = p.whole_is ∙ ap (λ (xs : List ℕ). script_text p.commands ++ xs) took.1.left_is ∙ sym (append_assoc (script_text p.commands) next.taken took.0) in
@@ -212,23 +210,22 @@ run_stopped dir text end Failed reader after (Some whole) mid now (Some octets) 
     ⊎_elim
     (λ (put_whole_line : (status ≡ (stopped_by why).status) × Grew put.octets held'.octets (stopped_by why).output).
     let account : Account = record { script = script; left = took.0; put = p.out ++ (stopped_by why).output } in
-    (account, whole_is, short, took.1.now_is, put_whole octets p.out (stopped_by why).output put.octets held'.octets p.held_is put_whole_line.1, stopped_row dir text Failed why status account put_whole_line.0 (stopped (stopped_by why).output)))
+    (account, whole_is, short, took.1.now_is, put_whole octets p.out (stopped_by why).output put.octets held'.octets p.held_is put_whole_line.1, stopped_row IsStep state Failed why status account put_whole_line.0 (stopped (stopped_by why).output)))
     (λ (put_cut : (status ≡ WriteFault) × HasRisen put.faults held'.faults × IsCut put.octets held'.octets (stopped_by why).output).
     let cut = put_part octets p.out (stopped_by why).output put.octets held'.octets p.held_is put_cut.2 in
     let account : Account = record { script = script; left = took.0; put = p.out ++ take cut.0 (stopped_by why).output } in
-    (account, whole_is, short, took.1.now_is, cut.2, subst (λ (s : Status). IsRow dir text Failed s account) (sym put_cut.0) (inr (why, cut.0, failed, cut.1, stopped (take cut.0 (stopped_by why).output)))))
+    (account, whole_is, short, took.1.now_is, cut.2, subst (λ (s : Status). IsRow IsStep state Failed s account) (sym put_cut.0) (inr (why, cut.0, failed, cut.1, stopped (take cut.0 (stopped_by why).output)))))
     finish
 
--- an answer by the directory that a run began with, of which one thing more is known
-pub answered_at : (dir begun : Parts) (text : List ℕ) (c : Command) (next : List ℕ) (IsTaken IsTold : List ℕ → Type 0) → dir ≡ begun → ((reply : List ℕ) → IsTaken reply → IsTold reply) → IsAnswered dir text c next IsTaken → IsAnswered begun text c next IsTold
-answered_at dir begun text c next IsTaken IsTold same tells answered =
-    (answered.0, subst (λ (d : Parts). IsStep d text c answered.0 next) same answered.1, tells answered.0 answered.2)
+-- an answer of which one thing more is known
+pub answered_told : {S : Type 0} (IsStep : Step S) (state : S) (c : Command) (next : S) (IsTaken IsTold : List ℕ → Type 0) → ((reply : List ℕ) → IsTaken reply → IsTold reply) → IsAnswered IsStep state c next IsTaken → IsAnswered IsStep state c next IsTold
+answered_told {S} IsStep state c next IsTaken IsTold tells answered = (answered.0, answered.1, tells answered.0 answered.2)
 
 -- what was put of a reply, and how much room is left, where it is told whether all of it was put
-pub put_told : (dir begun : Parts) (text : List ℕ) (c : Command) (next : List ℕ) (held held' : Option (List ℕ)) (room room' : ℕ → Type 0) (whole told : Bool) → dir ≡ begun → whole ≡ told → IsAnswered dir text c next (λ (reply : List ℕ). IsPutOut held held' reply whole × TakesAll room room' whole reply) → IsAnswered begun text c next (λ (reply : List ℕ). IsPutOut held held' reply told)
-put_told dir begun text c next held held' room room' whole told same is answered =
-    answered_at dir begun text c next (λ (reply : List ℕ). IsPutOut held held' reply whole × TakesAll room room' whole reply) (λ (reply : List ℕ). IsPutOut held held' reply told) same (λ reply taken. subst (λ (b : Bool). IsPutOut held held' reply b) is taken.0) answered
+pub put_told : {S : Type 0} (IsStep : Step S) (state : S) (c : Command) (next : S) (held held' : Option (List ℕ)) (room room' : ℕ → Type 0) (whole told : Bool) → whole ≡ told → IsAnswered IsStep state c next (λ (reply : List ℕ). IsPutOut held held' reply whole × TakesAll room room' whole reply) → IsAnswered IsStep state c next (λ (reply : List ℕ). IsPutOut held held' reply told)
+put_told {S} IsStep state c next held held' room room' whole told is answered =
+    answered_told IsStep state c next (λ (reply : List ℕ). IsPutOut held held' reply whole × TakesAll room room' whole reply) (λ (reply : List ℕ). IsPutOut held held' reply told) (λ reply taken. subst (λ (b : Bool). IsPutOut held held' reply b) is taken.0) answered
 
-pub room_told : (dir begun : Parts) (text : List ℕ) (c : Command) (next : List ℕ) (held held' : Option (List ℕ)) (room room' : ℕ → Type 0) (whole told : Bool) → dir ≡ begun → whole ≡ told → IsAnswered dir text c next (λ (reply : List ℕ). IsPutOut held held' reply whole × TakesAll room room' whole reply) → IsAnswered begun text c next (TakesAll room room' told)
-room_told dir begun text c next held held' room room' whole told same is answered =
-    answered_at dir begun text c next (λ (reply : List ℕ). IsPutOut held held' reply whole × TakesAll room room' whole reply) (TakesAll room room' told) same (λ reply taken. subst (λ (b : Bool). TakesAll room room' b reply) is taken.1) answered
+pub room_told : {S : Type 0} (IsStep : Step S) (state : S) (c : Command) (next : S) (held held' : Option (List ℕ)) (room room' : ℕ → Type 0) (whole told : Bool) → whole ≡ told → IsAnswered IsStep state c next (λ (reply : List ℕ). IsPutOut held held' reply whole × TakesAll room room' whole reply) → IsAnswered IsStep state c next (TakesAll room room' told)
+room_told {S} IsStep state c next held held' room room' whole told is answered =
+    answered_told IsStep state c next (λ (reply : List ℕ). IsPutOut held held' reply whole × TakesAll room room' whole reply) (TakesAll room room' told) (λ reply taken. subst (λ (b : Bool). TakesAll room room' b reply) is taken.1) answered

@@ -1,3 +1,5 @@
+pub mod Answers
+pub mod Edit
 pub mod Ran
 pub mod Replied
 pub mod Reply

@@ -1,6 +1,5 @@
--- What a run of a script on a text comes to: a table of its statuses.
+-- What a run of a script comes to, whatever a step of it does: a table of its statuses.
 use Rattle.std.specs.Prelude.{◌≡◌, ◌⊎◌, ◌<◌, ◌≤◌, ◌+◌, ⊤, ℕ, List, [], ◌∷◌, ◌++◌, length, take, Option, Some, IfSome, codes, decimal}
-use Rattle.dir_compile.specs.Directory.{Directory}
 use Rattle.edi_tables.specs.Octets.{Octets}
 use Rattle.edit_script.specs.Command.{IsCommandText, IsPart, IsBadLine}
 use Rattle.edit_script.specs.Script.{AreCommands, script_text}
@@ -11,8 +10,8 @@ use Rattle.edit_script.specs.declared.stop.ScriptStop.TheVariants as stop
 use Rattle.run_outcome.specs.declared.status.Status.{Status}
 use Rattle.run_outcome.specs.declared.status.Status.TheVariants.{Done, BadScript, Memory, ReadFault, WriteFault}
 use Rattle.run_outcome.specs.Outcome.{Outcome, memory_refused, read_failed, refused, too_large}
+use Rattle.script_answers.specs.Answers.{Answers, AnswersCut, Step}
 use Rattle.script_answers.specs.Ran.{HasInputFailed, HasSinkFailed, Ran}
-use Rattle.script_answers.specs.Reply.{Answers, AnswersCut}
 
 -- how many octets a script may have
 abbrev pub longest_script : ℕ
@@ -56,31 +55,31 @@ pub record Account : Type 0 where
 
 -- a script was stopped: what was taken of it is commands without `end`, which are answered, and what made it stop; and
 -- these octets were put after the replies
-abbrev pub IsStopped : Directory → Octets → ScriptStop → Octets → Account → Type 0
-IsStopped dir text why line account =
+abbrev pub IsStopped : {S : Type 0} → Step S → S → ScriptStop → Octets → Account → Type 0
+IsStopped IsStep state why line account =
     (cs : List Command) × (rest : Octets) × (out : Octets) × AreCommands cs × IsOpen cs
     × (account.script ≡ script_text cs ++ rest)
     × IsRest why (length cs) rest (length account.script) account.left
-    × Answers dir text cs out × (account.put ≡ out ++ line)
+    × Answers IsStep state cs out × (account.put ≡ out ++ line)
 
 -- the sink failed: in the reply to the last command that was taken, or in the line that tells why the script stopped;
 -- that is the line of a read fault only where the input failed
-abbrev pub IsCutOff : Directory → Octets → Type 0 → Account → Type 0
-IsCutOff dir text InputFailed account =
+abbrev pub IsCutOff : {S : Type 0} → Step S → S → Type 0 → Account → Type 0
+IsCutOff IsStep state InputFailed account =
     ((cs : List Command) × AreCommands cs × (IsOpen cs ⊎ IsEnded cs) × (account.script ≡ script_text cs)
-    × AnswersCut dir text cs account.put)
+    × AnswersCut IsStep state cs account.put)
     ⊎ ((why : ScriptStop) × (n : ℕ) × (why ≡ stop.Fault → InputFailed) × (n < length (stopped_by why).output)
-    × IsStopped dir text why (take n (stopped_by why).output) account)
+    × IsStopped IsStep state why (take n (stopped_by why).output) account)
 
 -- what a run did, by its status
-abbrev pub IsRow : Directory → Octets → Type 0 → Status → Account → Type 0
-IsRow dir text InputFailed Done account =
+abbrev pub IsRow : {S : Type 0} → Step S → S → Type 0 → Status → Account → Type 0
+IsRow IsStep state InputFailed Done account =
     (cs : List Command) × AreCommands cs × IsEnded cs × (account.script ≡ script_text cs)
-    × Answers dir text cs account.put
-IsRow dir text InputFailed WriteFault account = IsCutOff dir text InputFailed account
-IsRow dir text InputFailed status account =
+    × Answers IsStep state cs account.put
+IsRow IsStep state InputFailed WriteFault account = IsCutOff IsStep state InputFailed account
+IsRow IsStep state InputFailed status account =
     (why : ScriptStop) × (status ≡ (stopped_by why).status)
-    × IsStopped dir text why (stopped_by why).output account
+    × IsStopped IsStep state why (stopped_by why).output account
 
 -- a read fault comes only where the input failed, a write fault only where the sink failed
 abbrev pub IsCaused : Type 0 → Type 0 → Status → Type 0
@@ -89,13 +88,13 @@ IsCaused InputFailed SinkFailed WriteFault = SinkFailed
 IsCaused InputFailed SinkFailed status = ⊤
 
 -- a script was read from an input, no more of it than a script may have, and answered as its row says
-abbrev pub IsScriptAnswered : Directory → Octets → Ran → Type 0
-IsScriptAnswered dir text ran =
+abbrev pub IsScriptAnswered : {S : Type 0} → Step S → S → Ran → Type 0
+IsScriptAnswered IsStep state ran =
     IsCaused (HasInputFailed ran) (HasSinkFailed ran) ran.status
     × IfSome ran.input_before.octets (λ whole. IfSome ran.sink_before.octets (λ held.
     (account : Account) × (whole ≡ account.script ++ account.left) × (length account.script ≤ longest_script)
     × (ran.input_after.octets ≡ Some account.left) × (ran.sink_after.octets ≡ Some (held ++ account.put))
-    × IsRow dir text (HasInputFailed ran) ran.status account))
+    × IsRow IsStep state (HasInputFailed ran) ran.status account))
 
 -- a script that ends with `end` is answered whole where neither the input nor the sink failed: only memory can be
 -- refused
@@ -106,13 +105,13 @@ IsAnsweredWhole before InputFailed SinkFailed status =
     → (InputFailed → ⊥) → (SinkFailed → ⊥) → (status ≡ Done) ⊎ (status ≡ Memory)
 
 -- a sink has room for whatever replies these commands may get, and for the line of want of memory after them
-abbrev pub HasRoomFor : (ℕ → Type 0) → Directory → Octets → List Command → Type 0
-HasRoomFor has_room dir text cs =
-    (n : ℕ) × has_room n × ((out : Octets) → Answers dir text cs out → length out + length memory_refused.output ≤ n)
+abbrev pub HasRoomFor : {S : Type 0} → (ℕ → Type 0) → Step S → S → List Command → Type 0
+HasRoomFor has_room IsStep state cs =
+    (n : ℕ) × has_room n × ((out : Octets) → Answers IsStep state cs out → length out + length memory_refused.output ≤ n)
 
 -- a script that ends with `end` is answered whole where the sink has room for that: only memory can be refused
-abbrev pub IsAnsweredInRoom : Directory → Octets → Option Octets → (ℕ → Type 0) → Status → Type 0
-IsAnsweredInRoom dir text before has_room status =
+abbrev pub IsAnsweredInRoom : {S : Type 0} → Step S → S → Option Octets → (ℕ → Type 0) → Status → Type 0
+IsAnsweredInRoom IsStep state before has_room status =
     (cs : List Command) (more : Octets) → before ≡ Some (script_text cs ++ more)
     → AreCommands cs → IsEnded cs → length (script_text cs) ≤ longest_script
-    → HasRoomFor has_room dir text cs → (status ≡ Done) ⊎ (status ≡ Memory)
+    → HasRoomFor has_room IsStep state cs → (status ≡ Done) ⊎ (status ≡ Memory)

@@ -8,29 +8,24 @@ ghost use Rattle.script_answers.specs.Script.{IsAnsweredInRoom, IsAnsweredWhole,
 ghost use Rattle.run_outcome.specs.Held.{held_of};
 ghost use Rattle.run_outcome.specs.Put.{IsPutOut};
 
-use crate::reply::answer_command;
-use edi_engine::Engine;
+use crate::Answering;
 use edi_ports::{Sink, Source};
 use edit_script::{Command, ScriptReader, ScriptStop};
 use run_outcome::{Status, put_numbered, put_pair};
 use std::alloc::Global;
-use std::sync::ledger::Ledger;
-use step_counter::Steps;
 
 /// The most octets of a script.
 const LONGEST_SCRIPT: u64 = 1_073_741_824;
 
-/// Answers the script on the input, command by command, on the text of an engine. It ends after the reply to `end`, and
+/// Answers the script on the input, command by command, each on the state that those before it left. It ends after the reply to `end`, and
 /// takes nothing after it; where the script stops before, with the line that tells why; or where the sink fails.
-pub fn answer_script<L: Ledger, M: Ledger, I: Source, O: Sink>(
+pub fn answer_script<A: Answering, I: Source, O: Sink>(
     alloc: Global,
-    engine: &mut Engine<'_>,
-    lexed: &mut Steps<L>,
-    placed: &mut Steps<M>,
+    answering: &mut A,
     input: &mut I,
     out: &mut O,
 ) -> Status
-    ensures run { IsScriptAnswered engine.old.directory engine.old.text (record {
+    ensures run { IsScriptAnswered A.IsStep (A.state answering.old) (record {
       input_before = left_of I.Source input.old;
       input_after = left_of I.Source input.new;
       sink_before = held_of O.Sink out.old;
@@ -44,7 +39,7 @@ pub fn answer_script<L: Ledger, M: Ledger, I: Source, O: Sink>(
 
     // A script that ends with `end` is answered whole where its input doesn't fail, or didn't, and the sink has room.
     ensures room { I.is_steady input.old ⊎ (HasRisen (I.faults input.old) (I.faults input.new) → ⊥)
-        → IsAnsweredInRoom engine.old.directory engine.old.text
+        → IsAnsweredInRoom A.IsStep (A.state answering.old)
         (I.rest input.old) (O.has_room out.old) result }
 {
     let mut reader = ScriptReader::new(LONGEST_SCRIPT);
@@ -53,7 +48,7 @@ pub fn answer_script<L: Ledger, M: Ledger, I: Source, O: Sink>(
             Ok(command) => command,
             Err(stop) => return tell_stop(out, stop),
         };
-        if !answer_command(alloc, engine, &command, lexed, placed, out) {
+        if !answering.answer(alloc, &command, out) {
             return Status::WriteFault;
         }
         if is_end(command) {

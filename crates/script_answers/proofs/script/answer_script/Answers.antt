@@ -15,7 +15,7 @@ returns-in-Err-clause-run g c = (
       (λ fault. risen_later _ _ _ c.commands.invariant.input (c.in-Err.ensures.fair.cause (ap Err fault)))
       (λ risen. risen_later _ _ _ c.commands.invariant.sink risen)
       c.tell_stop.ensures.finish,
-  run_stopped c.args.engine.now.directory c.args.engine.now.text c.commands.engine.text _ c.commands.reader c.next_command.new.self
+  run_stopped {S = g.A.Answering.State} g.A.Answering.IsStep (g.A.Answering.state c.args.answering.now) (g.A.Answering.state c.commands.answering) _ c.commands.reader c.next_command.new.self
       (g.I.Source.rest c.args.input.now) (g.I.Source.rest c.commands.input) (g.I.Source.rest c.next_command.new.input) (g.O.Sink.held c.args.out.now)
       (held_of g.O.Sink c.commands.out) (held_of g.O.Sink c.tell_stop.new.out) c.in-Err.stop c.tell_stop.result
       c.commands.invariant.progress c.in-Err.ensures.next
@@ -34,10 +34,10 @@ returns-in-Err-clause-complete g c =
 
 pub returns-in-Err-clause-room : goal.returns-in-Err-clause-room
 returns-in-Err-clause-room g c = λ sound.
-    roomy_stopped c.args.engine.now.directory c.args.engine.now.text c.commands.engine.text
+    roomy_stopped {S = g.A.Answering.State} g.A.Answering.IsStep (g.A.Answering.state c.args.answering.now) (g.A.Answering.state c.commands.answering)
     (g.I.Source.rest c.args.input.now) (g.I.Source.rest c.commands.input) (g.I.Source.rest c.next_command.new.input) c.commands.reader c.next_command.new.self
     (g.O.Sink.has_room c.args.out.now) (g.O.Sink.has_room c.commands.out) c.in-Err.stop c.tell_stop.result
-    c.commands.invariant.roomy c.in-Err.ensures.next
+    g.met.A.Answering.replies c.commands.invariant.roomy c.in-Err.ensures.next
     (λ fault.
     ⊎_elim
     (λ steady. (c.in-Err.ensures.fair.steady (c.commands.invariant.steady steady)).0 (ap Err fault))
@@ -45,35 +45,35 @@ returns-in-Err-clause-room g c = λ sound.
     sound)
     c.tell_stop.ensures.room
 
-pub returns-then-not-answer_command-clause-run : goal.returns-then-not-answer_command-clause-run
-returns-then-not-answer_command-clause-run g c = (
-  risen_later _ _ _ c.commands.invariant.sink c.if-not-answer_command.ensures.cause,
-  run_cut c.args.engine.now.directory c.args.engine.now.text c.commands.engine.text c.answer_command.new.engine.text (HasRisen (g.I.Source.faults c.args.input.now) (g.I.Source.faults c.next_command.new.input)) c.commands.reader c.next_command.new.self
+pub returns-then-not-answer-clause-run : goal.returns-then-not-answer-clause-run
+returns-then-not-answer-clause-run g c = (
+  risen_later _ _ _ c.commands.invariant.sink c.if-not-answer.ensures.cause,
+  run_cut {S = g.A.Answering.State} g.A.Answering.IsStep (g.A.Answering.state c.args.answering.now) (g.A.Answering.state c.commands.answering) (g.A.Answering.state c.answer.new.self) (HasRisen (g.I.Source.faults c.args.input.now) (g.I.Source.faults c.next_command.new.input)) c.commands.reader c.next_command.new.self
       (g.I.Source.rest c.args.input.now) (g.I.Source.rest c.commands.input) (g.I.Source.rest c.next_command.new.input)
-      (g.O.Sink.held c.args.out.now) (g.O.Sink.held c.commands.out) (g.O.Sink.held c.answer_command.new.out) c.in-Ok.command
+      (g.O.Sink.held c.args.out.now) (g.O.Sink.held c.commands.out) (g.O.Sink.held c.answer.new.out) c.in-Ok.command
       c.commands.invariant.progress c.in-Ok.ensures.next
-      (put_told _ _ _ _ _ _ _ (g.O.Sink.has_room c.commands.out) (g.O.Sink.has_room c.answer_command.new.out) c.answer_command.result false c.commands.invariant.directory c.if-not-answer_command.true c.answer_command.ensures.answered),
+      (put_told {S = g.A.Answering.State} g.A.Answering.IsStep (g.A.Answering.state c.commands.answering) _ (g.A.Answering.state c.answer.new.self) _ _ (g.O.Sink.has_room c.commands.out) (g.O.Sink.has_room c.answer.new.out) c.answer.result false c.if-not-answer.true c.answer.ensures.answered),
 )
 
-pub returns-then-not-answer_command-clause-room : goal.returns-then-not-answer_command-clause-room
-returns-then-not-answer_command-clause-room g c = λ sound cs more same lawful ended short has.
+pub returns-then-not-answer-clause-room : goal.returns-then-not-answer-clause-room
+returns-then-not-answer-clause-room g c = λ sound cs more same lawful ended short has.
     absurd (
-    roomy_taken c.args.engine.now.directory c.args.engine.now.text c.commands.engine.text c.answer_command.new.engine.text
+    roomy_taken {S = g.A.Answering.State} g.A.Answering.IsStep (g.A.Answering.state c.args.answering.now) (g.A.Answering.state c.commands.answering) (g.A.Answering.state c.answer.new.self)
     (g.I.Source.rest c.args.input.now) (g.I.Source.rest c.commands.input) (g.I.Source.rest c.next_command.new.input) c.commands.reader c.next_command.new.self
-    (g.O.Sink.has_room c.args.out.now) (g.O.Sink.has_room c.commands.out) (g.O.Sink.has_room c.answer_command.new.out) c.in-Ok.command
-    c.commands.invariant.roomy c.in-Ok.ensures.next
-    (room_told _ _ _ _ _ _ _ (g.O.Sink.has_room c.commands.out) (g.O.Sink.has_room c.answer_command.new.out) c.answer_command.result false c.commands.invariant.directory c.if-not-answer_command.true c.answer_command.ensures.answered)
+    (g.O.Sink.has_room c.args.out.now) (g.O.Sink.has_room c.commands.out) (g.O.Sink.has_room c.answer.new.out) c.in-Ok.command
+    g.met.A.Answering.replies c.commands.invariant.roomy c.in-Ok.ensures.next
+    (room_told {S = g.A.Answering.State} g.A.Answering.IsStep (g.A.Answering.state c.commands.answering) _ (g.A.Answering.state c.answer.new.self) _ _ (g.O.Sink.has_room c.commands.out) (g.O.Sink.has_room c.answer.new.out) c.answer.result false c.if-not-answer.true c.answer.ensures.answered)
     cs more same lawful ended short has
     )
 
 pub returns-then-is_end-clause-run : goal.returns-then-is_end-clause-run
 returns-then-is_end-clause-run g c = (
   tt,
-  run_done c.args.engine.now.directory c.args.engine.now.text c.commands.engine.text c.answer_command.new.engine.text (HasRisen (g.I.Source.faults c.args.input.now) (g.I.Source.faults c.next_command.new.input)) c.commands.reader c.next_command.new.self
+  run_done {S = g.A.Answering.State} g.A.Answering.IsStep (g.A.Answering.state c.args.answering.now) (g.A.Answering.state c.commands.answering) (g.A.Answering.state c.answer.new.self) (HasRisen (g.I.Source.faults c.args.input.now) (g.I.Source.faults c.next_command.new.input)) c.commands.reader c.next_command.new.self
       (g.I.Source.rest c.args.input.now) (g.I.Source.rest c.commands.input) (g.I.Source.rest c.next_command.new.input)
-      (g.O.Sink.held c.args.out.now) (g.O.Sink.held c.commands.out) (g.O.Sink.held c.answer_command.new.out) c.in-Ok.command
+      (g.O.Sink.held c.args.out.now) (g.O.Sink.held c.commands.out) (g.O.Sink.held c.answer.new.out) c.in-Ok.command
       c.commands.invariant.progress c.in-Ok.ensures.next
-      (put_told _ _ _ _ _ _ _ (g.O.Sink.has_room c.commands.out) (g.O.Sink.has_room c.answer_command.new.out) c.answer_command.result true c.commands.invariant.directory c.if-not-answer_command.false c.answer_command.ensures.answered)
+      (put_told {S = g.A.Answering.State} g.A.Answering.IsStep (g.A.Answering.state c.commands.answering) _ (g.A.Answering.state c.answer.new.self) _ _ (g.O.Sink.has_room c.commands.out) (g.O.Sink.has_room c.answer.new.out) c.answer.result true c.if-not-answer.false c.answer.ensures.answered)
       (c.is_end.ensures.0 c.if-is_end.true),
 )
 
@@ -81,22 +81,21 @@ pub commands-preserved : goal.commands-preserved
 commands-preserved g c =
     let not_end : c.in-Ok.command ≡ End → ⊥ = λ is. absurd (false≢true (sym c.if-is_end.false ∙ c.is_end.ensures.1 is)) in
     record {
-      directory = c.answer_command.ensures.directory ∙ c.commands.invariant.directory;
-      progress = progress_more c.args.engine.now.directory c.args.engine.now.text c.commands.engine.text c.answer_command.new.engine.text c.commands.reader c.next_command.new.self
+      progress = progress_more {S = g.A.Answering.State} g.A.Answering.IsStep (g.A.Answering.state c.args.answering.now) (g.A.Answering.state c.commands.answering) (g.A.Answering.state c.answer.new.self) c.commands.reader c.next_command.new.self
           (g.I.Source.rest c.args.input.now) (g.I.Source.rest c.commands.input) (g.I.Source.rest c.next_command.new.input)
-          (g.O.Sink.held c.args.out.now) (g.O.Sink.held c.commands.out) (g.O.Sink.held c.answer_command.new.out) c.in-Ok.command
+          (g.O.Sink.held c.args.out.now) (g.O.Sink.held c.commands.out) (g.O.Sink.held c.answer.new.out) c.in-Ok.command
           c.commands.invariant.progress c.in-Ok.ensures.next
-          (put_told _ _ _ _ _ _ _ (g.O.Sink.has_room c.commands.out) (g.O.Sink.has_room c.answer_command.new.out) c.answer_command.result true c.commands.invariant.directory c.if-not-answer_command.false c.answer_command.ensures.answered)
+          (put_told {S = g.A.Answering.State} g.A.Answering.IsStep (g.A.Answering.state c.commands.answering) _ (g.A.Answering.state c.answer.new.self) _ _ (g.O.Sink.has_room c.commands.out) (g.O.Sink.has_room c.answer.new.out) c.answer.result true c.if-not-answer.false c.answer.ensures.answered)
           not_end;
       input = omega (arith, c.commands.invariant.input, c.next_command.ensures.fair.counted);
-      sink = omega (arith, c.commands.invariant.sink, c.answer_command.ensures.counted);
+      sink = omega (arith, c.commands.invariant.sink, c.answer.ensures.counted);
       steady = λ steady. (c.next_command.ensures.fair.steady (c.commands.invariant.steady steady)).1;
       still = left_more (g.I.Source.rest c.args.input.now) (g.I.Source.rest c.commands.input) (g.I.Source.rest c.next_command.new.input) c.commands.reader c.next_command.new.self c.in-Ok.command
           c.commands.invariant.still c.in-Ok.ensures.next not_end;
-      roomy = roomy_more c.args.engine.now.directory c.args.engine.now.text c.commands.engine.text c.answer_command.new.engine.text
+      roomy = roomy_more {S = g.A.Answering.State} g.A.Answering.IsStep (g.A.Answering.state c.args.answering.now) (g.A.Answering.state c.commands.answering) (g.A.Answering.state c.answer.new.self)
           (g.I.Source.rest c.args.input.now) (g.I.Source.rest c.commands.input) (g.I.Source.rest c.next_command.new.input) c.commands.reader c.next_command.new.self
-          (g.O.Sink.has_room c.args.out.now) (g.O.Sink.has_room c.commands.out) (g.O.Sink.has_room c.answer_command.new.out) c.in-Ok.command
-          c.commands.invariant.roomy c.in-Ok.ensures.next
-          (room_told _ _ _ _ _ _ _ (g.O.Sink.has_room c.commands.out) (g.O.Sink.has_room c.answer_command.new.out) c.answer_command.result true c.commands.invariant.directory c.if-not-answer_command.false c.answer_command.ensures.answered)
+          (g.O.Sink.has_room c.args.out.now) (g.O.Sink.has_room c.commands.out) (g.O.Sink.has_room c.answer.new.out) c.in-Ok.command
+          g.met.A.Answering.replies c.commands.invariant.roomy c.in-Ok.ensures.next
+          (room_told {S = g.A.Answering.State} g.A.Answering.IsStep (g.A.Answering.state c.commands.answering) _ (g.A.Answering.state c.answer.new.self) _ _ (g.O.Sink.has_room c.commands.out) (g.O.Sink.has_room c.answer.new.out) c.answer.result true c.if-not-answer.false c.answer.ensures.answered)
           not_end;
     }

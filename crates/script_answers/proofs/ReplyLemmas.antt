@@ -1,0 +1,28 @@
+-- Each command of an edit has a reply.
+use Rattle.std.proofs.Common.{ℕ, List, codes, refl, inl}
+use Rattle.dir_compile.specs.declared.parts.Parts.{Parts}
+use Rattle.error_ledger.specs.Printing.{errors_text, tree_text}
+use Rattle.edit_script.specs.Command.{IsCommand}
+use Rattle.edit_script.specs.declared.command.Command.{Command}
+use Rattle.edit_script.specs.declared.command.Command.TheVariants.{Replace, Errors, Tree, Contrl, Text, End}
+use Rattle.edi_engine.specs.Edit.{stop_of}
+use Rattle.kept_text.specs.Edit.{text_with}
+use Rattle.kept_text.specs.Reading.{Reading}
+use Rattle.text_reading.specs.Errors.{errors_of}
+use Rattle.text_reading.specs.Summary.{contrl_to}
+use Rattle.text_reading.specs.Tree.{tree_of}
+use Rattle.script_answers.specs.Answers.{HasReplies}
+use Rattle.script_answers.specs.Reply.{IsEditStep, IsReply, contrl_reply, counted, edit_reply, line_of, text_after}
+
+some_reply : (dir : Parts) (text : List ℕ) (c : Command) → IsCommand c → (reply : List ℕ) × IsReply dir text c reply
+some_reply dir text (Replace at cut put) lawful = (edit_reply (stop_of text at cut put) (text_with text at cut put), refl)
+some_reply dir text Errors lawful = (errors_text (errors_of dir text), refl)
+some_reply dir text Tree lawful = (tree_text (tree_of dir text), refl)
+some_reply dir text (Contrl stamp reference) lawful = (contrl_reply (contrl_to dir text stamp reference), refl)
+some_reply dir text Text lawful = (counted (codes "text") text, refl)
+some_reply dir text End lawful = (line_of (codes "end"), refl)
+
+pub edit_replies : HasReplies IsEditStep
+edit_replies before c lawful =
+    let told = some_reply before.directory before.text c lawful in
+    (told.0, record { directory = before.directory; text = text_after before.text c }, (inl (told.1, refl), refl))

@@ -5,7 +5,7 @@ use Rattle.edi_ports.specs.Faults.{HasRisen}
 use Rattle.text_reading.specs.Placed.{AreMessagesPlaced}
 use Rattle.run_outcome.specs.Finish.{IsFinish}
 use Rattle.run_outcome.specs.Outcome.{Outcome}
-use Rattle.script_answers.specs.Script.{IsScriptAnswered}
+use Rattle.script_answers.specs.Edit.{IsScriptAnswered}
 use Rattle.run_outcome.specs.Opening.{IsOpening, IsUnopened, Opened}
 use Rattle.edicheck_core.specs.Due.{IsDue, Takes}
 use Rattle.edicheck_core.specs.Form.{Asked, Edit}

@@ -6,7 +6,7 @@ use Rattle.text_reading.specs.Placed.{AreMessagesPlaced}
 use Rattle.run_outcome.specs.Finish.{IsFinish}
 use Rattle.run_outcome.specs.Outcome.{memory_refused}
 use Rattle.script_answers.specs.Ran.{Ran}
-use Rattle.script_answers.specs.Script.{IsScriptAnswered}
+use Rattle.script_answers.specs.Edit.{IsScriptAnswered}
 
 -- what a status says of a script on a text that was opened: memory was refused before it, and nothing was taken; or it
 -- was answered

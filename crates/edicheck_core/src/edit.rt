@@ -4,7 +4,7 @@ ghost use Rattle.edi_ports.specs.Faults.{HasRisen};
 ghost use Rattle.run_outcome.specs.Held.{held_of};
 ghost use Rattle.run_outcome.specs.Outcome.{Outcome};
 ghost use Rattle.script_answers.specs.Ran.{left_of};
-ghost use Rattle.script_answers.specs.Script.{IsAnsweredInRoom, IsAnsweredWhole};
+ghost use Rattle.script_answers.specs.Edit.{IsAnsweredInRoom, IsAnsweredWhole};
 ghost use Rattle.run_outcome.specs.Opening.{IsToldOpening, Opened};
 ghost use Rattle.edicheck_core.specs.Answer.{IsEdited};
 ghost use Rattle.edicheck_core.specs.Due.{HasFailed};
@@ -18,7 +18,7 @@ use dir_compile::Directory;
 use edi_engine::Engine;
 use edi_ports::{Shelf, Sink, Source};
 use run_outcome::{Made, Status, finish, open_both};
-use script_answers::answer_script;
+use script_answers::{Editor, answer_script};
 use std::alloc::Global;
 use std::marker::Brand;
 use std::sync::ledger::{Blank, Ledger};
@@ -145,10 +145,11 @@ fn edit_counted<L: Ledger, M: Ledger, I: Source, O: Sink>(
     let mut lexed = Steps::<L>::start(lexing);
     let mut placed = Steps::<M>::start(placing);
     match Engine::open(alloc, directory, octets, &mut lexed, &mut placed) {
-        Ok(mut engine) => {
+        Ok(engine) => {
             // Its directory places the segments of messages in the trees of every text.
             let _directory = engine.directory();
-            answer_script(alloc, &mut engine, &mut lexed, &mut placed, input, out)
+            let mut editor = Editor::new(engine, lexed, placed);
+            answer_script(alloc, &mut editor, input, out)
         }
         Err(_) => finish(out, &Made::memory_refused()),
     }

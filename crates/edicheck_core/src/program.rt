@@ -5,7 +5,7 @@ ghost use Rattle.edi_ports.specs.Faults.{HasRisen};
 ghost use Rattle.run_outcome.specs.Finish.{IsFinish};
 ghost use Rattle.run_outcome.specs.Held.{held_of};
 ghost use Rattle.run_outcome.specs.Outcome.{Outcome, memory_refused};
-ghost use Rattle.script_answers.specs.Script.{IsAnsweredInRoom, IsAnsweredWhole};
+ghost use Rattle.script_answers.specs.Edit.{IsAnsweredInRoom, IsAnsweredWhole};
 ghost use Rattle.run_outcome.specs.Opening.{IsToldOpening, Opened};
 ghost use Rattle.edicheck_core.specs.Form.{Asked, Edit, form_of, form_shown, needs_of};
 ghost use Rattle.edicheck_core.specs.Lawful.{IsLawful};

@@ -1,5 +1,4 @@
 mod AnsweredLemmas
 mod EndedLemmas
-pub mod ReplyLemmas
 pub mod RoomLemmas
 mod RunLemmas

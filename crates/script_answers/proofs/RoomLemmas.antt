@@ -1,5 +1,5 @@
 -- A script that ends with `end` is answered whole where the sink has room for its replies.
-use Rattle.std.proofs.Common.{◌≡◌, ◌⊎◌, ⊎_elim, ◌+◌, ◌-◌, ◌++◌, ◌≤◌, ℕ, true, false, List, [], ◌∷◌, length, Option, Some, Ok, Err, refl, sym, ap, ◌∙◌, subst, inl, inr, arith, length-append}
+use Rattle.std.proofs.Common.{◌≡◌, ◌⊎◌, ⊎_elim, ◌+◌, ◌-◌, ◌++◌, ◌≤◌, ℕ, true, false, List, [], ◌∷◌, length, Option, Some, Ok, Err, refl, sym, ap, ◌∙◌, subst, inr, arith, length-append}
 use Rattle.std.proofs.lemmas.Bool.{false≢true}
 use Rattle.edit_script.specs.Next.{IsNext, Reader}
 use Rattle.edit_script.specs.Script.{AreCommands, script_text}

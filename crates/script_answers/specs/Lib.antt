@@ -1,5 +1,6 @@
 pub mod Answers
 pub mod Edit
+pub mod EditReplies
 pub mod Ran
 pub mod Replied
 pub mod Reply

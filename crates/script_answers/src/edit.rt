@@ -6,7 +6,9 @@ ghost use Rattle.script_answers.specs.Replied.{octets_of};
 ghost use Rattle.script_answers.specs.Reply.{IsEditStep};
 
 use crate::Answering;
-use crate::reply::{Reply, acknowledge, copy_text, list_errors, list_tree, or_no_memory, put_reply};
+use crate::reply::{
+    Reply, acknowledge, copy_text, list_errors, list_tree, or_no_memory, put_reply,
+};
 use edi_engine::{EditStop, Engine};
 use edi_ports::Sink;
 use edit_script::Command;
@@ -34,7 +36,7 @@ impl<'d, L: Ledger, M: Ledger> Model for Editor<'d, L, M> {
 impl<'d, L: Ledger, M: Ledger> Editor<'d, L, M> {
     /// An editor of the text of this engine.
     pub fn new(engine: Engine<'d>, lexed: Steps<L>, placed: Steps<M>) -> Editor<'d, L, M>
-        ensures { result ≡ engine }
+        ensures { result ≡ engine.entry }
     {
         Editor {
             engine,
@@ -64,7 +66,9 @@ impl<'d, L: Ledger, M: Ledger> Editor<'d, L, M> {
     fn replace(&mut self, alloc: Global, at: u64, cut: u64, put: &[u8]) -> Reply
         ensures { IsEditStep self.old (Replace at cut put.now) (octets_of result) self.new }
     {
-        let stop = self.engine.replace(alloc, at, cut, put, &mut self.lexed, &mut self.placed);
+        let stop = self
+            .engine
+            .replace(alloc, at, cut, put, &mut self.lexed, &mut self.placed);
         match stop {
             Ok(length) => Reply::Edited(length),
             Err(EditStop::Range) => Reply::Fixed(b"no range\n"),
@@ -77,7 +81,7 @@ impl<'d, L: Ledger, M: Ledger> Editor<'d, L, M> {
 impl<'d, L: Ledger, M: Ledger> Answering for Editor<'d, L, M> {
     ghost use Rattle.kept_text.specs.Reading.{Reading};
     ghost use Rattle.script_answers.specs.Reply.{IsEditStep};
-    ghost use Rattle.script_answers.proofs.ReplyLemmas.{edit_replies};
+    ghost use Rattle.script_answers.specs.EditReplies.{edit_replies};
 
     ghost State = { Reading };
 

@@ -6,7 +6,7 @@ use Rattle.edicheck_core.proofs.edit.edit_counted.Goals as goal
 
 pub returns-in-Ok-clause-run : goal.returns-in-Ok-clause-run
 returns-in-Ok-clause-run g c =
-    script_begun c.in-Ok.engine c.args.directory.now c.args.octets.now
+    script_begun c.in-Ok.engine c.new.result c.args.directory.now c.args.octets.now
     (record {
       input_before = left_of g.I.Source c.args.input.now;
       input_after = left_of g.I.Source c.answer_script.new.input;
@@ -14,12 +14,12 @@ returns-in-Ok-clause-run g c =
       sink_after = held_of g.O.Sink c.answer_script.new.out;
       status = c.answer_script.result;
     })
-    c.in-Ok.ensures.opened c.directory-directory.ensures.lawful_trees c.answer_script.ensures.run
+    c.in-Ok.ensures.opened c.new.ensures c.directory-directory.ensures.lawful_trees c.answer_script.ensures.run
 
 pub returns-in-Ok-clause-room : goal.returns-in-Ok-clause-room
 returns-in-Ok-clause-room g c = λ sound.
-    script_in_room c.in-Ok.engine c.args.directory.now c.args.octets.now (g.I.Source.rest c.args.input.now) (g.O.Sink.has_room c.args.out.now) c.answer_script.result
-    c.in-Ok.ensures.opened (c.answer_script.ensures.room sound)
+    script_in_room c.in-Ok.engine c.new.result c.args.directory.now c.args.octets.now (g.I.Source.rest c.args.input.now) (g.O.Sink.has_room c.args.out.now) c.answer_script.result
+    c.in-Ok.ensures.opened c.new.ensures (c.answer_script.ensures.room sound)
 
 pub returns-clause-room : goal.returns-clause-room
 returns-clause-room g c = λ sound.

@@ -1,20 +1,21 @@
--- Each command of an edit has a reply.
-use Rattle.std.proofs.Common.{ℕ, List, codes, refl, inl}
-use Rattle.dir_compile.specs.declared.parts.Parts.{Parts}
+-- For a law: each command of an edit has a reply.
+use Rattle.std.specs.Prelude.{codes, refl}
+use Rattle.std.proofs.Common.{inl}
+use Rattle.edi_tables.specs.Octets.{Octets}
+use Rattle.dir_compile.specs.Directory.{Directory}
 use Rattle.error_ledger.specs.Printing.{errors_text, tree_text}
 use Rattle.edit_script.specs.Command.{IsCommand}
 use Rattle.edit_script.specs.declared.command.Command.{Command}
 use Rattle.edit_script.specs.declared.command.Command.TheVariants.{Replace, Errors, Tree, Contrl, Text, End}
 use Rattle.edi_engine.specs.Edit.{stop_of}
 use Rattle.kept_text.specs.Edit.{text_with}
-use Rattle.kept_text.specs.Reading.{Reading}
 use Rattle.text_reading.specs.Errors.{errors_of}
 use Rattle.text_reading.specs.Summary.{contrl_to}
 use Rattle.text_reading.specs.Tree.{tree_of}
 use Rattle.script_answers.specs.Answers.{HasReplies}
 use Rattle.script_answers.specs.Reply.{IsEditStep, IsReply, contrl_reply, counted, edit_reply, line_of, text_after}
 
-some_reply : (dir : Parts) (text : List ℕ) (c : Command) → IsCommand c → (reply : List ℕ) × IsReply dir text c reply
+some_reply : (dir : Directory) (text : Octets) (c : Command) → IsCommand c → (reply : Octets) × IsReply dir text c reply
 some_reply dir text (Replace at cut put) lawful = (edit_reply (stop_of text at cut put) (text_with text at cut put), refl)
 some_reply dir text Errors lawful = (errors_text (errors_of dir text), refl)
 some_reply dir text Tree lawful = (tree_text (tree_of dir text), refl)

@@ -1,14 +1,17 @@
 -- How the text of a command is put together.
 use Rattle.std.proofs.Common.{◌≡◌, ◌++◌, ◌≤◌, ℕ, List, [], ◌∷◌, length, decimal, refl, sym, ap, ◌∙◌, subst, arith}
+use Rattle.std.specs.List.{Contains}
 use Rattle.contrl_segments.specs.declared.stamp.Stamp.{Stamp}
 use Rattle.contrl_segments.specs.Stamp.{stamp_text}
 use Rattle.edit_script.specs.declared.command.Command.{Command}
 use Rattle.edit_script.specs.declared.command.Command.TheVariants as command
+use Rattle.edit_script.specs.declared.grammar.Grammar.{Grammar}
+use Rattle.edit_script.specs.declared.grammar.Grammar.TheVariants.{Edit, Session}
 use Rattle.edit_script.specs.declared.name.Name.{Name}
 use Rattle.edit_script.specs.declared.name.Name.TheVariants.{Replace, Errors, Tree, Contrl, Text, End}
-use Rattle.edit_script.specs.Command.{command_text, IsTextOf}
+use Rattle.edit_script.specs.Command.{command_text, IsCommand, IsTextOf}
 use Rattle.edit_script.specs.Rest.{name_of, rest_text, IsRestText}
-use Rattle.edit_script.specs.Texts.{name_text, IsNameText, IsNumberText, IsStampText, IsReferenceText, IsPutText}
+use Rattle.edit_script.specs.Texts.{names_of, name_text, IsNameText, IsNumberText, IsStampText, IsReferenceText, IsPutText}
 use Rattle.edit_script.proofs.ChainLemmas.{IsChain, chain_once}
 use Rattle.edit_script.proofs.OnceLemmas.{IsOnce}
 use Rattle.edit_script.proofs.NameLemmas.{name_once}
@@ -138,14 +141,49 @@ command_fills Contrl =
 command_fills Text = (command.Text, [], (refl, tt, refl))
 command_fills End = (command.End, [], (refl, tt, refl))
 
-pub command_chain : IsChain IsNameText IsRestText IsTextOf (λ name c. c)
-command_chain = record {
-  joins = λ name c s t first next. (next.1, ap (λ (xs : List ℕ). xs ++ t) first ∙ ap (λ n. name_text n ++ t) (sym next.0) ∙ ap (λ (xs : List ℕ). name_text (name_of c) ++ xs) next.2 ∙ sym (name_and_rest c));
-  splits = λ c text is. (name_of c, c, name_text (name_of c), rest_text c, refl, (refl, is.0, refl), refl, is.1 ∙ name_and_rest c);
+-- a grammar's commands are those of a session that have its names
+pub widest : (g : Grammar) (c : Command) → IsCommand g c → IsCommand Session c
+widest g (command.Replace at cut put) is = is
+widest g command.Errors is = is
+widest g command.Tree is = is
+widest g (command.Contrl stamp reference) is = is
+widest g command.Text is = is
+widest g command.End is = is
+
+named_in : (g : Grammar) (c : Command) → IsCommand g c → Contains (names_of g) (name_of c)
+named_in Edit (command.Replace at cut put) is = (0, omega arith, refl)
+named_in Edit command.Errors is = (1, omega arith, refl)
+named_in Edit command.Tree is = (2, omega arith, refl)
+named_in Edit (command.Contrl stamp reference) is = (3, omega arith, refl)
+named_in Edit command.Text is = (4, omega arith, refl)
+named_in Edit command.End is = (5, omega arith, refl)
+named_in Session (command.Replace at cut put) is = (0, omega arith, refl)
+named_in Session command.Errors is = (1, omega arith, refl)
+named_in Session command.Tree is = (2, omega arith, refl)
+named_in Session (command.Contrl stamp reference) is = (3, omega arith, refl)
+named_in Session command.Text is = (4, omega arith, refl)
+named_in Session command.End is = (5, omega arith, refl)
+
+in_grammar : (g : Grammar) (c : Command) → Contains (names_of g) (name_of c) → IsCommand Session c → IsCommand g c
+in_grammar g (command.Replace at cut put) among is = is
+in_grammar g command.Errors among is = is
+in_grammar g command.Tree among is = is
+in_grammar g (command.Contrl stamp reference) among is = is
+in_grammar g command.Text among is = is
+in_grammar g command.End among is = is
+
+pub command_chain : (g : Grammar) → IsChain (IsNameText (names_of g)) IsRestText (IsTextOf g) (λ name c. c)
+command_chain g = record {
+  joins = λ name c s t first next. (
+    in_grammar g c (subst (Contains (names_of g)) (sym next.0) first.0) next.1,
+    ap (λ (xs : List ℕ). xs ++ t) first.1 ∙ ap (λ n. name_text n ++ t) (sym next.0) ∙ ap (λ (xs : List ℕ). name_text (name_of c) ++ xs) next.2 ∙ sym (name_and_rest c),
+  );
+  splits = λ c text is. (name_of c, c, name_text (name_of c), rest_text c, (named_in g c is.0, refl), (refl, widest g c is.0, refl), refl, is.1 ∙ name_and_rest c);
   fills = λ name s is. command_fills name;
-  once = name_once;
+  once = name_once (names_of g);
 }
 
 -- commands are told from each other by what they begin: none is a front of another
-pub command_once : IsOnce IsTextOf
-command_once = chain_once IsNameText IsRestText IsTextOf (λ name c. c) command_chain rest_once
+pub command_once : (g : Grammar) → IsOnce (IsTextOf g)
+command_once g =
+    chain_once (IsNameText (names_of g)) IsRestText (IsTextOf g) (λ name c. c) (command_chain g) rest_once

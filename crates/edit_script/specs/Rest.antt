@@ -4,6 +4,7 @@ use Rattle.edi_tables.specs.Octets.{Octets}
 use Rattle.contrl_segments.specs.Stamp.{stamp_text}
 use Rattle.edit_script.specs.declared.command.Command.{Command}
 use Rattle.edit_script.specs.declared.command.Command.TheVariants as command
+use Rattle.edit_script.specs.declared.grammar.Grammar.TheVariants.{Session}
 use Rattle.edit_script.specs.declared.name.Name.{Name}
 use Rattle.edit_script.specs.declared.name.Name.TheVariants.{Replace, Errors, Tree, Contrl, Text, End}
 use Rattle.edit_script.specs.Command.{IsCommand}
@@ -27,5 +28,6 @@ rest_text (command.Contrl stamp reference) = stamp_text stamp ++ 32 ∷ (referen
 rest_text command.Text = []
 rest_text command.End = []
 
+-- what follows that name in a command of a session, as is each command of an edit
 abbrev pub IsRestText : Name → Command → Octets → Type 0
-IsRestText name c text = (name_of c ≡ name) × IsCommand c × (text ≡ rest_text c)
+IsRestText name c text = (name_of c ≡ name) × IsCommand Session c × (text ≡ rest_text c)

@@ -1,17 +1,21 @@
 -- The parts of a command's text, each with the octet that ends it.
 use Rattle.std.specs.Prelude.{◌≡◌, ◌<◌, ◌≤◌, ◌+◌, ◌-◌, ◌*◌, ℕ, IsTrue, List, [], ◌∷◌, ◌++◌, length, codes, decimal}
 use Rattle.std.specs.Char.{is_ascii_digit}
+use Rattle.std.specs.List.{Contains}
 use Rattle.edi_tables.specs.Octets.{Octets}
 use Rattle.edi_octets.specs.Profile.{has_digits}
 use Rattle.contrl_segments.specs.declared.stamp.Stamp.{Stamp}
 use Rattle.contrl_segments.specs.Stamp.{IsStamp, stamp_text, is_reference_of}
+use Rattle.edit_script.specs.declared.grammar.Grammar.{Grammar}
+use Rattle.edit_script.specs.declared.grammar.Grammar.TheVariants.{Edit, Session}
 use Rattle.edit_script.specs.declared.name.Name.{Name}
 use Rattle.edit_script.specs.declared.name.Name.TheVariants.{Replace, Errors, Tree, Contrl, Text, End}
 use Rattle.edi_octets.specs.declared.octets.TheConstants.{LONGEST_TEXT}
 
--- every name
-abbrev pub all_names : List Name
-all_names = Replace ∷ Errors ∷ Tree ∷ Contrl ∷ Text ∷ End ∷ []
+-- the names of a grammar's commands
+abbrev pub names_of : Grammar → List Name
+names_of Edit = Replace ∷ Errors ∷ Tree ∷ Contrl ∷ Text ∷ End ∷ []
+names_of Session = Replace ∷ Errors ∷ Tree ∷ Contrl ∷ Text ∷ End ∷ []
 
 -- a name and the octet after it
 abbrev pub name_text : Name → Octets
@@ -22,8 +26,9 @@ name_text Contrl = codes "contrl "
 name_text Text = codes "text" ++ 10 ∷ []
 name_text End = codes "end" ++ 10 ∷ []
 
-abbrev pub IsNameText : Name → Octets → Type 0
-IsNameText name text = text ≡ name_text name
+-- one of these names
+abbrev pub IsNameText : List Name → Name → Octets → Type 0
+IsNameText names name text = Contains names name × (text ≡ name_text name)
 
 -- a number up to a greatest one
 abbrev pub IsNumberText : ℕ → ℕ → ℕ → Octets → Type 0

@@ -4,11 +4,13 @@
 mod allowance;
 mod command;
 mod data;
+mod grammar;
 mod name;
 mod reader;
 mod stop;
 mod words;
 
 pub use command::Command;
+pub use grammar::Grammar;
 pub use reader::ScriptReader;
 pub use stop::ScriptStop;

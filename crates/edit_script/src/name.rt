@@ -1,26 +1,18 @@
 //! The first word of a command.
-ghost use Rattle.std.specs.Prelude.{◌≡◌, nat_eq, find, IsErrOf};
+ghost use Rattle.std.specs.Prelude.{◌≡◌, ◌<◌, nat_eq, find, length, IsErrOf};
 ghost use Rattle.std.specs.List.{list_any, starts_with};
 ghost use Rattle.std.specs.Str.{bytes_eq};
 ghost use Rattle.edi_ports.specs.Faults.{IsFair};
 ghost use Rattle.edit_script.specs.Reading.{Reads, supply_of};
-ghost use Rattle.edit_script.specs.Texts.{all_names, name_text, IsNameText};
+ghost use Rattle.edit_script.specs.Texts.{name_text, names_of, IsNameText};
 
+use crate::Grammar;
 use crate::allowance::Allowance;
 use crate::stop::Halt;
 use edi_ports::Source;
 
 /// The most octets of a name with the octet after it.
 const LONGEST: usize = 8;
-
-const NAMES: [Name; 6] = [
-    Name::Replace,
-    Name::Errors,
-    Name::Tree,
-    Name::Contrl,
-    Name::Text,
-    Name::End,
-];
 
 /// Which command it is.
 #[derive(Clone, Copy, Debug, PartialEq, Eq)]
@@ -49,9 +41,29 @@ impl Name {
     }
 }
 
-/// The name that the next octets are, with the octet after it.
-pub(crate) fn take_name<I: Source>(allowance: &mut Allowance, input: &mut I) -> Result<Name, Halt>
-    ensures reads { Reads IsNameText (supply_of I.Source input.old allowance.old.left)
+/// The name of a command of the grammar that the next octets are, with the octet after it.
+pub(crate) fn take_name<I: Source>(
+    allowance: &mut Allowance,
+    input: &mut I,
+    grammar: Grammar,
+) -> Result<Name, Halt>
+    ensures reads { Reads (IsNameText (names_of grammar))
+        (supply_of I.Source input.old allowance.old.left)
+        (supply_of I.Source input.new allowance.new.left) result }
+    ensures fair { IsFair I.faults I.is_steady input.old input.new (IsErrOf result Halt.Fault) }
+{
+    take_listed(allowance, input, grammar.names())
+}
+
+/// Which of these names the next octets are, with the octet after it.
+pub(crate) fn take_listed<I: Source>(
+    allowance: &mut Allowance,
+    input: &mut I,
+    names: &[Name],
+) -> Result<Name, Halt>
+    requires some { 0 < length names.now }
+    ensures reads { Reads (IsNameText names.now)
+        (supply_of I.Source input.old allowance.old.left)
         (supply_of I.Source input.new allowance.new.left) result }
     ensures fair { IsFair I.faults I.is_steady input.old input.new (IsErrOf result Halt.Fault) }
 {
@@ -61,25 +73,25 @@ pub(crate) fn take_name<I: Source>(allowance: &mut Allowance, input: &mut I) -> 
         line[length] = allowance.take_octet(input)?;
         length += 1;
         let begun = &line[..length];
-        if let Some(name) = find_name(begun) {
+        if let Some(name) = find_name(names, begun) {
             return Ok(name);
         }
-        if !begins_name(begun) {
+        if !begins_name(names, begun) {
             return Err(Halt::Bad);
         }
     }
 }
 
-// The name that these octets are.
-fn find_name(line: &[u8]) -> Option<Name>
-    ensures { result ≡ find (λ name. bytes_eq (name_text name) line.now) all_names }
+// Which of these names the octets are.
+fn find_name(names: &[Name], line: &[u8]) -> Option<Name>
+    ensures { result ≡ find (λ name. bytes_eq (name_text name) line.now) names.now }
 {
-    NAMES.iter().copied().find(|name| name.octets() == line)
+    names.iter().copied().find(|name| name.octets() == line)
 }
 
-// Whether a name begins with these octets.
-fn begins_name(line: &[u8]) -> bool
-    ensures { result ≡ list_any (λ name. starts_with nat_eq (name_text name) line.now) all_names }
+// Whether one of these names begins with the octets.
+fn begins_name(names: &[Name], line: &[u8]) -> bool
+    ensures { result ≡ list_any (λ name. starts_with nat_eq (name_text name) line.now) names.now }
 {
-    NAMES.iter().any(|name| name.octets().starts_with(line))
+    names.iter().any(|name| name.octets().starts_with(line))
 }

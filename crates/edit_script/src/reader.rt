@@ -12,7 +12,7 @@ use crate::data::take_put;
 use crate::name::{Name, take_name};
 use crate::stop::Halt;
 use crate::words::{take_number, take_reference, take_stamp};
-use crate::{Command, ScriptStop};
+use crate::{Command, Grammar, ScriptStop};
 use edi_ports::Source;
 use std::alloc::Global;
 use std::marker::Model;
@@ -25,6 +25,7 @@ const MOST: u64 = 9_999_999_999_999_999_999;
 pub struct ScriptReader {
     allowance: Allowance,
     number: u32,
+    grammar: Grammar,
 }
 
 impl Model for ScriptReader {
@@ -33,23 +34,30 @@ impl Model for ScriptReader {
 
     ghost Value = { Reader };
 
-    ghost view = { λ r. record { left = r.allowance.left; number = r.number } };
+    ghost view = { λ r. record {
+      left = r.allowance.left;
+      number = r.number;
+      grammar = r.grammar;
+    } };
 
     ghost invariant = { λ r. r.allowance.left + r.number ≤ 1073741825 };
 }
 
 impl ScriptReader {
-    /// A reader of a script of at most `limit` octets.
+    /// A reader of the script of an edit, of at most `limit` octets.
     pub fn new(limit: u64) -> ScriptReader
         requires { limit ≤ 1073741824 }
-        ensures { result ≡ record { left = limit; number = 1 } }
+        ensures { result ≡ record { left = limit; number = 1; grammar = Grammar.Edit } }
     {
-        ScriptReader {
-            allowance: Allowance {
-                left: limit as usize,
-            },
-            number: 1,
-        }
+        reader_of(Grammar::Edit, limit)
+    }
+
+    /// A reader of the script of a session, of at most `limit` octets.
+    pub fn for_session(limit: u64) -> ScriptReader
+        requires { limit ≤ 1073741824 }
+        ensures { result ≡ record { left = limit; number = 1; grammar = Grammar.Session } }
+    {
+        reader_of(Grammar::Session, limit)
     }
 
     /// The next command, whose octets alone are taken. A bad line is told at the first octet that makes it one. Once
@@ -64,7 +72,7 @@ impl ScriptReader {
         ensures fair { IsFair I.faults I.is_steady input.old input.new
             (IsErrOf result ScriptStop.Fault) }
     {
-        match take_command(&mut self.allowance, alloc, input) {
+        match take_command(&mut self.allowance, alloc, input, self.grammar) {
             Ok(command) => {
                 self.number += 1;
                 Ok(command)
@@ -74,16 +82,31 @@ impl ScriptReader {
     }
 }
 
+// A reader before its first command.
+fn reader_of(grammar: Grammar, limit: u64) -> ScriptReader
+    requires { limit ≤ 1073741824 }
+    ensures { result ≡ record { left = limit; number = 1; grammar = grammar } }
+{
+    ScriptReader {
+        allowance: Allowance {
+            left: limit as usize,
+        },
+        number: 1,
+        grammar,
+    }
+}
+
 fn take_command<I: Source>(
     allowance: &mut Allowance,
     alloc: Global,
     input: &mut I,
+    grammar: Grammar,
 ) -> Result<Command, Halt>
-    ensures reads { Reads IsTextOf (supply_of I.Source input.old allowance.old.left)
+    ensures reads { Reads (IsTextOf grammar) (supply_of I.Source input.old allowance.old.left)
         (supply_of I.Source input.new allowance.new.left) result }
     ensures fair { IsFair I.faults I.is_steady input.old input.new (IsErrOf result Halt.Fault) }
 {
-    match take_name(allowance, input)? {
+    match take_name(allowance, input, grammar)? {
         Name::Replace => take_replace(allowance, alloc, input),
         Name::Errors => Ok(Command::Errors),
         Name::Tree => Ok(Command::Tree),

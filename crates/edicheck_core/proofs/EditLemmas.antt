@@ -2,14 +2,11 @@
 use Rattle.std.proofs.Common.{◌≡◌, ◌≤◌, ℕ, List, length, Option, Some, Result, Ok, Err, refl, sym, ap, ◌∙◌, subst, inl, inr}
 use Rattle.edi_ports.specs.declared.shelf.ShelfFile.{ShelfFile}
 use Rattle.dir_compile.specs.declared.parts.Parts.{Parts}
-use Rattle.kept_text.specs.Reading.{Reading}
 use Rattle.run_outcome.specs.Opening.{IsOpening, IsToldOpening, IsUnopened, Opened}
 use Rattle.run_outcome.specs.Outcome.{Outcome, memory_refused, read_failed}
 use Rattle.run_outcome.specs.declared.status.Status.{Status}
 use Rattle.script_answers.specs.Edit.{IsAnsweredInRoom}
-use Rattle.script_answers.specs.EditReplies.{edit_replies}
-use Rattle.script_answers.specs.Reply.{IsEditStep}
-use Rattle.script_answers.proofs.RoomLemmas.{room_for_memory}
+use Rattle.script_answers.proofs.EditLemmas.{edit_room_for_memory}
 use Rattle.edicheck_core.specs.Answer.{IsEdited}
 use Rattle.edicheck_core.specs.Begun.{IsScriptBegun}
 use Rattle.edicheck_core.specs.Form.{Asked, Edit}
@@ -40,7 +37,7 @@ told_words manifest name manifest' name' asked files begun IsSound P read words 
 pub refused_in_room : (room : ℕ → Type 0) (directory : Parts) (text : List ℕ) (before : Option (List ℕ)) (made : Outcome) (status : Status)
     → made ≡ memory_refused → ((n : ℕ) → room n → length made.output ≤ n → status ≡ made.status) → IsAnsweredInRoom directory text before room status
 refused_in_room room directory text before made status is told cs more same lawful ended short has =
-    let memory = room_for_memory {S = Reading} room IsEditStep (record { directory = directory; text = text }) cs edit_replies lawful has in
+    let memory = edit_room_for_memory room directory text cs lawful has in
     let fits : length made.output ≤ memory.0 = subst (λ (o : Outcome). length o.output ≤ memory.0) (sym is) memory.2 in
     inr (told memory.0 memory.1 fits ∙ ap (λ (o : Outcome). o.status) is)
 

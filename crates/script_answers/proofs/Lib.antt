@@ -1,4 +1,6 @@
 mod AnsweredLemmas
+pub mod EditLemmas
 mod EndedLemmas
-pub mod RoomLemmas
+mod NextLemmas
+mod RoomLemmas
 mod RunLemmas

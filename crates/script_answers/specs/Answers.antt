@@ -3,14 +3,15 @@ use Rattle.std.specs.Prelude.{◌≡◌, ◌<◌, ◌≤◌, ◌-◌, ℕ, Bool,
 use Rattle.edi_tables.specs.Octets.{Octets}
 use Rattle.edit_script.specs.Command.{IsCommand}
 use Rattle.edit_script.specs.declared.command.Command.{Command}
+use Rattle.edit_script.specs.declared.grammar.Grammar.{Grammar}
 
 -- what a command does: a state, the command, its reply, and the state after it
 abbrev pub Step : Type 0 → Type 1
 Step S = S → Command → Octets → S → Type 0
 
 -- each command of the grammar has a reply on each state
-abbrev pub HasReplies : {S : Type 0} → Step S → Type 0
-HasReplies {S} IsStep = (state : S) (c : Command) → IsCommand c → (reply : Octets) × (after : S) × IsStep state c reply after
+abbrev pub HasReplies : {S : Type 0} → Grammar → Step S → Type 0
+HasReplies {S} g IsStep = (state : S) (c : Command) → IsCommand g c → (reply : Octets) × (after : S) × IsStep state c reply after
 
 -- a command was answered, with this state after it, and the sink took its reply so
 abbrev pub IsAnswered : {S : Type 0} → Step S → S → Command → S → (Octets → Type 0) → Type 0

@@ -1,18 +1,20 @@
 //! What answers the commands of a script.
-ghost use Rattle.std.specs.Prelude.{◌≤◌, ℕ, List};
+ghost use Rattle.std.specs.Prelude.{◌≡◌, ◌≤◌, ℕ, List};
 ghost use Rattle.std.specs.Bool.{OnFalse};
 ghost use Rattle.edi_ports.specs.Faults.{HasRisen};
 ghost use Rattle.edit_script.specs.Command.{IsCommand};
-ghost use Rattle.edit_script.specs.declared.command.Command as command;
 ghost use Rattle.run_outcome.specs.Put.{IsPutOut};
 ghost use Rattle.script_answers.specs.Answers.{HasReplies, IsAnswered, TakesAll};
 
 use edi_ports::Sink;
-use edit_script::Command;
+use edit_script::{Command, Grammar};
 use std::alloc::Global;
 
 /// Something that answers commands, each by its state.
 pub trait Answering {
+    ghost use Rattle.edit_script.specs.declared.command.Command.{Command};
+    ghost use Rattle.edit_script.specs.declared.grammar.Grammar.{Grammar};
+
     /// What a state is.
     ghost State: { Type 0 };
 
@@ -20,12 +22,19 @@ pub trait Answering {
     ghost state: { Self → State };
 
     /// That a command on a state has this reply, and leaves that state.
-    ghost IsStep: { State → command.Command → List ℕ → State → Type 0 };
+    ghost IsStep: { State → Command → List ℕ → State → Type 0 };
+
+    /// Which commands it answers.
+    ghost grammar: { Grammar };
+
+    /// Which commands it answers.
+    fn grammar(&self) -> Grammar
+        ensures { result ≡ grammar };
 
     /// Answers a command, and puts the reply, which is whole before its first octet is put.
     /// `false` comes only where the sink failed.
     fn answer<O: Sink>(&mut self, alloc: Global, command: &Command, out: &mut O) -> bool
-        requires { IsCommand command.now }
+        requires { IsCommand grammar command.now }
         ensures answered { IsAnswered IsStep (state self.old) command.now (state self.new)
             (λ reply. IsPutOut (O.held out.old) (O.held out.new) reply result
             × TakesAll (O.has_room out.old) (O.has_room out.new) result reply) }
@@ -33,5 +42,5 @@ pub trait Answering {
         ensures cause { OnFalse result (HasRisen (O.faults out.old) (O.faults out.new)) };
 
     /// Each command has a reply on each state.
-    ghost replies: { HasReplies IsStep };
+    ghost replies: { HasReplies grammar IsStep };
 }

@@ -2,6 +2,7 @@
 ghost use Rattle.std.specs.Prelude.{◌≡◌};
 ghost use Rattle.edit_script.specs.Command.{IsCommand};
 ghost use Rattle.edit_script.specs.declared.command.Command.TheVariants.{Replace};
+ghost use Rattle.edit_script.specs.declared.grammar.Grammar.TheVariants.{Edit};
 ghost use Rattle.script_answers.specs.Replied.{octets_of};
 ghost use Rattle.script_answers.specs.Reply.{IsEditStep};
 
@@ -11,7 +12,7 @@ use crate::reply::{
 };
 use edi_engine::{EditStop, Engine};
 use edi_ports::Sink;
-use edit_script::Command;
+use edit_script::{Command, Grammar};
 use std::alloc::Global;
 use std::marker::Model;
 use std::sync::ledger::Ledger;
@@ -47,7 +48,7 @@ impl<'d, L: Ledger, M: Ledger> Editor<'d, L, M> {
 
     // The reply to a command, which is made.
     fn reply_to(&mut self, alloc: Global, command: &Command) -> Reply
-        requires { IsCommand command.now }
+        requires { IsCommand Edit command.now }
         ensures { IsEditStep self.old command.now (octets_of result) self.new }
     {
         match command {
@@ -89,7 +90,13 @@ impl<'d, L: Ledger, M: Ledger> Answering for Editor<'d, L, M> {
 
     ghost IsStep = { λ before. IsEditStep before };
 
+    ghost grammar = { Edit };
+
     ghost replies = { edit_replies };
+
+    fn grammar(&self) -> Grammar {
+        Grammar::Edit
+    }
 
     fn answer<O: Sink>(&mut self, alloc: Global, command: &Command, out: &mut O) -> bool {
         let reply = self.reply_to(alloc, command);

@@ -4,13 +4,13 @@ ghost use Rattle.std.specs.Bool.{OnFalse};
 ghost use Rattle.edi_ports.specs.Faults.{HasRisen};
 ghost use Rattle.run_outcome.specs.Finish.{IsFinish};
 ghost use Rattle.script_answers.specs.Ran.{left_of};
-ghost use Rattle.script_answers.specs.Script.{IsAnsweredInRoom, IsAnsweredWhole, IsScriptAnswered, stopped_by};
+ghost use Rattle.script_answers.specs.Script.{IsAnsweredInRoom, IsAnsweredWhole, IsScriptAnswered, longest_script, stopped_by};
 ghost use Rattle.run_outcome.specs.Held.{held_of};
 ghost use Rattle.run_outcome.specs.Put.{IsPutOut};
 
 use crate::Answering;
 use edi_ports::{Sink, Source};
-use edit_script::{Command, ScriptReader, ScriptStop};
+use edit_script::{Command, Grammar, ScriptReader, ScriptStop};
 use run_outcome::{Status, put_numbered, put_pair};
 use std::alloc::Global;
 
@@ -25,7 +25,7 @@ pub fn answer_script<A: Answering, I: Source, O: Sink>(
     input: &mut I,
     out: &mut O,
 ) -> Status
-    ensures run { IsScriptAnswered A.IsStep (A.state answering.old) (record {
+    ensures run { IsScriptAnswered A.grammar A.IsStep (A.state answering.old) (record {
       input_before = left_of I.Source input.old;
       input_after = left_of I.Source input.new;
       sink_before = held_of O.Sink out.old;
@@ -33,16 +33,16 @@ pub fn answer_script<A: Answering, I: Source, O: Sink>(
       status = result;
     }) }
     ensures steady { I.is_steady input.old → result ≢ Status.ReadFault }
-    ensures complete { IsAnsweredWhole (I.rest input.old)
+    ensures complete { IsAnsweredWhole A.grammar (I.rest input.old)
         (HasRisen (I.faults input.old) (I.faults input.new))
         (HasRisen (O.faults out.old) (O.faults out.new)) result }
 
     // A script that ends with `end` is answered whole where its input doesn't fail, or didn't, and the sink has room.
     ensures room { I.is_steady input.old ⊎ (HasRisen (I.faults input.old) (I.faults input.new) → ⊥)
-        → IsAnsweredInRoom A.IsStep (A.state answering.old)
+        → IsAnsweredInRoom A.grammar A.IsStep (A.state answering.old)
         (I.rest input.old) (O.has_room out.old) result }
 {
-    let mut reader = ScriptReader::new(LONGEST_SCRIPT);
+    let mut reader = reader_of(answering.grammar());
     'commands: loop {
         let command = match reader.next_command(alloc, input) {
             Ok(command) => command,
@@ -54,6 +54,16 @@ pub fn answer_script<A: Answering, I: Source, O: Sink>(
         if is_end(command) {
             return Status::Done;
         }
+    }
+}
+
+// A reader of a script of this grammar.
+fn reader_of(grammar: Grammar) -> ScriptReader
+    ensures { result ≡ record { left = longest_script; number = 1; grammar = grammar } }
+{
+    match grammar {
+        Grammar::Edit => ScriptReader::new(LONGEST_SCRIPT),
+        Grammar::Session => ScriptReader::for_session(LONGEST_SCRIPT),
     }
 }
 

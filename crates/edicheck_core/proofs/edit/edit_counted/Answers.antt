@@ -1,24 +1,25 @@
 use Rattle.run_outcome.specs.Held.{held_of}
-use Rattle.script_answers.specs.Ran.{left_of}
+use Rattle.script_answers.specs.Ran.{Ran, left_of}
+use Rattle.script_answers.proofs.EditLemmas.{edit_answered, edit_in_room}
 use Rattle.edicheck_core.proofs.EditLemmas.{refused_in_room}
-use Rattle.edicheck_core.proofs.ScriptLemmas.{script_begun, script_in_room}
+use Rattle.edicheck_core.proofs.ScriptLemmas.{script_begun}
 use Rattle.edicheck_core.proofs.edit.edit_counted.Goals as goal
 
 pub returns-in-Ok-clause-run : goal.returns-in-Ok-clause-run
 returns-in-Ok-clause-run g c =
-    script_begun c.in-Ok.engine c.new.result c.args.directory.now c.args.octets.now
-    (record {
+    let ran : Ran = record {
       input_before = left_of g.I.Source c.args.input.now;
       input_after = left_of g.I.Source c.answer_script.new.input;
       sink_before = held_of g.O.Sink c.args.out.now;
       sink_after = held_of g.O.Sink c.answer_script.new.out;
       status = c.answer_script.result;
-    })
-    c.in-Ok.ensures.opened c.new.ensures c.directory-directory.ensures.lawful_trees c.answer_script.ensures.run
+    } in
+    script_begun c.in-Ok.engine c.args.directory.now c.args.octets.now ran c.in-Ok.ensures.opened c.directory-directory.ensures.lawful_trees
+    (edit_answered c.in-Ok.engine c.new.result c.args.directory.now c.args.octets.now ran c.in-Ok.ensures.opened c.new.ensures c.answer_script.ensures.run)
 
 pub returns-in-Ok-clause-room : goal.returns-in-Ok-clause-room
 returns-in-Ok-clause-room g c = λ sound.
-    script_in_room c.in-Ok.engine c.new.result c.args.directory.now c.args.octets.now (g.I.Source.rest c.args.input.now) (g.O.Sink.has_room c.args.out.now) c.answer_script.result
+    edit_in_room c.in-Ok.engine c.new.result c.args.directory.now c.args.octets.now (g.I.Source.rest c.args.input.now) (g.O.Sink.has_room c.args.out.now) c.answer_script.result
     c.in-Ok.ensures.opened c.new.ensures (c.answer_script.ensures.room sound)
 
 pub returns-clause-room : goal.returns-clause-room

@@ -81,6 +81,26 @@ reads_rest P K R chain before mid now v (Ok w) first next =
 reads_rest P K R chain before mid now v (Err halt) first next =
     reads_next_halt P K R (λ v w. w) chain before mid now v halt first next
 
+-- ---- texts of two kinds that are the same
+
+part_as : {V W : Type 0} (P : V → List ℕ → Type 0) (R : W → List ℕ → Type 0) → ((v : V) (t : List ℕ) → P v t → IsSomeText R t) → (part : List ℕ) → IsPartOf (IsSomeText P) part → IsPartOf (IsSomeText R) part
+part_as P R goes part is = (is.0, is.1, goes is.2.0 (part ++ is.0) is.2.1)
+
+none_as : {V W : Type 0} (P : V → List ℕ → Type 0) (R : W → List ℕ → Type 0) → ((w : W) (t : List ℕ) → R w t → IsSomeText P t) → (octets : List ℕ) → BeginsNoneOf (IsSomeText P) octets → BeginsNoneOf (IsSomeText R) octets
+none_as P R comes octets none text more behind is same = none text more behind (comes is.0 text is.1) same
+
+halt_as : {V W : Type 0} (P : V → List ℕ → Type 0) (R : W → List ℕ → Type 0) → ((v : V) (t : List ℕ) → P v t → IsSomeText R t) → ((w : W) (t : List ℕ) → R w t → IsSomeText P t) → (at_end : Type 0) (after : ℕ) (taken : List ℕ) (halt : Halt) → IsHalt (IsSomeText P) at_end after taken halt → IsHalt (IsSomeText R) at_end after taken halt
+halt_as P R goes comes at_end after taken Bad is =
+    (is.0, is.1, is.2, part_as P R goes is.0 is.3, none_as P R comes taken is.4)
+halt_as P R goes comes at_end after taken Cut is = (part_as P R goes taken is.0, is.1, is.2)
+halt_as P R goes comes at_end after taken TooLong is = (part_as P R goes taken is.0, is.1)
+halt_as P R goes comes at_end after taken Fault is = (part_as P R goes taken is.0, is.1)
+halt_as P R goes comes at_end after taken Memory is = part_as P R goes taken is
+
+pub reads_as : {V W : Type 0} (P : V → List ℕ → Type 0) (R : W → List ℕ → Type 0) → ((v : V) (t : List ℕ) → P v t → IsSomeText R t) → ((w : W) (t : List ℕ) → R w t → IsSomeText P t) → (before now : Supply) (halt : Halt) → Reads P before now (Err halt) → Reads R before now (Err halt)
+reads_as P R goes comes before now halt is =
+    (is.0, is.1, halt_as P R goes comes (IsAtEnd before.rest now.rest) now.allowance is.0 halt is.2)
+
 -- ---- a chain of texts that are once is once
 
 pub chain_once : {V X W : Type 0} (P : V → List ℕ → Type 0) (K : V → X → List ℕ → Type 0) (R : W → List ℕ → Type 0) (make : V → X → W) → IsChain P K R make → ((v : V) → IsOnce (K v)) → IsOnce R

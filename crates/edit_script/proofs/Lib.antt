@@ -1,9 +1,11 @@
 pub mod ChainLemmas
 pub mod DataLemmas
 pub mod DigitLemmas
+pub mod EditLemmas
 pub mod EndedLemmas
 pub mod GrammarLemmas
 pub mod NameLemmas
+pub mod NextLemmas
 pub mod NumberLemmas
 pub mod OnceLemmas
 pub mod PartLemmas

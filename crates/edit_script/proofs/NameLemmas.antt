@@ -1,5 +1,5 @@
 -- The names of commands, each with the octet after it.
-use Rattle.std.proofs.Common.{◌≡◌, ◌++◌, ◌<◌, ◌≤◌, ◌==◌, ℕ, suc, Bool, true, false, nat_eq, List, [], ◌∷◌, length, drop, Option, Some, None, if◌then◌else◌, find, ◌⊎◌, inl, inr, ⊎_elim, refl, sym, ap, ◌∙◌, arith, length-append, append_assoc}
+use Rattle.std.proofs.Common.{◌≡◌, ◌++◌, ◌<◌, ◌≤◌, ◌==◌, ℕ, zero, suc, Bool, true, false, nat_eq, List, [], ◌∷◌, length, drop, Option, Some, None, if◌then◌else◌, find, ◌⊎◌, inl, inr, ⊎_elim, refl, sym, ap, ◌∙◌, arith, length-append, append_assoc}
 use Rattle.std.proofs.lemmas.Bool.{cases_Bool}
 use Rattle.std.proofs.lemmas.Bool.Decides.{Decides-eqb}
 use Rattle.std.proofs.lemmas.List.{append-nil}
@@ -7,19 +7,23 @@ use Rattle.std.proofs.lemmas.List.Folds.{list_any_at}
 use Rattle.std.proofs.lemmas.Slice.Eq.{starts_is, bytes_eq-Decides}
 use Rattle.std.specs.List.{Contains, list_any, starts_with}
 use Rattle.std.specs.Str.{bytes_eq}
+use Rattle.edit_script.specs.declared.grammar.Grammar.TheVariants.{Edit}
 use Rattle.edit_script.specs.declared.name.Name.{Name}
-use Rattle.edit_script.specs.declared.name.Name.TheVariants.{Replace, Errors, Tree, Contrl, Text, End}
+use Rattle.edit_script.specs.declared.name.Name.TheVariants.{Replace, Errors, Tree, Contrl, Text, End, Undo, Redo, Batch}
 use Rattle.edit_script.specs.Beginnings.{IsPartOf, BeginsNoneOf}
 use Rattle.edit_script.specs.Reading.{IsSomeText}
-use Rattle.edit_script.specs.Texts.{name_text, IsNameText}
+use Rattle.edit_script.specs.Texts.{names_of, name_text, IsNameText}
 use Rattle.edit_script.proofs.OnceLemmas.{IsOnce, none_after_part}
 
--- ---- names are told from each other by two octets
+-- ---- names are told from each other by three octets
 
 named : List ℕ → Option Name
-named (a ∷ b ∷ more) =
-    if a == 114 then Some Replace
-    else (if a == 99 then Some Contrl else (if b == 110 then Some End else (if a == 101 then Some Errors else (if b == 114 then Some Tree else Some Text))))
+named (a ∷ b ∷ d ∷ more) =
+    if a == 114 then (if d == 112 then Some Replace else Some Redo)
+    else (if a == 117 then Some Undo
+    else (if a == 99 then Some Contrl
+    else (if a == 98 then Some Batch
+    else (if b == 110 then Some End else (if a == 101 then Some Errors else (if b == 114 then Some Tree else Some Text))))))
 named octets = None
 
 named_by : (name : Name) (more : List ℕ) → named (name_text name ++ more) ≡ Some name
@@ -30,6 +34,9 @@ named_by Tree more = refl
 named_by Contrl more = refl
 named_by Text more = refl
 named_by End more = refl
+named_by Undo more = refl
+named_by Redo more = refl
+named_by Batch more = refl
 
 pub name_once : (names : List Name) → IsOnce (IsNameText names)
 name_once names v w s t more rest first second same =
@@ -75,6 +82,39 @@ finds_one test (first ∷ names) name some =
     let one = finds_one test names name (rw isnt at some) in (among_more first name names one.0, one.1))
     (cases_Bool (test first))
 
+-- the names that a session alone has
+pub is_own : Name → Bool
+is_own Replace = false
+is_own Errors = false
+is_own Tree = false
+is_own Contrl = false
+is_own Text = false
+is_own End = false
+is_own Undo = true
+is_own Redo = true
+is_own Batch = true
+
+pub own_undo : is_own Undo ≡ true
+unfolding is_own
+own_undo = refl
+
+pub own_redo : is_own Redo ≡ true
+unfolding is_own
+own_redo = refl
+
+pub own_batch : is_own Batch ≡ true
+unfolding is_own
+own_batch = refl
+
+pub not_of_edit : (name : Name) → is_own name ≡ true → Contains (names_of Edit) name → ⊥
+unfolding is_own
+not_of_edit name own among = fails_all is_own (names_of Edit) refl name among own
+
+-- of one name there is no other
+pub only_name : (name other : Name) → Contains (name ∷ []) other → name ≡ other
+only_name name other (zero, below, is) = is
+only_name name other (suc k, below, is) = absurd (omega arith)
+
 -- ---- a line as far as it was taken
 
 pub name_found : (names : List Name) (line : List ℕ) (name : Name) → find (λ name. bytes_eq (name_text name) line) names ≡ Some name → IsNameText names name line
@@ -89,6 +129,9 @@ name_filled Tree = omega arith
 name_filled Contrl = omega arith
 name_filled Text = omega arith
 name_filled End = omega arith
+name_filled Undo = omega arith
+name_filled Redo = omega arith
+name_filled Batch = omega arith
 
 pub name_part_empty : (names : List Name) → 0 < length names → IsPartOf (IsSomeText (IsNameText names)) []
 name_part_empty [] some = absurd (omega arith)
@@ -124,6 +167,9 @@ name_short Tree = omega arith
 name_short Contrl = omega arith
 name_short Text = omega arith
 name_short End = omega arith
+name_short Undo = omega arith
+name_short Redo = omega arith
+name_short Batch = omega arith
 
 pub name_part_short : (names : List Name) (front : List ℕ) → IsPartOf (IsSomeText (IsNameText names)) front → length front < 8
 name_part_short names front part =

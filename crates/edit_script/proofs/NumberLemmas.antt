@@ -35,20 +35,35 @@ number_bare n end few apart = bare_all is_ascii_digit end (decimal n) apart (dec
 
 -- ---- what begins a number
 
-pub number_part : (most end n : ℕ) → n ≤ most → IsPartOf (IsSomeText (IsNumberText most end)) (decimal n)
-number_part most end n within = ended_part (λ m. m ≤ most) decimal end n (decimal n) [] within (sym (append-nil (decimal n)))
+pub number_part : (least most end n : ℕ) → IsInRange least most n → IsPartOf (IsSomeText (IsNumberText least most end)) (decimal n)
+number_part least most end n within =
+    ended_part (IsInRange least most) decimal end n (decimal n) [] within (sym (append-nil (decimal n)))
 
-pub number_part_empty : (most end : ℕ) → IsPartOf (IsSomeText (IsNumberText most end)) []
-number_part_empty most end = ended_part (λ m. m ≤ most) decimal end 0 [] (decimal 0) (omega arith) refl
+pub number_part_empty : (least most end : ℕ) → least ≤ 1 → 9 ≤ most → IsPartOf (IsSomeText (IsNumberText least most end)) []
+number_part_empty least most end low wide =
+    ended_part (IsInRange least most) decimal end 1 [] (decimal 1) (low, omega arith) refl
 
-pub number_bad_first : (most end x : ℕ) → most < 10 ^ 19 → is_ascii_digit x ≡ false → BeginsNoneOf (IsSomeText (IsNumberText most end)) (x ∷ [])
-number_bad_first most end x fits other =
-    ended_none (λ m. m ≤ most) decimal end [] x tt
+pub number_bad_first : (least most end x : ℕ) → most < 10 ^ 19 → is_ascii_digit x ≡ false → BeginsNoneOf (IsSomeText (IsNumberText least most end)) (x ∷ [])
+number_bad_first least most end x fits other =
+    ended_none (IsInRange least most) decimal end [] x tt
     (λ v rest within is.
-    let few : v < 2 ^ 64 = omega (arith, within, fits) in
+    let few : v < 2 ^ 64 = omega (arith, within.1, fits) in
     let digit : is_ascii_digit x ≡ true = all_at is_ascii_digit [] x rest (ap (list_all is_ascii_digit) (sym is) ∙ decimal_all v few) in cc)
     (λ v within at_end is.
-    let few : v < 2 ^ 64 = omega (arith, within, fits) in
+    let few : v < 2 ^ 64 = omega (arith, within.1, fits) in
+    omega (arith, decimal_nonempty v few, ap length is))
+
+-- a first `0`, where no number may be 0
+pub number_bad_zero : (least most end x : ℕ) → most < 10 ^ 19 → least ≤ 1 → is_ascii_digit x ≡ true → x - 48 < least → BeginsNoneOf (IsSomeText (IsNumberText least most end)) (x ∷ [])
+number_bad_zero least most end x fits low digit under =
+    ended_none (IsInRange least most) decimal end [] x tt
+    (λ v rest within is.
+    let few : v < 2 ^ 64 = omega (arith, within.1, fits) in
+    let some : 0 < v = omega (arith, within.0, under) in
+    let first = first_decimal v some few in
+    omega (arith, first, ap (λ (xs : List ℕ). get_or xs 0 0) is, digit_range x digit, under, low))
+    (λ v within at_end is.
+    let few : v < 2 ^ 64 = omega (arith, within.1, fits) in
     omega (arith, decimal_nonempty v few, ap length is))
 
 -- the number that more digits make is at least that of some of them
@@ -80,19 +95,19 @@ zero_alone v x rest few is =
     (λ (some : 0 < v). let first = first_decimal v some few in omega (arith, first, ap (λ (xs : List ℕ). get_or xs 0 0) starts))
     (zero_or_more v)
 
-pub number_bad : (most end n x : ℕ) → most < 10 ^ 19 → is_ascii_digit end ≡ false → n ≤ most → x ≢ end → ((longer : ℕ) → IsLonger n x longer → longer ≤ most → ⊥) → BeginsNoneOf (IsSomeText (IsNumberText most end)) (decimal n ++ x ∷ [])
-number_bad most end n x fits apart within other none =
-    let n_few : n < 2 ^ 64 = omega (arith, within, fits) in
-    ended_none (λ m. m ≤ most) decimal end (decimal n) x (number_bare n end n_few apart)
+pub number_bad : (least most end n x : ℕ) → most < 10 ^ 19 → is_ascii_digit end ≡ false → IsInRange least most n → x ≢ end → ((longer : ℕ) → IsLonger n x longer → longer ≤ most → ⊥) → BeginsNoneOf (IsSomeText (IsNumberText least most end)) (decimal n ++ x ∷ [])
+number_bad least most end n x fits apart within other none =
+    let n_few : n < 2 ^ 64 = omega (arith, within.1, fits) in
+    ended_none (IsInRange least most) decimal end (decimal n) x (number_bare n end n_few apart)
     (λ v rest good is.
-    let few : v < 2 ^ 64 = omega (arith, good, fits) in
+    let few : v < 2 ^ 64 = omega (arith, good.1, fits) in
     let digit : is_ascii_digit x ≡ true = all_at is_ascii_digit (decimal n) x rest (ap (list_all is_ascii_digit) (sym is) ∙ decimal_all v few) in
     let some : 0 < n = ⊎_elim
     (λ (zero_is : n ≡ 0). absurd (zero_alone v x rest few (is ∙ ap (λ (m : ℕ). decimal m ++ x ∷ rest) zero_is)))
     (λ (more_is : 0 < n). more_is)
     (zero_or_more n) in
     let more = grows n v x rest n_few few digit is in
-    none (n * 10 + (x - 48)) (some, digit, refl) (omega (arith, more, good)))
+    none (n * 10 + (x - 48)) (some, digit, refl) (omega (arith, more, good.1)))
     (λ v good at_end is. other at_end)
 
 -- ---- one more digit
@@ -121,8 +136,8 @@ takes_longer before mid now most n x longer fits is within first next =
 
 -- ---- numbers are told from each other
 
-pub number_once : (most end : ℕ) → most < 10 ^ 19 → is_ascii_digit end ≡ false → IsOnce (IsNumberText most end)
-number_once most end fits apart =
-    ended_once (λ m. m ≤ most) decimal end
-    (λ v good. number_bare v end (omega (arith, good, fits)) apart)
-    (λ v w good fair same. decimal_injective v w (omega (arith, good, fits)) (omega (arith, fair, fits)) same)
+pub number_once : (least most end : ℕ) → most < 10 ^ 19 → is_ascii_digit end ≡ false → IsOnce (IsNumberText least most end)
+number_once least most end fits apart =
+    ended_once (IsInRange least most) decimal end
+    (λ v good. number_bare v end (omega (arith, good.1, fits)) apart)
+    (λ v w good fair same. decimal_injective v w (omega (arith, good.1, fits)) (omega (arith, fair.1, fits)) same)

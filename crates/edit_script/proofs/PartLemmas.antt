@@ -34,13 +34,13 @@ put_along : (put s t : List ℕ) (n : ℕ) → length put ≡ n → s ≡ decima
 put_along put s t n long first next =
     ended s (decimal n) t 10 first ∙ ap (λ (m : ℕ). decimal m ++ 10 ∷ t) (sym long) ∙ ap (λ (xs : List ℕ). decimal (length put) ++ 10 ∷ xs) next
 
-pub put_chain : IsChain (IsNumberText 4194304 10) IsDataText IsPutText (λ n put. put)
+pub put_chain : IsChain (IsNumberText 0 4194304 10) IsDataText IsPutText (λ n put. put)
 put_chain = record {
-  joins = λ n put s t first next. (omega (arith, first.0, next.0), put_along put s t n next.0 first.1 next.1);
-  splits = λ put text is. (length put, put, decimal (length put) ++ 10 ∷ [], put ++ 10 ∷ [], (is.0, refl), (refl, refl), refl, is.1 ∙ sym (put_along put (decimal (length put) ++ 10 ∷ []) (put ++ 10 ∷ []) (length put) refl refl refl));
+  joins = λ n put s t first next. (omega (arith, first.0.1, next.0), put_along put s t n next.0 first.1 next.1);
+  splits = λ put text is. (length put, put, decimal (length put) ++ 10 ∷ [], put ++ 10 ∷ [], ((omega arith, is.0), refl), (refl, refl), refl, is.1 ∙ sym (put_along put (decimal (length put) ++ 10 ∷ []) (put ++ 10 ∷ []) (length put) refl refl refl));
   fills = λ n s is. (replicate n 0, replicate n 0 ++ 10 ∷ [], (length-replicate n 0, refl));
-  once = number_once 4194304 10 (omega arith) refl;
+  once = number_once 0 4194304 10 (omega arith) refl;
 }
 
 pub put_once : IsOnce IsPutText
-put_once = chain_once (IsNumberText 4194304 10) IsDataText IsPutText (λ n put. put) put_chain data_once
+put_once = chain_once (IsNumberText 0 4194304 10) IsDataText IsPutText (λ n put. put) put_chain data_once

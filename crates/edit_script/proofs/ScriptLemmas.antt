@@ -1,11 +1,15 @@
 -- Commands, parts and bad lines are told from each other, and so is the list of commands that a script begins with.
-use Rattle.std.proofs.Common.{◌≡◌, ◌++◌, ◌≤◌, ℕ, List, [], ◌∷◌, length, decimal, ◌⊎◌, inl, inr, ⊎_elim, refl, sym, ap, ◌∙◌, arith, length-append, append_assoc}
+use Rattle.std.proofs.Common.{◌≡◌, ◌*◌, ◌++◌, ◌≤◌, ℕ, List, [], ◌∷◌, length, decimal, ◌⊎◌, inl, inr, ⊎_elim, refl, sym, ap, ◌∙◌, arith, length-append, append_assoc}
 use Rattle.std.proofs.lemmas.Fmt.{length-decimal-le}
 use Rattle.std.proofs.lemmas.List.{append-nil, append_cancel_left}
+use Rattle.std.proofs.lemmas.List.Elements.{All-head, All-tail}
+use Rattle.std.specs.List.{All}
 use Rattle.edit_script.specs.declared.command.Command.{Command}
+use Rattle.edit_script.specs.declared.command.EditSpec.{EditSpec}
 use Rattle.edit_script.specs.declared.grammar.Grammar.{Grammar}
-use Rattle.edit_script.specs.declared.command.Command.TheVariants.{Replace, Errors, Tree, Contrl, Text, End}
-use Rattle.edit_script.specs.Command.{command_text, IsCommand, IsTextOf, IsPart, BeginsNone, IsBadLine}
+use Rattle.edit_script.specs.declared.grammar.Grammar.TheVariants.{Edit, Session}
+use Rattle.edit_script.specs.declared.command.Command.TheVariants.{Replace, Errors, Tree, Contrl, Text, End, Undo, Redo, Batch}
+use Rattle.edit_script.specs.Command.{edit_text, edits_text, command_text, IsEdit, IsCommand, IsTextOf, IsPart, BeginsNone, IsBadLine}
 use Rattle.edit_script.specs.Script.{script_text, AreCommands}
 use Rattle.edit_script.proofs.GrammarLemmas.{command_once}
 use Rattle.edit_script.proofs.DigitLemmas.{has_all}
@@ -21,24 +25,37 @@ command_filled Tree = omega arith
 command_filled (Contrl stamp reference) = omega arith
 command_filled Text = omega arith
 command_filled End = omega arith
+command_filled Undo = omega arith
+command_filled Redo = omega arith
+command_filled (Batch edits) = omega arith
 
--- a command has at most 4,194,361 octets
-pub command_short : (g : Grammar) (c : Command) → IsCommand g c → length (command_text c) ≤ 4194361
-command_short g (Replace at cut put) lawful =
-    let places = length-decimal-le 19 at (omega arith) lawful.0 (omega (arith, lawful.0)) in
-    let cuts = length-decimal-le 19 cut (omega arith) lawful.1 (omega (arith, lawful.1)) in
-    let sizes = length-decimal-le 7 (length put) (omega arith) (omega (arith, lawful.2)) (omega (arith, lawful.2)) in
+-- an edit has at most 4,194,361 octets
+edit_short : (e : EditSpec) → IsEdit e → length (edit_text e) ≤ 4194361
+edit_short e good =
+    let places = length-decimal-le 19 e.at (omega arith) good.0 (omega (arith, good.0)) in
+    let cuts = length-decimal-le 19 e.cut (omega arith) good.1 (omega (arith, good.1)) in
+    let sizes = length-decimal-le 7 (length e.put) (omega arith) (omega (arith, good.2)) (omega (arith, good.2)) in
     omega (
       arith,
       places,
       cuts,
       sizes,
-      lawful.2,
-      length-append (decimal at) (32 ∷ (decimal cut ++ 32 ∷ (decimal (length put) ++ 10 ∷ (put ++ 10 ∷ [])))),
-      length-append (decimal cut) (32 ∷ (decimal (length put) ++ 10 ∷ (put ++ 10 ∷ []))),
-      length-append (decimal (length put)) (10 ∷ (put ++ 10 ∷ [])),
-      length-append put (10 ∷ []),
+      good.2,
+      length-append (decimal e.at) (32 ∷ (decimal e.cut ++ 32 ∷ (decimal (length e.put) ++ 10 ∷ (e.put ++ 10 ∷ [])))),
+      length-append (decimal e.cut) (32 ∷ (decimal (length e.put) ++ 10 ∷ (e.put ++ 10 ∷ []))),
+      length-append (decimal (length e.put)) (10 ∷ (e.put ++ 10 ∷ [])),
+      length-append e.put (10 ∷ []),
     )
+
+edits_short : (es : List EditSpec) → All IsEdit es → length (edits_text es) ≤ length es * 4194361
+edits_short [] good = omega arith
+edits_short (e ∷ es) good =
+    omega (arith, edit_short e (All-head IsEdit e es good), edits_short es (All-tail IsEdit e es good), length-append (edit_text e) (edits_text es))
+
+-- a command has at most 67,110,000 octets
+pub command_short : (g : Grammar) (c : Command) → IsCommand g c → length (command_text c) ≤ 67110000
+command_short g (Replace at cut put) lawful =
+    omega (arith, edit_short (record { at = at; cut = cut; put = put }) lawful)
 command_short g Errors lawful = omega arith
 command_short g Tree lawful = omega arith
 command_short g (Contrl stamp reference) lawful =
@@ -48,6 +65,15 @@ command_short g (Contrl stamp reference) lawful =
     omega (arith, date.0, time.0, word.1, length-append (stamp.date ++ 58 ∷ stamp.time) (32 ∷ (reference ++ 10 ∷ [])), length-append stamp.date (58 ∷ stamp.time), length-append reference (10 ∷ []))
 command_short g Text lawful = omega arith
 command_short g End lawful = omega arith
+command_short Edit Undo lawful = absurd lawful
+command_short Edit Redo lawful = absurd lawful
+command_short Edit (Batch edits) lawful = absurd lawful
+command_short Session Undo lawful = omega arith
+command_short Session Redo lawful = omega arith
+command_short Session (Batch edits) lawful =
+    let counts = length-decimal-le 2 (length edits) (omega arith) (omega (arith, lawful.1)) (omega (arith, lawful.1)) in
+    let texts = edits_short edits lawful.2 in
+    omega (arith, counts, texts, lawful.1, length-append (decimal (length edits)) (10 ∷ edits_text edits))
 
 -- ---- commands
 

@@ -1,32 +1,59 @@
 -- The grammar of commands.
-use Rattle.std.specs.Prelude.{◌≡◌, ◌<◌, ◌≤◌, ◌^◌, IsTrue, ⊤, [], ◌∷◌, ◌++◌, length, codes, decimal}
+use Rattle.std.specs.Prelude.{◌≡◌, ◌<◌, ◌≤◌, ◌^◌, IsTrue, ⊤, List, [], ◌∷◌, ◌++◌, length, codes, decimal}
+use Rattle.std.specs.List.{All}
 use Rattle.edi_tables.specs.Octets.{Octets}
 use Rattle.edit_script.specs.declared.command.Command.{Command}
-use Rattle.edit_script.specs.declared.command.Command.TheVariants.{Replace, Errors, Tree, Contrl, Text, End}
+use Rattle.edit_script.specs.declared.command.Command.TheVariants.{Replace, Errors, Tree, Contrl, Text, End, Undo, Redo, Batch}
+use Rattle.edit_script.specs.declared.command.EditSpec.{EditSpec}
 use Rattle.edit_script.specs.declared.grammar.Grammar.{Grammar}
+use Rattle.edit_script.specs.declared.grammar.Grammar.TheVariants.{Edit, Session}
 use Rattle.contrl_segments.specs.Stamp.{IsStamp, stamp_text, is_reference_of}
 use Rattle.edit_script.specs.Beginnings.{IsPartOf, BeginsNoneOf, IsBadOf}
 use Rattle.edi_octets.specs.declared.octets.TheConstants.{LONGEST_TEXT}
 
--- the text of a command: a line of words separated by one space, ended by LF; for `replace` then its octets, and LF
+-- the text of an edit: its line of words, and then the octets that it puts, and LF
+abbrev pub edit_text : EditSpec → Octets
+edit_text e =
+    codes "replace "
+    ++ (decimal e.at ++ 32 ∷ (decimal e.cut ++ 32 ∷ (decimal (length e.put) ++ 10 ∷ (e.put ++ 10 ∷ []))))
+
+-- the texts of edits, one after the other
+abbrev pub edits_text : List EditSpec → Octets
+edits_text [] = []
+edits_text (e ∷ es) = edit_text e ++ edits_text es
+
+-- the text of a command: a line of words separated by one space, ended by LF; for `replace` then its octets, and LF;
+-- for `batch` then its edits, each with the text of a `replace`
 abbrev pub command_text : Command → Octets
-command_text (Replace at cut put) =
-    codes "replace " ++ (decimal at ++ 32 ∷ (decimal cut ++ 32 ∷ (decimal (length put) ++ 10 ∷ (put ++ 10 ∷ []))))
+command_text (Replace at cut put) = edit_text (record { at = at; cut = cut; put = put })
 command_text Errors = codes "errors" ++ 10 ∷ []
 command_text Tree = codes "tree" ++ 10 ∷ []
 command_text (Contrl stamp reference) = codes "contrl " ++ (stamp_text stamp ++ 32 ∷ (reference ++ 10 ∷ []))
 command_text Text = codes "text" ++ 10 ∷ []
 command_text End = codes "end" ++ 10 ∷ []
+command_text Undo = codes "undo" ++ 10 ∷ []
+command_text Redo = codes "redo" ++ 10 ∷ []
+command_text (Batch edits) = codes "batch " ++ (decimal (length edits) ++ 10 ∷ edits_text edits)
 
--- a command of the grammar: numbers of at most 19 digits, at most 4,194,304 octets to put, a stamp and a reference of
--- their form
+-- an edit of the grammar: numbers of at most 19 digits, and at most 4,194,304 octets to put
+abbrev pub IsEdit : EditSpec → Type 0
+IsEdit e = (e.at < 10 ^ 19) × (e.cut < 10 ^ 19) × (length e.put ≤ LONGEST_TEXT)
+
+-- a command of the grammar: an edit, a stamp and a reference of their form; `undo`, `redo` and `batch`, of 1 to 16
+-- edits, in a session alone
 abbrev pub IsCommand : Grammar → Command → Type 0
-IsCommand g (Replace at cut put) = (at < 10 ^ 19) × (cut < 10 ^ 19) × (length put ≤ LONGEST_TEXT)
+IsCommand g (Replace at cut put) = IsEdit (record { at = at; cut = cut; put = put })
 IsCommand g Errors = ⊤
 IsCommand g Tree = ⊤
 IsCommand g (Contrl stamp reference) = IsStamp stamp × IsTrue (is_reference_of reference)
 IsCommand g Text = ⊤
 IsCommand g End = ⊤
+IsCommand Edit Undo = ⊥
+IsCommand Edit Redo = ⊥
+IsCommand Edit (Batch edits) = ⊥
+IsCommand Session Undo = ⊤
+IsCommand Session Redo = ⊤
+IsCommand Session (Batch edits) = (1 ≤ length edits) × (length edits ≤ 16) × All IsEdit edits
 
 -- these octets are the text of that command
 abbrev pub IsTextOf : Grammar → Command → Octets → Type 0

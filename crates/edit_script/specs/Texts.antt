@@ -1,6 +1,7 @@
 -- The parts of a command's text, each with the octet that ends it.
 use Rattle.std.specs.Prelude.{◌≡◌, ◌<◌, ◌≤◌, ◌+◌, ◌-◌, ◌*◌, ℕ, IsTrue, List, [], ◌∷◌, ◌++◌, length, codes, decimal}
 use Rattle.std.specs.Char.{is_ascii_digit}
+use Rattle.std.specs.Int.{IsInRange}
 use Rattle.std.specs.List.{Contains}
 use Rattle.edi_tables.specs.Octets.{Octets}
 use Rattle.edi_octets.specs.Profile.{has_digits}
@@ -9,13 +10,13 @@ use Rattle.contrl_segments.specs.Stamp.{IsStamp, stamp_text, is_reference_of}
 use Rattle.edit_script.specs.declared.grammar.Grammar.{Grammar}
 use Rattle.edit_script.specs.declared.grammar.Grammar.TheVariants.{Edit, Session}
 use Rattle.edit_script.specs.declared.name.Name.{Name}
-use Rattle.edit_script.specs.declared.name.Name.TheVariants.{Replace, Errors, Tree, Contrl, Text, End}
+use Rattle.edit_script.specs.declared.name.Name.TheVariants.{Replace, Errors, Tree, Contrl, Text, End, Undo, Redo, Batch}
 use Rattle.edi_octets.specs.declared.octets.TheConstants.{LONGEST_TEXT}
 
 -- the names of a grammar's commands
 abbrev pub names_of : Grammar → List Name
 names_of Edit = Replace ∷ Errors ∷ Tree ∷ Contrl ∷ Text ∷ End ∷ []
-names_of Session = Replace ∷ Errors ∷ Tree ∷ Contrl ∷ Text ∷ End ∷ []
+names_of Session = Replace ∷ Errors ∷ Tree ∷ Contrl ∷ Text ∷ End ∷ Undo ∷ Redo ∷ Batch ∷ []
 
 -- a name and the octet after it
 abbrev pub name_text : Name → Octets
@@ -25,14 +26,17 @@ name_text Tree = codes "tree" ++ 10 ∷ []
 name_text Contrl = codes "contrl "
 name_text Text = codes "text" ++ 10 ∷ []
 name_text End = codes "end" ++ 10 ∷ []
+name_text Undo = codes "undo" ++ 10 ∷ []
+name_text Redo = codes "redo" ++ 10 ∷ []
+name_text Batch = codes "batch "
 
 -- one of these names
 abbrev pub IsNameText : List Name → Name → Octets → Type 0
 IsNameText names name text = Contains names name × (text ≡ name_text name)
 
--- a number up to a greatest one
-abbrev pub IsNumberText : ℕ → ℕ → ℕ → Octets → Type 0
-IsNumberText most end n text = (n ≤ most) × (text ≡ decimal n ++ end ∷ [])
+-- a number from a least to a greatest one
+abbrev pub IsNumberText : ℕ → ℕ → ℕ → ℕ → Octets → Type 0
+IsNumberText least most end n text = IsInRange least most n × (text ≡ decimal n ++ end ∷ [])
 
 -- so many digits
 abbrev pub IsDigitsText : ℕ → ℕ → Octets → Octets → Type 0

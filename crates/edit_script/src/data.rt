@@ -25,7 +25,7 @@ pub(crate) fn take_put<I: Source>(
         (supply_of I.Source input.new allowance.new.left) result }
     ensures fair { IsFair I.faults I.is_steady input.old input.new (IsErrOf result Halt.Fault) }
 {
-    let size = take_number(allowance, input, LONGEST_TEXT as u64, b'\n')?;
+    let size = take_number(allowance, input, 0, LONGEST_TEXT as u64, b'\n')?;
     take_data(allowance, alloc, input, size as usize)
 }
 

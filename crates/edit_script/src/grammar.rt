@@ -13,13 +13,16 @@ const NAMES_OF_AN_EDIT: [Name; 6] = [
     Name::End,
 ];
 
-const NAMES_OF_A_SESSION: [Name; 6] = [
+const NAMES_OF_A_SESSION: [Name; 9] = [
     Name::Replace,
     Name::Errors,
     Name::Tree,
     Name::Contrl,
     Name::Text,
     Name::End,
+    Name::Undo,
+    Name::Redo,
+    Name::Batch,
 ];
 
 /// Which commands a script may have: those of an edit, or those of a session.

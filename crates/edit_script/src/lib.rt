@@ -1,7 +1,8 @@
-//! The script of an edit: its commands, and their words, read from any source.
+//! The script of an edit or of a session: its commands, and their words, read from any source.
 #![tactic(auto)]
 
 mod allowance;
+mod batch;
 mod command;
 mod data;
 mod grammar;
@@ -10,7 +11,7 @@ mod reader;
 mod stop;
 mod words;
 
-pub use command::Command;
+pub use command::{Command, EditSpec};
 pub use grammar::Grammar;
 pub use reader::ScriptReader;
 pub use stop::ScriptStop;

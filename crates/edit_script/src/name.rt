@@ -23,6 +23,9 @@ pub(crate) enum Name {
     Contrl,
     Text,
     End,
+    Undo,
+    Redo,
+    Batch,
 }
 
 impl Name {
@@ -37,6 +40,9 @@ impl Name {
             Name::Contrl => b"contrl ",
             Name::Text => b"text\n",
             Name::End => b"end\n",
+            Name::Undo => b"undo\n",
+            Name::Redo => b"redo\n",
+            Name::Batch => b"batch ",
         }
     }
 }

@@ -8,17 +8,14 @@ ghost use Rattle.edit_script.specs.Rest.{IsRestText};
 ghost use Rattle.edit_script.specs.declared.name.Name.TheVariants as name;
 
 use crate::allowance::Allowance;
-use crate::data::take_put;
+use crate::batch::{take_batch, take_spec};
 use crate::name::{Name, take_name};
 use crate::stop::Halt;
-use crate::words::{take_number, take_reference, take_stamp};
-use crate::{Command, Grammar, ScriptStop};
+use crate::words::{take_reference, take_stamp};
+use crate::{Command, EditSpec, Grammar, ScriptStop};
 use edi_ports::Source;
 use std::alloc::Global;
 use std::marker::Model;
-
-/// The greatest number of a command's line, of 19 digits.
-const MOST: u64 = 9_999_999_999_999_999_999;
 
 /// Reads a script of at most so many octets, and counts its commands.
 #[derive(Debug, Drop)]
@@ -113,6 +110,9 @@ fn take_command<I: Source>(
         Name::Contrl => take_contrl(allowance, alloc, input),
         Name::Text => Ok(Command::Text),
         Name::End => Ok(Command::End),
+        Name::Undo => Ok(Command::Undo),
+        Name::Redo => Ok(Command::Redo),
+        Name::Batch => take_batch(allowance, alloc, input),
     }
 }
 
@@ -127,9 +127,7 @@ fn take_replace<I: Source>(
         (supply_of I.Source input.new allowance.new.left) result }
     ensures fair { IsFair I.faults I.is_steady input.old input.new (IsErrOf result Halt.Fault) }
 {
-    let at = take_number(allowance, input, MOST, b' ')?;
-    let cut = take_number(allowance, input, MOST, b' ')?;
-    let put = take_put(allowance, alloc, input)?;
+    let EditSpec { at, cut, put } = take_spec(allowance, alloc, input)?;
     Ok(Command::Replace { at, cut, put })
 }
 

@@ -16,17 +16,20 @@ use std::alloc::Global;
 /// The most octets of a reference.
 const LONGEST_REFERENCE: usize = 14;
 
-/// The number, of at most `most` and without leading zero, that the next octets up to `end` are.
+/// The number from `least` to `most`, without leading zero, that the next octets up to `end` are.
 pub(crate) fn take_number<I: Source>(
     allowance: &mut Allowance,
     input: &mut I,
+    least: u64,
     most: u64,
     end: u8,
 ) -> Result<u64, Halt>
+    requires low { least ≤ 1 }
     requires wide { 9 ≤ most }
     requires fits { most < 10 ^ 19 }
     requires apart { IsFalse (is_ascii_digit end) }
-    ensures reads { Reads (IsNumberText most end) (supply_of I.Source input.old allowance.old.left)
+    ensures reads { Reads (IsNumberText least most end)
+        (supply_of I.Source input.old allowance.old.left)
         (supply_of I.Source input.new allowance.new.left) result }
     ensures fair { IsFair I.faults I.is_steady input.old input.new (IsErrOf result Halt.Fault) }
 {
@@ -35,6 +38,9 @@ pub(crate) fn take_number<I: Source>(
         return Err(Halt::Bad);
     }
     let mut number = u64::from(first - b'0');
+    if number < least {
+        return Err(Halt::Bad);
+    }
     loop {
         let octet = allowance.take_octet(input)?;
         if octet == end {

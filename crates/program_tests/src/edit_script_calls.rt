@@ -41,8 +41,19 @@ fn read(
 ) -> Result<(u32, Option<ScriptStop>), AllocError>
     requires { limit ≤ 1073741824 }
 {
-    let mut input = source(alloc, octets, failing)?;
-    let mut reader = ScriptReader::new(limit);
+    read_by(
+        alloc,
+        ScriptReader::new(limit),
+        source(alloc, octets, failing)?,
+    )
+}
+
+// The same by that reader.
+fn read_by(
+    alloc: Global,
+    mut reader: ScriptReader,
+    mut input: MemSource,
+) -> Result<(u32, Option<ScriptStop>), AllocError> {
     for number in 0..9 {
         match reader.next_command(alloc, &mut input) {
             Ok(Command::End) => return Ok((number + 1, None)),
@@ -156,6 +167,99 @@ fn tells_a_bad_line_from_one_that_is_cut(rt: HostRuntime) -> Result<(), Fail> {
             stop,
             (0, Some(ScriptStop::CutShort { number: 1 })),
             "{cut:?}"
+        );
+    }
+    Ok(())
+}
+
+#[test]
+fn reads_what_a_session_tells(rt: HostRuntime) -> Result<(), Fail> {
+    let alloc = rt.alloc();
+    let mut input = source(
+        alloc,
+        b"undo\nredo\nbatch 2\nreplace 125 0 2\nXX\nreplace 0 999 0\n\nend\n",
+        &[],
+    )?;
+    let mut reader = ScriptReader::for_session(58);
+    let first = reader.next_command(alloc, &mut input);
+    assert!(rt; matches!(first, Ok(Command::Undo)), "{first:?}");
+    let second = reader.next_command(alloc, &mut input);
+    assert!(rt; matches!(second, Ok(Command::Redo)), "{second:?}");
+    match reader.next_command(alloc, &mut input) {
+        Ok(Command::Batch { edits }) => match edits.items() {
+            [one, two] => {
+                assert_eq!(rt; (one.at, one.cut), (125, 0));
+                assert_eq!(rt; one.put.octets(), b"XX".as_slice());
+                assert_eq!(rt; (two.at, two.cut), (0, 999));
+                assert_eq!(rt; two.put.octets(), b"".as_slice());
+            }
+            other => assert!(rt; false, "{other:?}"),
+        },
+        other => assert!(rt; false, "{other:?}"),
+    }
+    let last = reader.next_command(alloc, &mut input);
+    assert!(rt; matches!(last, Ok(Command::End)), "{last:?}");
+    Ok(())
+}
+
+#[test]
+fn tells_a_stop_in_a_batch_by_its_number(rt: HostRuntime) -> Result<(), Fail> {
+    let alloc = rt.alloc();
+    for (octets, whole, number) in [
+        (b"undo ".as_slice(), 0, 1),
+        (b"redo\r", 0, 1),
+        (b"batch 0", 0, 1),
+        (b"batch 17", 0, 1),
+        (b"batch 1\ne", 0, 1),
+        (b"batch 1\nb", 0, 1),
+        (b"batch 1\nreplace 0 0 0\nx", 0, 1),
+        (b"undo\nbatch 2\nreplace 0 0 0\n\ne", 1, 2),
+        (b"undo\nbatch 2\nreplace 0 0 0\n\nreplace 0 0 0\n\nx", 2, 3),
+    ] {
+        let stop = read_by(
+            alloc,
+            ScriptReader::for_session(100),
+            source(alloc, octets, &[])?,
+        )?;
+        assert_eq!(rt;
+            stop,
+            (whole, Some(ScriptStop::BadLine { number })),
+            "{octets:?}"
+        );
+    }
+    for (octets, whole, number) in [
+        (b"u".as_slice(), 0, 1),
+        (b"re", 0, 1),
+        (b"batch ", 0, 1),
+        (b"batch 1", 0, 1),
+        (b"batch 16\n", 0, 1),
+        (b"undo\nbatch 2\nreplace 0 0 0\n\n", 1, 2),
+        (b"undo\nbatch 2\nreplace 0 0 0\n\nreplace 0 0 1\nx", 1, 2),
+        (b"redo\nundo\nbatch 1\nreplace 0 0 0\n\n", 3, 4),
+    ] {
+        let stop = read_by(
+            alloc,
+            ScriptReader::for_session(100),
+            source(alloc, octets, &[])?,
+        )?;
+        assert_eq!(rt;
+            stop,
+            (whole, Some(ScriptStop::CutShort { number })),
+            "{octets:?}"
+        );
+    }
+    Ok(())
+}
+
+#[test]
+fn an_edit_has_no_command_of_a_session(rt: HostRuntime) -> Result<(), Fail> {
+    let alloc = rt.alloc();
+    for bad in [b"u".as_slice(), b"red", b"b"] {
+        let stop = read(alloc, bad, 100, &[])?;
+        assert_eq!(rt;
+            stop,
+            (0, Some(ScriptStop::BadLine { number: 1 })),
+            "{bad:?}"
         );
     }
     Ok(())

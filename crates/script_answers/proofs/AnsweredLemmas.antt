@@ -2,7 +2,7 @@
 use Rattle.std.proofs.Common.{◌≡◌, ◌⊎◌, ◌++◌, ◌<◌, ℕ, List, [], ◌∷◌, length, take, refl, sym, ap, ◌∙◌, subst, inl, inr}
 use Rattle.std.proofs.lemmas.List.{append_assoc, append-nil}
 use Rattle.edit_script.specs.declared.command.Command.{Command}
-use Rattle.edit_script.specs.declared.command.Command.TheVariants.{Replace, Errors, Tree, Contrl, Text, End}
+use Rattle.edit_script.specs.declared.command.Command.TheVariants.{Replace, Errors, Tree, Contrl, Text, End, Undo, Redo, Batch}
 use Rattle.script_answers.specs.Answers.{Answers, AnswersCut, Step}
 use Rattle.script_answers.specs.Script.{IsOpen, IsEnded}
 
@@ -41,12 +41,18 @@ open_more [] Errors is not = tt
 open_more [] Tree is not = tt
 open_more [] (Contrl stamp reference) is not = tt
 open_more [] Text is not = tt
+open_more [] Undo is not = tt
+open_more [] Redo is not = tt
+open_more [] (Batch edits) is not = tt
 open_more [] End is not = absurd (not refl)
 open_more (Replace at cut put ∷ cs) c is not = open_more cs c is not
 open_more (Errors ∷ cs) c is not = open_more cs c is not
 open_more (Tree ∷ cs) c is not = open_more cs c is not
 open_more (Contrl stamp reference ∷ cs) c is not = open_more cs c is not
 open_more (Text ∷ cs) c is not = open_more cs c is not
+open_more (Undo ∷ cs) c is not = open_more cs c is not
+open_more (Redo ∷ cs) c is not = open_more cs c is not
+open_more (Batch edits ∷ cs) c is not = open_more cs c is not
 open_more (End ∷ cs) c is not = absurd is
 
 command_no_end : (c : Command) → (c ≡ End) ⊎ (c ≡ End → ⊥)
@@ -55,6 +61,9 @@ command_no_end Errors = inr (λ is. cc)
 command_no_end Tree = inr (λ is. cc)
 command_no_end (Contrl stamp reference) = inr (λ is. cc)
 command_no_end Text = inr (λ is. cc)
+command_no_end Undo = inr (λ is. cc)
+command_no_end Redo = inr (λ is. cc)
+command_no_end (Batch edits) = inr (λ is. cc)
 command_no_end End = inl refl
 
 -- with `end` at the end
@@ -79,6 +88,9 @@ ended_next c cs ended not = next_of ended.0 ended.1 ended.2
     open_tail Tree front is = is
     open_tail (Contrl stamp reference) front is = is
     open_tail Text front is = is
+    open_tail Undo front is = is
+    open_tail Redo front is = is
+    open_tail (Batch edits) front is = is
     open_tail End front is = absurd is
 
     next_of : (front : List Command) → IsOpen front → c ∷ cs ≡ front ++ End ∷ [] → IsEnded cs

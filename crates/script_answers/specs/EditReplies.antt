@@ -6,7 +6,7 @@ use Rattle.dir_compile.specs.Directory.{Directory}
 use Rattle.error_ledger.specs.Printing.{errors_text, tree_text}
 use Rattle.edit_script.specs.Command.{IsCommand}
 use Rattle.edit_script.specs.declared.command.Command.{Command}
-use Rattle.edit_script.specs.declared.command.Command.TheVariants.{Replace, Errors, Tree, Contrl, Text, End}
+use Rattle.edit_script.specs.declared.command.Command.TheVariants.{Replace, Errors, Tree, Contrl, Text, End, Undo, Redo, Batch}
 use Rattle.edit_script.specs.declared.grammar.Grammar.TheVariants.{Edit}
 use Rattle.edi_engine.specs.Edit.{stop_of}
 use Rattle.kept_text.specs.Edit.{text_with}
@@ -23,6 +23,9 @@ some_reply dir text Tree lawful = (tree_text (tree_of dir text), refl)
 some_reply dir text (Contrl stamp reference) lawful = (contrl_reply (contrl_to dir text stamp reference), refl)
 some_reply dir text Text lawful = (counted (codes "text") text, refl)
 some_reply dir text End lawful = (line_of (codes "end"), refl)
+some_reply dir text Undo lawful = absurd lawful
+some_reply dir text Redo lawful = absurd lawful
+some_reply dir text (Batch edits) lawful = absurd lawful
 
 pub edit_replies : HasReplies Edit IsEditStep
 edit_replies before c lawful =

@@ -6,7 +6,7 @@ use Rattle.error_ledger.specs.Printing.{errors_text, tree_text}
 use Rattle.contrl_writer.specs.declared.answer.Contrl.{Contrl as Acknowledgement}
 use Rattle.contrl_writer.specs.declared.answer.Contrl.TheVariants.{Octets as Written, NoUnb, BadUnb}
 use Rattle.edit_script.specs.declared.command.Command.{Command}
-use Rattle.edit_script.specs.declared.command.Command.TheVariants.{Replace, Errors, Tree, Contrl, Text, End}
+use Rattle.edit_script.specs.declared.command.Command.TheVariants.{Replace, Errors, Tree, Contrl, Text, End, Undo, Redo, Batch}
 use Rattle.edi_engine.specs.Edit.{stop_of}
 use Rattle.kept_text.specs.Edit.{text_with}
 use Rattle.kept_text.specs.Reading.{Reading}
@@ -41,7 +41,7 @@ contrl_reply NoUnb = line_of (codes "no unb")
 contrl_reply BadUnb = line_of (codes "bad unb")
 contrl_reply (Written octets) = counted (codes "contrl") octets
 
--- these octets are the reply to a command on a text, by a directory
+-- these octets are the reply to a command of an edit on a text, by a directory
 abbrev pub IsReply : Directory → Octets → Command → Octets → Type 0
 IsReply dir text (Replace at cut put) reply = reply ≡ edit_reply (stop_of text at cut put) (text_with text at cut put)
 IsReply dir text Errors reply = reply ≡ errors_text (errors_of dir text)
@@ -49,13 +49,16 @@ IsReply dir text Tree reply = reply ≡ tree_text (tree_of dir text)
 IsReply dir text (Contrl stamp reference) reply = reply ≡ contrl_reply (contrl_to dir text stamp reference)
 IsReply dir text Text reply = reply ≡ counted (codes "text") text
 IsReply dir text End reply = reply ≡ line_of (codes "end")
+IsReply dir text Undo reply = ⊥
+IsReply dir text Redo reply = ⊥
+IsReply dir text (Batch edits) reply = ⊥
 
 -- the text that an edit leaves
 abbrev pub text_left : Option EditStop → Octets → Octets → Octets
 text_left None before after = after
 text_left (Some stop) before after = before
 
--- the text that a command leaves: every command but an edit that is made leaves it as it is
+-- the text that a command of an edit leaves: every one but a `replace` that is made leaves it as it is
 abbrev pub text_after : Octets → Command → Octets
 text_after text (Replace at cut put) = text_left (stop_of text at cut put) text (text_with text at cut put)
 text_after text Errors = text
@@ -63,8 +66,12 @@ text_after text Tree = text
 text_after text (Contrl stamp reference) = text
 text_after text Text = text
 text_after text End = text
+text_after text Undo = text
+text_after text Redo = text
+text_after text (Batch edits) = text
 
--- the commands that may be answered with want of memory: an edit that may be made, and every other command but `end`
+-- the commands of an edit that may be answered with want of memory: a `replace` that may be made, and every other one
+-- but `end`
 abbrev pub MayLackMemory : Octets → Command → Type 0
 MayLackMemory text (Replace at cut put) = stop_of text at cut put ≡ None
 MayLackMemory text Errors = ⊤
@@ -72,6 +79,9 @@ MayLackMemory text Tree = ⊤
 MayLackMemory text (Contrl stamp reference) = ⊤
 MayLackMemory text Text = ⊤
 MayLackMemory text End = ⊥
+MayLackMemory text Undo = ⊥
+MayLackMemory text Redo = ⊥
+MayLackMemory text (Batch edits) = ⊥
 
 -- one command, its reply, and the text after it: the reply is that of the text, or memory was refused and the text is
 -- as it was

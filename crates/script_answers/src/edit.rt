@@ -60,6 +60,7 @@ impl<'d, L: Ledger, M: Ledger> Editor<'d, L, M> {
             }
             Command::Text => or_no_memory(copy_text(alloc, &self.engine)),
             Command::End => Reply::Fixed(b"end\n"),
+            Command::Undo | Command::Redo | Command::Batch { .. } => unreachable!(),
         }
     }
 

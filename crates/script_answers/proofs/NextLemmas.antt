@@ -1,5 +1,5 @@
 -- What a reader of a grammar took.
-use Rattle.std.proofs.Common.{◌≡◌, ◌++◌, ℕ, List, Option, Some, Result, refl, subst}
+use Rattle.std.proofs.Common.{◌≡◌, ◌++◌, ℕ, List, Option, Some, Result, subst}
 use Rattle.edi_ports.specs.Read.{HasTaken}
 use Rattle.edit_script.specs.Next.{IsNext, Reader}
 use Rattle.edit_script.specs.declared.command.Command.{Command}

@@ -1,9 +1,8 @@
 -- A script that is read and answered, command by command.
-use Rattle.std.proofs.Common.{◌≡◌, ⊎_elim, ◌+◌, ◌++◌, ◌<◌, ◌≤◌, ℕ, Bool, true, false, List, [], ◌∷◌, length, take, Option, Some, None, Result, Ok, Err, IfSome, decimal, refl, sym, ap, ◌∙◌, subst, inl, inr, arith, length-append}
+use Rattle.std.proofs.Common.{◌≡◌, ⊎_elim, ◌+◌, ◌++◌, ◌<◌, ◌≤◌, ℕ, Bool, true, false, List, [], ◌∷◌, length, take, Option, Some, None, Ok, Err, IfSome, decimal, refl, sym, ap, ◌∙◌, subst, inl, inr, arith, length-append}
 use Rattle.std.proofs.lemmas.List.{append_assoc}
 use Rattle.std.specs.Prelude.{codes}
 use Rattle.edi_ports.specs.Faults.{HasRisen}
-use Rattle.edi_ports.specs.Read.{HasTaken}
 use Rattle.edi_ports.specs.Sink.{IsCut}
 use Rattle.edit_script.specs.Command.{command_text}
 use Rattle.edit_script.specs.Next.{IsAnswer, IsNext, Reader}
@@ -14,7 +13,6 @@ use Rattle.edit_script.specs.declared.command.Command.TheVariants.{End}
 use Rattle.edit_script.specs.declared.grammar.Grammar.{Grammar}
 use Rattle.edit_script.specs.declared.stop.ScriptStop.{ScriptStop}
 use Rattle.edit_script.specs.declared.stop.ScriptStop.TheVariants as stop
-use Rattle.edit_script.proofs.ReadingLemmas.{taken_left}
 use Rattle.edit_script.proofs.ScriptLemmas.{are_more, script_more}
 use Rattle.run_outcome.specs.declared.status.Status.{Status}
 use Rattle.run_outcome.specs.declared.status.Status.TheVariants.{Done, WriteFault}

@@ -11,7 +11,8 @@ Step S = S → Command → Octets → S → Type 0
 
 -- each command of the grammar has a reply on each state
 abbrev pub HasReplies : {S : Type 0} → Grammar → Step S → Type 0
-HasReplies {S} g IsStep = (state : S) (c : Command) → IsCommand g c → (reply : Octets) × (after : S) × IsStep state c reply after
+HasReplies {S} g IsStep =
+    (state : S) (c : Command) → IsCommand g c → (reply : Octets) × (after : S) × IsStep state c reply after
 
 -- a command was answered, with this state after it, and the sink took its reply so
 abbrev pub IsAnswered : {S : Type 0} → Step S → S → Command → S → (Octets → Type 0) → Type 0

@@ -16,8 +16,11 @@ use Rattle.text_reading.specs.Tree.{tree_of}
 use Rattle.script_answers.specs.Answers.{HasReplies}
 use Rattle.script_answers.specs.Reply.{IsEditStep, IsReply, contrl_reply, counted, edit_reply, line_of, text_after}
 
-some_reply : (dir : Directory) (text : Octets) (c : Command) → IsCommand Edit c → (reply : Octets) × IsReply dir text c reply
-some_reply dir text (Replace at cut put) lawful = (edit_reply (stop_of text at cut put) (text_with text at cut put), refl)
+-- the reply to a command on a text
+pub some_reply : (dir : Directory) (text : Octets) (c : Command) → IsCommand Edit c
+    → (reply : Octets) × IsReply dir text c reply
+some_reply dir text (Replace at cut put) lawful =
+    (edit_reply (stop_of text at cut put) (text_with text at cut put), refl)
 some_reply dir text Errors lawful = (errors_text (errors_of dir text), refl)
 some_reply dir text Tree lawful = (tree_text (tree_of dir text), refl)
 some_reply dir text (Contrl stamp reference) lawful = (contrl_reply (contrl_to dir text stamp reference), refl)

@@ -108,7 +108,8 @@ IsAnsweredWhole g before InputFailed SinkFailed status =
 -- a sink has room for whatever replies these commands may get, and for the line of want of memory after them
 abbrev pub HasRoomFor : {S : Type 0} → (ℕ → Type 0) → Step S → S → List Command → Type 0
 HasRoomFor has_room IsStep state cs =
-    (n : ℕ) × has_room n × ((out : Octets) → Answers IsStep state cs out → length out + length memory_refused.output ≤ n)
+    (n : ℕ) × has_room n
+    × ((out : Octets) → Answers IsStep state cs out → length out + length memory_refused.output ≤ n)
 
 -- a script that ends with `end` is answered whole where the sink has room for that: only memory can be refused
 abbrev pub IsAnsweredInRoom : {S : Type 0} → Grammar → Step S → S → Option Octets → (ℕ → Type 0) → Status → Type 0

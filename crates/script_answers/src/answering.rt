@@ -15,19 +15,19 @@ pub trait Answering {
     ghost use Rattle.edit_script.specs.declared.command.Command.{Command};
     ghost use Rattle.edit_script.specs.declared.grammar.Grammar.{Grammar};
 
-    /// What a state is.
+    /// What the replies depend on, and what commands change.
     ghost State: { Type 0 };
 
-    /// The state that it is in.
+    /// The state that it is in now.
     ghost state: { Self → State };
 
     /// That a command on a state has this reply, and leaves that state.
     ghost IsStep: { State → Command → List ℕ → State → Type 0 };
 
-    /// Which commands it answers.
+    /// The grammar of the commands that it answers.
     ghost grammar: { Grammar };
 
-    /// Which commands it answers.
+    /// The grammar of the commands that it answers.
     fn grammar(&self) -> Grammar
         ensures { result ≡ grammar };
 

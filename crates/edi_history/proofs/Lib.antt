@@ -1,0 +1,5 @@
+mod Judged
+mod Made
+mod Stops
+mod Versions
+mod Worked

@@ -4,3 +4,4 @@ mod EndedLemmas
 mod NextLemmas
 mod RoomLemmas
 mod RunLemmas
+pub mod SessionLemmas

@@ -5,3 +5,6 @@ pub mod Ran
 pub mod Replied
 pub mod Reply
 pub mod Script
+pub mod Session
+pub mod SessionReplies
+pub mod SessionReply

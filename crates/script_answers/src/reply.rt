@@ -19,12 +19,13 @@ use error_ledger::{print_errors, print_tree};
 use run_outcome::{put_numbered, put_pair};
 use std::alloc::{AllocError, Global};
 
-/// A whole reply, which is put without memory: octets of the program; the length of a text that was edited; printed
-/// lines; or octets, after a line of this head and their number.
+/// A whole reply, which is put without memory: octets of the program; the length of a text that was edited; words and
+/// the number of an edit; printed lines; or octets, after a line of this head and their number.
 #[derive(Debug, Drop)]
 pub(crate) enum Reply {
     Fixed(&'static [u8]),
     Edited(u64),
+    Refused(&'static [u8], u32),
     Lines(Chunk),
     Counted { head: &'static [u8], octets: Chunk },
 }
@@ -97,6 +98,7 @@ pub(crate) fn put_reply<O: Sink>(out: &mut O, reply: &Reply) -> bool
     match reply {
         Reply::Fixed(octets) => put_pair(out, octets, b""),
         Reply::Edited(length) => put_numbered(out, b"ok ", *length, b"\n"),
+        Reply::Refused(words, edit) => put_numbered(out, words, *edit as u64, b"\n"),
         Reply::Lines(lines) => put_pair(out, lines.octets(), b""),
         Reply::Counted { head, octets } => put_counted(out, head, octets.octets()),
     }

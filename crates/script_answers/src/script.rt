@@ -18,8 +18,8 @@ use std::alloc::Global;
 const LONGEST_SCRIPT: u64 = 1_073_741_824;
 
 /// Answers the script on the input, command by command, each on the state that those before it left. It ends after the
-/// reply to `end`, and takes nothing after it; where the script stops before, with the line that tells why; or where the
-/// sink fails.
+/// reply to `end`, and takes nothing after it; where the script stops before, with the line that tells why; or where
+/// the sink fails.
 pub fn answer_script<A: Answering, I: Source, O: Sink>(
     alloc: Global,
     answering: &mut A,

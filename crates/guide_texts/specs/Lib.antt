@@ -1,0 +1,2 @@
+pub mod Stricter
+pub mod Narrowed

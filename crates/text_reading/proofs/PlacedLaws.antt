@@ -177,7 +177,7 @@ module _ (dir : Parts) (directory : IsDirectory dir) (text : List ℕ) where
       by None is = absurd (let no : ⊥ = cc in no)
       by (Some t) is = cc
 
-  message_held : (i table : ℕ) (e : Extent) → position_at dir segments i ≡ Within table e → message_at tags i ≡ Some e
+  pub message_held : (i table : ℕ) (e : Extent) → position_at dir segments i ≡ Within table e → message_at tags i ≡ Some e
   unfolding position_at
   message_held i table e is = message_by table e (message_at tags i) is
 
@@ -194,16 +194,16 @@ module _ (dir : Parts) (directory : IsDirectory dir) (text : List ℕ) where
         (position_held_in table e (message_from tags a) (table_opened dir segments a)
         (sym (position_is dir segments i (Some a) (message_held i table e is ∙ ap Some it.extent)) ∙ is)).0
 
-    lawful : IsTable nodes
+    pub lawful : IsTable nodes
     lawful = table_is dir directory table (opened_within dir directory segments a table table_there)
 
-    first_place_is : e.first ≡ a + 1
+    pub first_place_is : e.first ≡ a + 1
     first_place_is = ap (λ (e : Extent). e.first) it.extent ∙ first_is tags a
 
-    ends : (a + 1 ≤ e.last) × (e.last ≤ length tags)
+    pub ends : (a + 1 ≤ e.last) × (e.last ≤ length tags)
     ends = subst (λ (f : Extent). (a + 1 ≤ f.last) × (f.last ≤ length tags)) (sym it.extent) (ends_within tags a it.within it.opens)
 
-    position_there : (j : ℕ) → a ≤ j → j + 1 ≤ e.last → position_at dir segments j ≡ Within table e
+    pub position_there : (j : ℕ) → a ≤ j → j + 1 ≤ e.last → position_at dir segments j ≡ Within table e
     position_there j from low =
         position_is dir segments j (Some a) (message_is tags e a it j from low (omega (arith, ends.1)))
         ∙ ap (λ (found : Option ℕ). position_with found (message_from tags a)) table_there
@@ -215,7 +215,7 @@ module _ (dir : Parts) (directory : IsDirectory dir) (text : List ℕ) where
         ap (λ (p : Position). entry_shown (tree_place_of dir segments j p)) (position_there j from low)
         ∙ shown_in nodes whole (j + 1 - e.first)
 
-    long : length (tags_of_message segments e) ≡ e.last - a
+    pub long : length (tags_of_message segments e) ≡ e.last - a
     long = length_range tags (e.first - 1) e.last ends.1 ∙ (omega (arith, first_place_is))
 
     long_whole : length whole ≡ e.last - a

@@ -1,2 +1,3 @@
 pub mod Emptied
 pub mod LocalKept
+pub mod FaultsFree

@@ -1,3 +1,4 @@
 pub mod Emptied
 pub mod LocalKept
 pub mod FaultsFree
+pub mod TextsSound

@@ -2,3 +2,4 @@ pub mod Emptied
 pub mod LocalKept
 pub mod FaultsFree
 pub mod TextsSound
+pub mod Members

@@ -3,3 +3,4 @@ pub mod LocalKept
 pub mod FaultsFree
 pub mod TextsSound
 pub mod Members
+pub mod Worked

@@ -1,7 +1,7 @@
 -- A directory narrows another where its members do, one by one; and each directory narrows itself.
-use Rattle.std.proofs.Common.{◌≡◌, ℕ, zero, suc, Bool, true, false, cond, List, [], ◌∷◌, Option, Some, None, map, refl, ap, arith}
-use Rattle.std.specs.Prelude.{slice_index_or}
-use Rattle.std.specs.List.{AllZip}
+use Rattle.std.proofs.Common.{◌≡◌, ℕ, zero, suc, ◌+◌, Bool, true, false, cond, List, [], ◌∷◌, Option, Some, None, map, refl, ap, subst, arith}
+use Rattle.std.specs.Prelude.{Contains, slice_get, slice_index_or}
+use Rattle.std.specs.List.{AllZip, enumerate_from}
 use Rattle.std.specs.Str.{bytes_eq}
 use Rattle.std.proofs.lemmas.Bool.{false≢true, true≢false}
 use Rattle.std.proofs.lemmas.List.Elements.{All-contains_itself}
@@ -41,6 +41,26 @@ module _ {A : Type 0} (name : A → Octets) (R : A → A → Type 0) where
   named_along (x ∷ xs) (y ∷ ys) along wanted =
       either x y along.0.1 (named_in name xs wanted) (named_in name ys wanted) (named_along xs ys along.1 wanted)
       (bytes_eq (name x) wanted) (bytes_eq (name y) wanted) (ap (λ n. bytes_eq n wanted) along.0.0)
+
+-- what is made of each member stands at the member's place
+module _ {A : Type 0} (R : A → A → Type 0) where
+  pub along_made : (made : A → A) (xs : List A) → ((x : A) → Contains xs x → R x (made x)) → AllZip R xs (map made xs)
+  along_made made [] each = tt
+  along_made made (x ∷ xs) each =
+      (each x (0, omega arith, refl), along_made made xs (λ y found. each y (suc found.0, omega (arith, found.1), found.2)))
+
+  -- also where it is made by the member's number
+  pub along_numbered : (made : ℕ × A → A) (from : ℕ) (xs : List A)
+      → ((j : ℕ) (x : A) → slice_get xs j ≡ Some x → R x (made (from + j, x))) → AllZip R xs (map made (enumerate_from from xs))
+  along_numbered made from [] each = tt
+  along_numbered made from (x ∷ xs) each =
+      let first : from + 0 ≡ from = omega arith in
+      (
+        subst (λ (n : ℕ). R x (made (n, x))) first (each 0 x refl),
+        along_numbered made (from + 1) xs
+            (λ j y is. let next : from + suc j ≡ from + 1 + j = omega arith in
+            subst (λ (n : ℕ). R y (made (n, y))) next (each (suc j) y is)),
+      )
 
 -- a message whose table narrows that of another
 abbrev pub NarrowsMessage : MessageDef → MessageDef → Type 0

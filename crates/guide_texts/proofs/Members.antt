@@ -1,7 +1,7 @@
 -- A directory narrows another where its members do, one by one; and each directory narrows itself.
-use Rattle.std.proofs.Common.{◌≡◌, ℕ, zero, suc, ◌+◌, Bool, true, false, cond, List, [], ◌∷◌, Option, Some, None, map, refl, ap, subst, arith}
-use Rattle.std.specs.Prelude.{Contains, slice_get, slice_index_or}
-use Rattle.std.specs.List.{AllZip, enumerate_from}
+use Rattle.std.proofs.Common.{◌≡◌, ℕ, zero, suc, ◌+◌, Bool, true, false, cond, List, [], ◌∷◌, Option, Some, None, map, refl, sym, ap, subst, ◌∙◌, arith}
+use Rattle.std.specs.Prelude.{Contains, is_some, slice_get, slice_index_or}
+use Rattle.std.specs.List.{AllZip, cons_option, enumerate_from, filter_map}
 use Rattle.std.specs.Str.{bytes_eq}
 use Rattle.std.proofs.lemmas.Bool.{false≢true, true≢false}
 use Rattle.std.proofs.lemmas.List.Elements.{All-contains_itself}
@@ -54,13 +54,50 @@ module _ {A : Type 0} (R : A → A → Type 0) where
       → ((j : ℕ) (x : A) → slice_get xs j ≡ Some x → R x (made (from + j, x))) → AllZip R xs (map made (enumerate_from from xs))
   along_numbered made from [] each = tt
   along_numbered made from (x ∷ xs) each =
-      let first : from + 0 ≡ from = omega arith in
-      (
+      let first : from + 0 ≡ from = omega arith in (
         subst (λ (n : ℕ). R x (made (n, x))) first (each 0 x refl),
         along_numbered made (from + 1) xs
             (λ j y is. let next : from + suc j ≡ from + 1 + j = omega arith in
             subst (λ (n : ℕ). R y (made (n, y))) next (each (suc j) y is)),
       )
+
+-- code lists that are made of others of the same names, as of data elements, where each has its list if the base has one
+none_asked : (base found : Option CodeList) → IsStricterList base None → IsStricterList base found
+none_asked None found stricter = tt
+none_asked (Some list) found stricter = absurd stricter
+
+none_there : (base found : Option CodeList) → (is_some base ≡ true → false ≡ true) → IsStricterList base found
+none_there None found there = tt
+none_there (Some list) found there = absurd (false≢true (there refl))
+
+module _ {B : Type 0} (base : List CodeList) (made : B → Option CodeList) (key : B → Octets)
+    (named : (x : B) (list : CodeList) → made x ≡ Some list → list_name list ≡ key x) (wanted : Octets)
+    (each : (x : B) → bytes_eq (key x) wanted ≡ true → IsStricterList (named_in list_name base wanted) (made x)) where
+  list_first : (x : B) (made_here : Option CodeList) → made x ≡ made_here → (here : Bool) → bytes_eq (key x) wanted ≡ here
+      → (more : List CodeList)
+      → (here ≡ false → IsStricterList (named_in list_name base wanted) (named_in list_name more wanted))
+      → IsStricterList (named_in list_name base wanted) (named_in list_name (cons_option made_here more) wanted)
+  list_first x None is true same more rest =
+      none_asked (named_in list_name base wanted) (named_in list_name more wanted)
+      (subst (IsStricterList (named_in list_name base wanted)) is (each x same))
+  list_first x None is false same more rest = rest refl
+  list_first x (Some list) is here same more rest =
+      let test : bytes_eq (list_name list) wanted ≡ here = ap (λ n. bytes_eq n wanted) (named x list is) ∙ same in
+      by here test same rest
+    where
+      by : (b : Bool) → bytes_eq (list_name list) wanted ≡ b → bytes_eq (key x) wanted ≡ b
+          → (b ≡ false → IsStricterList (named_in list_name base wanted) (named_in list_name more wanted))
+          → IsStricterList (named_in list_name base wanted) (named_in list_name (list ∷ more) wanted)
+      by true test found rest = rw test (subst (IsStricterList (named_in list_name base wanted)) is (each x found))
+      by false test found rest = rw test (rest refl)
+
+  pub lists_made : (xs : List B)
+      → (is_some (named_in list_name base wanted) ≡ true → is_some (named_in key xs wanted) ≡ true)
+      → IsStricterList (named_in list_name base wanted) (named_in list_name (filter_map made xs) wanted)
+  lists_made [] there = none_there (named_in list_name base wanted) None there
+  lists_made (x ∷ xs) there =
+      list_first x (made x) refl (bytes_eq (key x) wanted) refl (filter_map made xs)
+      (λ other. lists_made xs (λ is. ap is_some (sym (ap (λ b. cond b (Some x) (named_in key xs wanted)) other)) ∙ there is))
 
 -- a message whose table narrows that of another
 abbrev pub NarrowsMessage : MessageDef → MessageDef → Type 0

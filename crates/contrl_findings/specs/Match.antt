@@ -28,7 +28,8 @@ is_contrl dir _ _ = false
 -- what the first UCI of the segments of a reply says
 abbrev pub uci_in : List Segment → List Component
 uci_in segments =
-    elim (find (λ segment. has_name (codes "UCI") segment.tag) segments) [ None ↦ [] | Some segment ↦ segment.components ]
+    elim (find (λ segment. has_name (codes "UCI") segment.tag) segments)
+    [ None ↦ [] | Some segment ↦ segment.components ]
 
 -- a party is named by three components of this element
 abbrev pub is_party : Values → ℕ → Party → Bool

@@ -32,8 +32,8 @@ pub fn load<S: Shelf>(alloc: Global, shelf: &mut S, name: &[u8]) -> Result<Direc
     ensures fair { IsFair S.faults S.is_steady shelf.old shelf.new (IsErrOf result LoadStop.Fault) }
 
     // A store of a directory, of either version, gives this directory again under that name.
-    ensures again { (files : List ShelfFile) (octets : List ℕ) (directory : Parts) → IsDirectory directory
-        → IsStoreOf octets directory → octets_named LONGEST_TEXT files name.now ≡ Ok octets
+    ensures again { (files : List ShelfFile) (octets : List ℕ) (directory : Parts)
+        → IsDirectory directory → IsStoreOf octets directory → octets_named LONGEST_TEXT files name.now ≡ Ok octets
         → load_of files name.now ≡ Ok directory }
 {
     let octets = match read_named(alloc, shelf, name, LONGEST_TEXT) {

@@ -26,8 +26,8 @@ readings_after text (edit ∷ edits) =
 abbrev pub edit_of : EditSpec → Edit
 edit_of edit = record { at = edit.at; cut = edit.cut; put = edit.put }
 
--- so many calls of the lexer and of the walk are no more than an edit of a text may take: as many as the edited text has
--- segments, and two of the lexer; and where the context stays, one more than its reach, and its rerun
+-- so many calls of the lexer and of the walk are no more than an edit of a text may take: as many as the edited text
+-- has segments, and two of the lexer; and where the context stays, one more than its reach, and its rerun
 pub record IsEditBounded (dir : Directory) (text : Octets) (edit : EditSpec) (lexed placed : ℕ) : Type 0 where
   pub whole_lexed : lexed ≤ segment_count_of (text_after text edit) + 2
   pub whole_placed : placed ≤ segment_count_of (text_after text edit)

@@ -19,7 +19,7 @@ past_reading h = record {
 abbrev pub IsReadBy : Directory → Reading → Type 0
 IsReadBy dir version = version.directory ≡ dir
 
--- there is room for a hundred versions on each side, and never more than a hundred in all; each is read by the directory
+-- there is room for a hundred versions on each side, and never more than a hundred in all, each read by the directory
 -- of the present one
 pub record IsHistory (h : Inside) : Type 0 where
   pub before_room : h.before.capacity ≡ 100

@@ -203,7 +203,7 @@ fn reads_what_a_session_tells(rt: HostRuntime) -> Result<(), Fail> {
 }
 
 #[test]
-fn tells_a_stop_in_a_batch_by_its_number(rt: HostRuntime) -> Result<(), Fail> {
+fn tells_a_bad_line_in_a_batch_by_its_number(rt: HostRuntime) -> Result<(), Fail> {
     let alloc = rt.alloc();
     for (octets, whole, number) in [
         (b"undo ".as_slice(), 0, 1),
@@ -227,6 +227,12 @@ fn tells_a_stop_in_a_batch_by_its_number(rt: HostRuntime) -> Result<(), Fail> {
             "{octets:?}"
         );
     }
+    Ok(())
+}
+
+#[test]
+fn tells_where_a_batch_is_cut_short_by_its_number(rt: HostRuntime) -> Result<(), Fail> {
+    let alloc = rt.alloc();
     for (octets, whole, number) in [
         (b"u".as_slice(), 0, 1),
         (b"re", 0, 1),

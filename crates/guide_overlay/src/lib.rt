@@ -1,0 +1,7 @@
+//! Guides: files of lines that make a directory stricter.
+#![tactic(auto)]
+
+mod line;
+mod stop;
+
+pub use stop::{GuideKind, GuideStop};

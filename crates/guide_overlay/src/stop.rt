@@ -1,0 +1,44 @@
+//! What can be wrong in a guide.
+use std::alloc::{AllocError, AllocFailed};
+use thiserror::Error;
+
+/// The rule of guides that a line breaks.
+#[derive(Clone, Copy, Debug, PartialEq, Eq)]
+pub enum GuideKind {
+    BadLine,
+    UnknownName,
+    Twice,
+    BadIndex,
+    NotNarrower,
+}
+
+/// Why a guide narrows no directory.
+#[derive(Debug, Drop, Error)]
+pub enum GuideStop {
+    #[error("the guide breaks a rule of guides")]
+    Fault { line: u32, kind: GuideKind },
+    #[error("out of memory")]
+    Memory,
+}
+
+impl From<AllocError> for GuideStop {
+    ghost use Rattle.std.specs.Prelude.{◌≡◌};
+    ghost use Rattle.guide_overlay.specs.declared.stop.GuideStop.TheVariants.{Memory};
+
+    ghost from_gives = { λ _ e. e ≡ Memory };
+
+    fn from(_: AllocError) -> GuideStop {
+        GuideStop::Memory
+    }
+}
+
+impl<T: Drop> From<AllocFailed<T>> for GuideStop {
+    ghost use Rattle.std.specs.Prelude.{◌≡◌};
+    ghost use Rattle.guide_overlay.specs.declared.stop.GuideStop.TheVariants.{Memory};
+
+    ghost from_gives = { λ _ e. e ≡ Memory };
+
+    fn from(_: AllocFailed<T>) -> GuideStop {
+        GuideStop::Memory
+    }
+}

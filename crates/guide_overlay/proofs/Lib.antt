@@ -1,1 +1,5 @@
+pub mod BaseLemmas
+pub mod SearchLemmas
+pub mod SectionLemmas
+pub mod JudgeLemmas
 pub mod Worked

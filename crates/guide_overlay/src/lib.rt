@@ -1,6 +1,7 @@
 //! Guides: files of lines that make a directory stricter.
 #![tactic(auto)]
 
+mod base;
 mod line;
 mod stop;
 

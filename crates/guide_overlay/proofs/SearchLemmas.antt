@@ -1,0 +1,119 @@
+-- Names in order, found by halving.
+use Rattle.std.proofs.Common.{◌≡◌, ◌<◌, ◌≤◌, ℕ, Bool, true, false, List, [], ◌∷◌, length, get_or, Option, Some, None, Result, Ok, Err, is_some, Bor, refl, sym, ap, ◌∙◌, subst, arith, inl, inr, Ordering}
+use Rattle.std.specs.Prelude.{slice_get, is_ok}
+use Rattle.std.specs.List.{position_or_len}
+use Rattle.std.specs.List.Sorted.{IsBinarySearchResult, IsNonDecreasingBy, IsSearchInRange}
+use Rattle.std.specs.declared.cmp.Ordering.TheVariants.{Less, Equal, Greater}
+use Rattle.std.specs.Cmp.Lexicographic.{slice_cmp, texts_ties}
+use Rattle.std.specs.Ordering.{nat_cmp, is_lt, is_eq, ordering_index}
+use Rattle.std.specs.Option.{option_copied}
+use Rattle.std.specs.Result.{result_ok}
+use Rattle.std.specs.Slice.{IsItemAt}
+use Rattle.std.specs.Str.{bytes_eq}
+use Rattle.std.proofs.lemmas.Bool.{cases_lt}
+use Rattle.std.proofs.lemmas.Cmp.{nat_list_cmp_total}
+use Rattle.std.proofs.lemmas.List.Folds.{find_at}
+use Rattle.std.proofs.lemmas.List.Sums.{position_or_len_is}
+use Rattle.std.proofs.lemmas.Option.{slice_get_past, slice_get_read, slice_get-get_or}
+use Rattle.std.proofs.lemmas.Slice.Eq.{bytes_eq-Decides}
+use Rattle.edi_tables.specs.Ascending.{is_before, IsAscendingBy}
+use Rattle.edi_tables.proofs.AscendingLemmas.{differ-from-before}
+use Rattle.dir_compile.specs.Compile.{named_in}
+
+some-is : {A : Type 0} (x y : A) → (let o : Option A = Some x in o ≡ Some y) → x ≡ y
+some-is x y is = cc
+
+less-from-before : (o : Ordering) → is_lt o ≡ true → o ≡ Less
+less-from-before Less is = refl
+less-from-before Equal is = absurd cc
+less-from-before Greater is = absurd cc
+
+-- where the order is told of a name and the one that is looked for
+same-name : (a b : List ℕ) → slice_cmp nat_cmp a b ≡ Equal → a ≡ b
+same-name a b is = (bytes_eq-Decides a b).0 (texts_ties a b ∙ ap is_eq is)
+
+at-most-two : (o : Ordering) → ordering_index o ≤ 2
+at-most-two Less = omega arith
+at-most-two Equal = omega arith
+at-most-two Greater = omega arith
+
+ranked : (a b wanted : List ℕ) → is_before a b ≡ true → (o : Ordering) → slice_cmp nat_cmp b wanted ≡ o → ordering_index (slice_cmp nat_cmp a wanted) ≤ ordering_index o
+ranked a b wanted before Less is =
+    let less : slice_cmp nat_cmp a wanted ≡ Less = nat_list_cmp_total.trans a b wanted (less-from-before _ before) is in
+    rw less (omega arith)
+ranked a b wanted before Equal is =
+    let less : slice_cmp nat_cmp a wanted ≡ Less = subst (λ w. slice_cmp nat_cmp a w ≡ Less) (same-name b wanted is) (less-from-before _ before) in
+    rw less (omega arith)
+ranked a b wanted before Greater is = at-most-two (slice_cmp nat_cmp a wanted)
+
+-- the member at a place, if there is one
+abbrev pub member_at : {A : Type 0} → List A → Result ℕ ℕ → Option A
+member_at xs (Ok i) = slice_get xs i
+member_at xs (Err i) = None
+
+module _ {A : Type 0} (name : A → List ℕ) (wanted : List ℕ) where
+  abbrev rank : A → Ordering
+  rank x = slice_cmp nat_cmp (name x) wanted
+
+  abbrev is_wanted : A → Bool
+  is_wanted x = bytes_eq (name x) wanted
+
+  rises : (xs : List A) → IsAscendingBy name xs → IsNonDecreasingBy (λ y. ordering_index (rank y)) xs
+  rises xs order i j d le within =
+      elim (cases_lt i j) [
+        | inl lt ↦ ranked (name (get_or xs i d)) (name (get_or xs j d)) wanted (order i j d lt within) (rank (get_or xs j d)) refl
+        | inr ge ↦ let same : i ≡ j = omega arith in subst (λ k. ordering_index (rank (get_or xs i d)) ≤ ordering_index (rank (get_or xs k d))) same (omega arith)
+      ]
+
+  other : (x : A) (o : Ordering) → rank x ≡ o → is_eq o ≡ false → is_wanted x ≡ false
+  other x o is unequal = texts_ties (name x) wanted ∙ ap is_eq is ∙ unequal
+
+  found : (x : A) (xs : List A) (i : ℕ) → IsAscendingBy name (x ∷ xs) → i < length (x ∷ xs) → rank (get_or (x ∷ xs) i x) ≡ Equal → named_in name (x ∷ xs) wanted ≡ slice_get (x ∷ xs) i
+  found x xs i order within is =
+      let all = x ∷ xs in
+      let same = same-name (name (get_or all i x)) wanted is in
+      let place : position_or_len is_wanted all ≡ i =
+      position_or_len_is is_wanted all i x (omega arith)
+      (λ k lt. subst (λ w. bytes_eq (name (get_or all k x)) w ≡ false) same (differ-from-before (name (get_or all k x)) (name (get_or all i x)) (order k i x lt within)))
+      (λ _. texts_ties (name (get_or all i x)) wanted ∙ ap is_eq is) in
+      find_at is_wanted all ∙ ap (slice_get all) place
+
+  none : (x : A) (xs : List A) (i : ℕ) → i ≤ length (x ∷ xs) → ((k : ℕ) (d : A) → 0 ≤ k → k < i → rank (get_or (x ∷ xs) k d) ≡ Less) → ((k : ℕ) (d : A) → i ≤ k → k < length (x ∷ xs) → rank (get_or (x ∷ xs) k d) ≡ Greater) → named_in name (x ∷ xs) wanted ≡ None
+  none x xs i within below above =
+      let all = x ∷ xs in
+      let place : position_or_len is_wanted all ≡ length all =
+      position_or_len_is is_wanted all (length all) x (omega arith)
+      (λ k lt. elim (cases_lt k i) [
+        | inl front ↦ other (get_or all k x) Less (below k x (omega arith) front) refl
+        | inr back ↦ other (get_or all k x) Greater (above k x back lt) refl
+      ])
+      (λ lt. absurd (omega arith)) in
+      find_at is_wanted all ∙ ap (slice_get all) place ∙ slice_get_past all (length all) (omega arith)
+
+  -- what is found by halving is what has the name
+  pub named-searched : (xs : List A) (r : Result ℕ ℕ) → IsAscendingBy name xs → IsSearchInRange r (length xs) → IsBinarySearchResult rank xs r → named_in name xs wanted ≡ member_at xs r
+  named-searched [] (Ok i) order within is = absurd (omega (arith, within))
+  named-searched [] (Err i) order within is = refl
+  named-searched (x ∷ xs) (Ok i) order within is = found x xs i order within (is x)
+  named-searched (x ∷ xs) (Err i) order within is =
+      let parts = is (rises (x ∷ xs) order) in
+      none x xs i within parts.0 parts.1
+
+-- and there is one exactly where the search finds a place
+pub searched-some : {A : Type 0} (xs : List A) (r : Result ℕ ℕ) → IsSearchInRange r (length xs) → is_ok r ≡ is_some (member_at xs r)
+searched-some [] (Ok i) within = absurd (omega (arith, within))
+searched-some (x ∷ xs) (Ok i) within = sym (ap is_some (slice_get-get_or (x ∷ xs) i x within))
+searched-some xs (Err i) within = refl
+
+pub nowhere : {A : Type 0} (xs : List A) (r : Result ℕ ℕ) → result_ok r ≡ None → member_at xs r ≡ None
+nowhere xs (Ok i) is = absurd cc
+nowhere xs (Err i) is = refl
+
+pub somewhere : {A : Type 0} (xs : List A) (r : Result ℕ ℕ) (i : ℕ) → result_ok r ≡ Some i → member_at xs r ≡ slice_get xs i
+somewhere xs (Ok i) j is = ap (slice_get xs) (some-is i j is)
+somewhere xs (Err i) j is = absurd cc
+
+-- what a slice has at a place
+pub copied-at : {X : Type 0} (xs : List X) (i : ℕ) (r : Option (Bor X)) → IsItemAt xs i r → option_copied r ≡ slice_get xs i
+copied-at xs i None item = sym (slice_get_past xs i item.3)
+copied-at xs i (Some x) item = sym (slice_get_read xs (length xs) i x.now refl item.3.0 item.1)

@@ -1,19 +1,23 @@
 -- What one more line makes of the sections of a guide, and by what a head or a value is found again.
 use Rattle.std.proofs.Common.{◌≡◌, ◌<◌, ◌≤◌, ◌-◌, ◌+◌, ℕ, Bool, true, false, ◌||◌, ◌&&◌, List, [], ◌∷◌, ◌++◌, map, length, get_or, Option, Some, None, refl, sym, ap, subst, ◌∙◌, true≢false, append-nil, length-append, arith}
-use Rattle.std.specs.Prelude.{slice_get, slice_index, ◌==◌, drop}
+use Rattle.std.specs.Prelude.{slice_get, is_some}
+use Rattle.std.specs.Borrow.{Bor}
 use Rattle.std.specs.List.{list_any, list_all, filter_map}
 use Rattle.std.specs.Str.{bytes_eq, all_ascii_digits}
 use Rattle.std.proofs.lemmas.Bool.{and_parts, eqb-true, leb-true}
+use Rattle.std.proofs.lemmas.List.{map_push, get_or_push}
 use Rattle.std.proofs.lemmas.List.Elements.{filter_map-append}
+use Rattle.std.proofs.lemmas.Option.{slice_get-get_or}
 use Rattle.std.proofs.lemmas.Slice.Eq.{bytes_eq-Decides}
 use Rattle.edi_octets.proofs.EarlierNameLemmas.{bytes_eq-flip}
 use Rattle.edi_octets.specs.Lines.{Line, cells_of}
 use Rattle.guide_overlay.specs.declared.line.Topic.{Topic}
 use Rattle.guide_overlay.specs.declared.line.Topic.TheVariants.{OfTable, OfSegment, OfComposite, OfCodes}
-use Rattle.guide_overlay.specs.Guide.{Detail, GuideLine, Section, details_in_front, is_named, is_same_detail, is_same_topic, is_section_of, line_in, lines_read, sections_in, sections_of, values_in}
+use Rattle.guide_overlay.specs.Guide.{Detail, GuideLine, Section, details_in_front, is_named, is_same_detail, is_same_topic, is_section_of, last_of, line_in, lines_read, sections_in, sections_of, values_in}
 use Rattle.guide_overlay.specs.Guide.Detail.{Node, Item, Part, Value}
 use Rattle.guide_overlay.specs.Guide.GuideLine.{Head, Under}
-use Rattle.guide_overlay.specs.Kept.{sections_after, with_detail}
+use Rattle.guide_overlay.specs.declared.line.DetailText.{DetailText}
+use Rattle.guide_overlay.specs.Kept.{detail_seen, last_seen, sections_after, with_detail}
 
 abbrev section : Topic → List ℕ → List Detail → Section
 section topic name details = record { topic = topic; name = name; details = details }
@@ -152,3 +156,31 @@ values_found value (Node node change ∷ details) = values_found value details
 values_found value (Item item must reps ∷ details) = values_found value details
 values_found value (Part part must ∷ details) = values_found value details
 values_found value (Value other ∷ details) = ap (λ b. bytes_eq value other || b) (values_found value details)
+
+-- a detail more leaves the heads as they are
+pub names_with : (sections : List Section) (detail : Detail) → map (λ s. s.name) (with_detail sections detail) ≡ map (λ s. s.name) sections
+names_with [] detail = refl
+names_with (s ∷ []) detail = refl
+names_with (s ∷ t ∷ more) detail = ap (λ rest. s.name ∷ rest) (names_with (t ∷ more) detail)
+
+pub formed_with : (sections : List Section) (detail : Detail) → list_all (λ s. is_named s.topic s.name) (with_detail sections detail) ≡ list_all (λ s. is_named s.topic s.name) sections
+formed_with [] detail = refl
+formed_with (s ∷ []) detail = refl
+formed_with (s ∷ t ∷ more) detail = ap (λ b. is_named s.topic s.name && b) (formed_with (t ∷ more) detail)
+
+-- and what a detail in a text makes of the last section
+pub detail_joins : (front : List Section) (last : Option (Topic × Bor (List ℕ))) (details : List DetailText) (detail : DetailText) → is_some last ≡ true
+    → front ++ last_seen last (map detail_seen (details ++ detail ∷ [])) ≡ with_detail (front ++ last_seen last (map detail_seen details)) (detail_seen detail)
+detail_joins front None details detail some = absurd (true≢false (sym some))
+detail_joins front (Some head) details detail some =
+    ap (λ more. front ++ section head.0 head.1.now more ∷ []) (map_push detail_seen details detail)
+    ∙ sym (with_detail-last front (section head.0 head.1.now (map detail_seen details)) (detail_seen detail))
+
+-- the last of some, and of none
+pub last_there : (front : List Section) (head : Topic × Bor (List ℕ)) (details : List Detail) → last_of (front ++ last_seen (Some head) details) ≡ Some (section head.0 head.1.now details)
+last_there front head details =
+    let s : Section = section head.0 head.1.now details in
+    let long : length (front ++ s ∷ []) ≡ length front + 1 = length-append front (s ∷ []) in
+    let at : length (front ++ s ∷ []) - 1 ≡ length front = omega (arith, long) in
+    ap (slice_get (front ++ s ∷ [])) at ∙ slice_get-get_or (front ++ s ∷ []) (length front) s (omega (arith, long))
+    ∙ ap Some (get_or_push front s s (length front) refl)

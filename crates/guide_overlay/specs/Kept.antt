@@ -1,12 +1,18 @@
 -- What the lines and sections of a guide stand for, as a body keeps them.
-use Rattle.std.specs.Prelude.{Bool, true, List, [], ◌∷◌, ◌++◌, Option, Some, None}
+use Rattle.std.specs.Prelude.{◌≡◌, Bool, true, List, [], ◌∷◌, ◌++◌, map, Option, Some, None}
+use Rattle.std.specs.List.{list_all}
+use Rattle.std.specs.Borrow.{Bor}
+use Rattle.edi_tables.specs.Octets.{Octets}
 use Rattle.guide_laws.specs.Guide.NodeChange.{Drop, Keep}
 use Rattle.guide_overlay.specs.declared.line.DetailText.{DetailText}
 use Rattle.guide_overlay.specs.declared.line.DetailText.TheVariants as text
 use Rattle.guide_overlay.specs.declared.line.LineRead.{LineRead}
 use Rattle.guide_overlay.specs.declared.line.LineRead.TheVariants as read
+use Rattle.guide_overlay.specs.declared.line.Topic.{Topic}
 use Rattle.guide_overlay.specs.declared.stop.GuideKind.{GuideKind}
-use Rattle.guide_overlay.specs.Guide.{Detail, GuideLine, Section, is_named}
+use Rattle.guide_overlay.specs.declared.sections.SectionText.{SectionText}
+use Rattle.guide_overlay.specs.declared.sections.Reading.{Reading}
+use Rattle.guide_overlay.specs.Guide.{Detail, GuideLine, Section, is_named, values_in}
 use Rattle.guide_overlay.specs.Guide.Detail.{Node, Item, Part, Value}
 use Rattle.guide_overlay.specs.Guide.GuideLine.{Head, Under}
 
@@ -33,6 +39,19 @@ abbrev pub kinds_told : Option GuideKind → List GuideKind
 kinds_told None = []
 kinds_told (Some kind) = kind ∷ []
 
+-- the section that a section in a text is
+abbrev pub section_seen : SectionText → Section
+section_seen section =
+    record { topic = section.topic; name = section.name.now; details = map detail_seen section.details.items }
+
+abbrev pub last_seen : Option (Topic × Bor Octets) → List Detail → List Section
+last_seen None details = []
+last_seen (Some head) details = record { topic = head.0; name = head.1.now; details = details } ∷ []
+
+-- the sections that were read
+abbrev pub sections_seen : Reading → List Section
+sections_seen reading = map section_seen reading.finished.items ++ last_seen reading.last (map detail_seen reading.details.items)
+
 -- the last section with one more detail
 abbrev pub with_detail : List Section → Detail → List Section
 with_detail [] detail = []
@@ -45,3 +64,14 @@ sections_after sections None = sections
 sections_after sections (Some (Head topic name)) =
     sections ++ record { topic = topic; name = name; details = [] } ∷ []
 sections_after sections (Some (Under detail)) = with_detail sections detail
+
+-- words that are lent
+abbrev pub words_seen : List (Bor Octets) → List Octets
+words_seen words = map (λ word. word.now) words
+
+-- each name has its form, there is a last section where there is one, and the names and the values of the last section are those that are found by their hash
+pub record IsReading (reading : Reading) : Type 0 where
+  pub named : list_all (λ section. is_named section.topic section.name) (sections_seen reading) ≡ true
+  pub begun : reading.last ≡ None → reading.finished.items ≡ []
+  pub names : words_seen reading.names.keys ≡ map (λ section. section.name) (sections_seen reading)
+  pub values : words_seen reading.values.keys ≡ values_in (map detail_seen reading.details.items)

@@ -2,7 +2,9 @@
 #![tactic(auto)]
 
 mod base;
+mod judge;
 mod line;
+mod sections;
 mod stop;
 
 pub use stop::{GuideKind, GuideStop};

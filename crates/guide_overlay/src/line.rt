@@ -4,7 +4,7 @@ ghost use Rattle.std.specs.Option.{option_map};
 ghost use Rattle.edi_tables.specs.Forms.{is_code_value as is_code_value_of};
 ghost use Rattle.std.specs.List.{list_all};
 ghost use Rattle.edi_octets.specs.Lines.{cells_of};
-ghost use Rattle.guide_overlay.specs.Guide.{is_named, line_in, line_of_four, line_of_three, line_of_two, topic_named, topic_of};
+ghost use Rattle.guide_overlay.specs.Guide.{is_named, is_same_topic, line_in, line_of_four, line_of_three, line_of_two, topic_named, topic_of};
 ghost use Rattle.guide_overlay.specs.Kept.{detail_seen, is_line_named, line_seen};
 
 use edi_octets::{
@@ -148,15 +148,15 @@ fn read_topic(word: &[u8]) -> Option<Topic>
 }
 
 impl DetailText<'_> {
-    /// What it stands under.
-    pub(crate) fn topic(self) -> Topic
-        ensures { result ≡ topic_of (detail_seen self.entry) }
+    /// Whether it stands under a head of that topic.
+    pub(crate) fn is_under(self, topic: Topic) -> bool
+        ensures { result ≡ is_same_topic topic (topic_of (detail_seen self.entry)) }
     {
-        match self {
-            DetailText::Dropped { .. } | DetailText::Kept { .. } => Topic::OfTable,
-            DetailText::Item { .. } => Topic::OfSegment,
-            DetailText::Part { .. } => Topic::OfComposite,
-            DetailText::Value { .. } => Topic::OfCodes,
+        match topic {
+            Topic::OfTable => matches!(self, DetailText::Dropped { .. } | DetailText::Kept { .. }),
+            Topic::OfSegment => matches!(self, DetailText::Item { .. }),
+            Topic::OfComposite => matches!(self, DetailText::Part { .. }),
+            Topic::OfCodes => matches!(self, DetailText::Value { .. }),
         }
     }
 }

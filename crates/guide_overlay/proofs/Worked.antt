@@ -1,5 +1,5 @@
 -- Guides on a small directory, worked by hand: what they leave, and which fault comes first.
-use Rattle.std.proofs.Common.{◌≡◌, ℕ, Bool, true, false, List, [], ◌∷◌, ◌++◌, Option, Some, None, Result, Ok, Err, refl}
+use Rattle.std.proofs.Common.{◌≡◌, ℕ, Bool, true, false, List, [], ◌∷◌, ◌++◌, Some, None, Result, Ok, Err, refl}
 use Rattle.std.specs.Prelude.{codes}
 use Rattle.edi_tables.specs.Rows.{parent_of, end_of}
 use Rattle.edi_tables.specs.declared.element.Class.TheVariants.{An}

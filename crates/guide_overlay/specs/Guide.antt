@@ -1,5 +1,5 @@
 -- What a guide is: a file of lines that narrow a directory.
-use Rattle.std.specs.Prelude.{◌-◌, ◌+◌, ℕ, Bool, true, false, not, ◌==◌, ◌&&◌, ◌||◌, nat_le, nat_lt, List, [], ◌∷◌, ◌++◌, length, map, find, slice_get, Option, Some, None, is_some, option_and_then, Result, codes, if◌then◌else◌}
+use Rattle.std.specs.Prelude.{◌-◌, ℕ, Bool, true, false, not, ◌==◌, ◌&&◌, ◌||◌, nat_le, nat_lt, List, [], ◌∷◌, ◌++◌, length, map, find, slice_get, Option, Some, None, is_some, option_and_then, Result, codes, if◌then◌else◌}
 use Rattle.std.specs.List.{list_any, enumerate_from, filter_map, flat_map}
 use Rattle.std.specs.Option.{option_map}
 use Rattle.std.specs.Str.{bytes_eq}
@@ -306,7 +306,7 @@ narrowed_item details p = item_by_line p.1 (find (is_item p.0) details)
 
 abbrev pub narrowed_segment : List Section → SegmentDef → SegmentDef
 narrowed_segment sections segment = record segment {
-  items = map (narrowed_item (details_for sections OfSegment (segment_name segment))) (enumerate_from 1 segment.items)
+  items = map (narrowed_item (details_for sections OfSegment (segment_name segment))) (enumerate_from 1 segment.items);
 }
 
 -- a part as its line has it, if there is one
@@ -328,7 +328,7 @@ narrowed_part details p = part_by_line p.1 (find (is_part p.0) details)
 
 abbrev pub narrowed_composite : List Section → CompositeDef → CompositeDef
 narrowed_composite sections composite = record composite {
-  parts = map (narrowed_part (details_for sections OfComposite (composite_name composite))) (enumerate_from 1 composite.parts)
+  parts = map (narrowed_part (details_for sections OfComposite (composite_name composite))) (enumerate_from 1 composite.parts);
 }
 
 -- the values that are kept

@@ -1,4 +1,4 @@
-use Rattle.std.proofs.Common.{◌≡◌, not, sym, ap, ◌∙◌}
+use Rattle.std.proofs.Common.{sym, ◌∙◌}
 use Rattle.guide_overlay.specs.Kept.{detail_seen}
 use Rattle.guide_overlay.proofs.ReadingLemmas.{without_head, other_head, is_twice, by_base, not_false, not_true}
 use Rattle.guide_overlay.proofs.judge.judge_detail.Goals as goal

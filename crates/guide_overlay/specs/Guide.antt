@@ -137,10 +137,14 @@ sections_in lines = sections_of (lines_read lines)
 
 -- two words for the same thing
 abbrev pub is_same_topic : Topic → Topic → Bool
-is_same_topic OfTable topic = elim topic [ OfTable ↦ true | OfSegment ↦ false | OfComposite ↦ false | OfCodes ↦ false ]
-is_same_topic OfSegment topic = elim topic [ OfTable ↦ false | OfSegment ↦ true | OfComposite ↦ false | OfCodes ↦ false ]
-is_same_topic OfComposite topic = elim topic [ OfTable ↦ false | OfSegment ↦ false | OfComposite ↦ true | OfCodes ↦ false ]
-is_same_topic OfCodes topic = elim topic [ OfTable ↦ false | OfSegment ↦ false | OfComposite ↦ false | OfCodes ↦ true ]
+is_same_topic OfTable topic =
+    elim topic [ OfTable ↦ true | OfSegment ↦ false | OfComposite ↦ false | OfCodes ↦ false ]
+is_same_topic OfSegment topic =
+    elim topic [ OfTable ↦ false | OfSegment ↦ true | OfComposite ↦ false | OfCodes ↦ false ]
+is_same_topic OfComposite topic =
+    elim topic [ OfTable ↦ false | OfSegment ↦ false | OfComposite ↦ true | OfCodes ↦ false ]
+is_same_topic OfCodes topic =
+    elim topic [ OfTable ↦ false | OfSegment ↦ false | OfComposite ↦ false | OfCodes ↦ true ]
 
 -- a section of that topic with that name
 abbrev pub is_section_of : Topic → Octets → Section → Bool
@@ -328,7 +332,8 @@ narrowed_part details p = part_by_line p.1 (find (is_part p.0) details)
 
 abbrev pub narrowed_composite : List Section → CompositeDef → CompositeDef
 narrowed_composite sections composite = record composite {
-  parts = map (narrowed_part (details_for sections OfComposite (composite_name composite))) (enumerate_from 1 composite.parts);
+  parts = map (narrowed_part (details_for sections OfComposite (composite_name composite)))
+      (enumerate_from 1 composite.parts);
 }
 
 -- the values that are kept

@@ -50,7 +50,8 @@ last_seen (Some head) details = record { topic = head.0; name = head.1.now; deta
 
 -- the sections that were read
 abbrev pub sections_seen : Reading → List Section
-sections_seen reading = map section_seen reading.finished.items ++ last_seen reading.last (map detail_seen reading.details.items)
+sections_seen reading =
+    map section_seen reading.finished.items ++ last_seen reading.last (map detail_seen reading.details.items)
 
 -- the last section with one more detail
 abbrev pub with_detail : List Section → Detail → List Section
@@ -69,7 +70,8 @@ sections_after sections (Some (Under detail)) = with_detail sections detail
 abbrev pub words_seen : List (Bor Octets) → List Octets
 words_seen words = map (λ word. word.now) words
 
--- each name has its form, there is a last section where there is one, and the names and the values of the last section are those that are found by their hash
+-- each name has its form, there is a last section where there is one, and the names and the values of the last section
+-- are those that are found by their hash
 pub record IsReading (reading : Reading) : Type 0 where
   pub named : list_all (λ section. is_named section.topic section.name) (sections_seen reading) ≡ true
   pub begun : reading.last ≡ None → reading.finished.items ≡ []

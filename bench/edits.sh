@@ -7,7 +7,9 @@
 #   segment   a segment put in front of another, and taken out
 # A line has the microseconds an edit and the peak memory; what a script without an edit takes is taken off the time, and the
 # peak memory of that script is beside. Then the time of `errors` after each of 20 edits, and the peak memory of a script that puts
-# 200 repeats, one after the other, into a run of 100,000, each of which places the rest of the run again.
+# 200 repeats, one after the other, into a run of 100,000, each of which places the rest of the run again. A line `session` has
+# the microseconds of another digit, an undo and a redo together, through `edicheck session`, which keeps a hundred texts; its
+# peak memory is beside that of a session without an edit.
 # Times are processor time, the least of three runs.
 # usage: bench/edits.sh   (the program is built first, if need be)
 set -eu
@@ -27,13 +29,13 @@ import orders
 EDITS = 40000
 
 
-def run(script):
+def run(script, command="edit"):
     """The processor time of one run of a script on the text, in seconds, and its peak memory in MiB."""
     with open("script", "wb") as file:
         file.write(script + b"end\n")
     files = [(os.POSIX_SPAWN_OPEN, 0, "script", os.O_RDONLY, 0),
              (os.POSIX_SPAWN_OPEN, 1, "answers", os.O_WRONLY | os.O_CREAT | os.O_TRUNC, 0o600)]
-    child = os.posix_spawn(program, [program, "edit", "m", "text"], os.environ, file_actions=files)
+    child = os.posix_spawn(program, [program, command, "m", "text"], os.environ, file_actions=files)
     _, status, used = os.wait4(child, 0)
     with open("answers", "rb") as file:
         if status or b"no " in file.read():
@@ -41,8 +43,8 @@ def run(script):
     return used.ru_utime + used.ru_stime, used.ru_maxrss // 1024
 
 
-def least(script, count=3):
-    return min(run(script) for _ in range(count))
+def least(script, count=3, command="edit"):
+    return min(run(script, command) for _ in range(count))
 
 
 def replace(at, cut, put):
@@ -75,6 +77,10 @@ for messages in (66, 2000, 16000):
         print(f"{text.count(bytes([39])):8} segments  {name:8} {1e6 * (took - base) / EDITS:8.1f} us  "
               f"{peak:5} MiB, {room} without an edit", flush=True)
     there, back = kinds(text)[0][1:]
+    begun, room = least(b"", command="session")
+    took, peak = least((there + b"undo\nredo\n" + back + b"undo\nredo\n") * (EDITS // 2), command="session")
+    print(f"{text.count(bytes([39])):8} segments  {'session':8} {1e6 * (took - begun) / EDITS:8.1f} us  "
+          f"{peak:5} MiB, {room} without an edit", flush=True)
     asked, _ = least((there + b"errors\n" + back + b"errors\n") * 10)
     print(f"{text.count(bytes([39])):8} segments  {'errors':8} {1e6 * (asked - base) / 20:8.1f} us after each edit", flush=True)
 

@@ -1,5 +1,5 @@
 mod AnswerLemmas
-mod EditLemmas
+mod AnsweredLemmas
 mod OpeningLemmas
 mod ScriptLemmas
 pub mod SteadyLemmas

@@ -12,6 +12,8 @@ use Rattle.listing_printer.specs.declared.text.Detail.TheVariants.{Segments, Val
 use Rattle.edicheck_core.specs.declared.words.Form.{Form}
 use Rattle.edicheck_core.specs.declared.words.Form.TheVariants as form
 use Rattle.edicheck_core.specs.declared.words.Question as asked
+use Rattle.edicheck_core.specs.declared.words.ScriptKind.{ScriptKind}
+use Rattle.edicheck_core.specs.declared.words.ScriptKind.TheVariants.{Edits, Sessions}
 use Rattle.edicheck_core.specs.declared.words.Question.TheVariants as question
 
 -- what is asked of a text: its errors and its tree, or its acknowledgement, made at a time, with a reference of its own
@@ -20,7 +22,8 @@ pub data Question : Type 0 where
   Answer : (stamp : Stamp) → (reference : Octets) → Question
 
 -- what words ask for: help, the version, a text in some detail, the tables of the directory of a manifest, its store,
--- something of a text by that directory, the edits of one, or a drill of so many messages and edits for a number
+-- something of a text by that directory, the answers to a script on one, or a drill of so many messages and edits for a
+-- number
 pub data Asked : Type 0 where
   Help : Asked
   Version : Asked
@@ -28,8 +31,16 @@ pub data Asked : Type 0 where
   Tables : (manifest : Octets) → Asked
   Compile : (manifest : Octets) → Asked
   About : (question : Question) → (manifest : Octets) → (text : Octets) → Asked
-  Edit : (manifest : Octets) → (text : Octets) → Asked
+  Script : (kind : ScriptKind) → (manifest : Octets) → (text : Octets) → Asked
   Drill : (messages : ℕ) → (edits : ℕ) → (number : ℕ) → Asked
+
+-- the answers to a script that edits a text
+abbrev pub Edit : Octets → Octets → Asked
+Edit manifest text = Script Edits manifest text
+
+-- the answers to a script that edits a text, and goes back and on in its past
+abbrev pub Session : Octets → Octets → Asked
+Session manifest text = Script Sessions manifest text
 
 abbrev pub question_shown : asked.Question → Question
 question_shown question.Errors = Errors
@@ -42,7 +53,7 @@ form_shown (form.Text detail) = Text detail
 form_shown (form.Tables manifest) = Tables manifest.now
 form_shown (form.Compile manifest) = Compile manifest.now
 form_shown (form.About question manifest text) = About (question_shown question) manifest.now text.now
-form_shown (form.Edit manifest text) = Edit manifest.now text.now
+form_shown (form.Script kind manifest text) = Script kind manifest.now text.now
 form_shown (form.Drill messages edits number) = Drill messages edits number
 
 -- `--help`, `--version`, `segments` or `values`
@@ -59,12 +70,18 @@ with_manifest word manifest =
     if bytes_eq word (codes "tables") && is_name_of manifest then Some (Tables manifest)
     else (if bytes_eq word (codes "compile") && is_name_of manifest then Some (Compile manifest) else None)
 
--- `check` or `edit`, and the names of a manifest and of a text
+-- `edit` or `session`
+abbrev pub script_kind_of : Octets → Option ScriptKind
+script_kind_of word =
+    if bytes_eq word (codes "edit") then Some Edits
+    else (if bytes_eq word (codes "session") then Some Sessions else None)
+
+-- `check`, or a word that asks for the answers to a script, and the names of a manifest and of a text
 abbrev pub with_text : Octets → Octets → Octets → Option Asked
 with_text word manifest text =
     if is_name_of manifest && is_name_of text
     then (if bytes_eq word (codes "check") then Some (About Errors manifest text)
-    else (if bytes_eq word (codes "edit") then Some (Edit manifest text) else None))
+    else option_map (λ kind. Script kind manifest text) (script_kind_of word))
     else None
 
 -- a number of 1 to 19 digits, from the least to the most
@@ -110,5 +127,5 @@ needs_of (Some (Text detail)) = record { input = true; shelf = false; memory = t
 needs_of (Some (Tables manifest)) = record { input = false; shelf = true; memory = true }
 needs_of (Some (Compile manifest)) = record { input = false; shelf = true; memory = true }
 needs_of (Some (About question manifest text)) = record { input = false; shelf = true; memory = true }
-needs_of (Some (Edit manifest text)) = record { input = true; shelf = true; memory = true }
+needs_of (Some (Script kind manifest text)) = record { input = true; shelf = true; memory = true }
 needs_of (Some (Drill messages edits number)) = record { input = false; shelf = false; memory = true }

@@ -9,3 +9,4 @@ pub mod Made
 pub mod OneOf
 pub mod Plain
 pub mod ProgramRun
+pub mod Scripted

@@ -14,7 +14,7 @@ use Rattle.edi_ports.specs.declared.named.Unread.{Unread}
 use Rattle.edi_ports.specs.Named.{octets_named}
 use Rattle.run_outcome.specs.Outcome.{Outcome, done, no_form, too_large}
 use Rattle.run_outcome.specs.Opening.{Opened, opened, opened_by}
-use Rattle.edicheck_core.specs.Form.{Asked, Help, Version, Text, Tables, Compile, About, Edit, Drill}
+use Rattle.edicheck_core.specs.Form.{Asked, Help, Version, Text, Tables, Compile, About, Script, Drill}
 use Rattle.edicheck_core.specs.About.{after_loading, asked_about}
 use Rattle.edicheck_core.specs.declared.help.TheConstants.{HELP, VERSION}
 use Rattle.edicheck_core.specs.Inputs.{Inputs}
@@ -38,7 +38,7 @@ abbrev pub refused_opening : Result Opened Outcome → Option Outcome
 refused_opening (Ok opening) = None
 refused_opening (Err due) = Some due
 
--- what a run comes to by its words and what is told of its inputs; of an edit this is the refusal in place of a script
+-- what a run comes to by its words and what is told of its inputs; of a script this is the refusal in its place
 abbrev pub made_by : Option Asked → Inputs → Option Outcome
 made_by None before = Some no_form
 made_by (Some Help) before = Some (done HELP.now)
@@ -49,7 +49,7 @@ made_by (Some (Compile name)) before = option_map (λ files. compiled (load_of f
 made_by (Some (About question name text)) before =
     option_map (λ files. asked_about question text (load_of files name) (octets_named LONGEST_TEXT files text))
     before.files
-made_by (Some (Edit name text)) before =
+made_by (Some (Script kind name text)) before =
     option_and_then (λ files. refused_opening (opened_by name text files)) before.files
 made_by (Some (Drill messages edits number)) before = Some (done (drill_text messages edits number))
 
@@ -63,6 +63,6 @@ IsPossible (Some (Tables name)) due = (loaded : Result Directory Refusal) × (du
 IsPossible (Some (Compile name)) due = (loaded : Result Directory Refusal) × (due ≡ compiled loaded)
 IsPossible (Some (About question name text)) due =
     (loaded : Result Directory Refusal) × (read : Result Octets Unread) × (due ≡ asked_about question text loaded read)
-IsPossible (Some (Edit name text)) due =
+IsPossible (Some (Script kind name text)) due =
     (loaded : Result Directory Refusal) × (read : Result Octets Unread) × (opened text loaded read ≡ Err due)
 IsPossible (Some (Drill messages edits number)) due = due ≡ done (drill_text messages edits number)

@@ -17,7 +17,7 @@ use edi_ports::{Shelf, Source};
 use run_outcome::{Made, Status};
 use std::alloc::Global;
 
-/// What words come to that ask for anything but `edit`: what is put, and the status. Nothing was put yet.
+/// What words come to that ask for anything but the answers to a script: what is put, and the status. Nothing was put yet.
 pub(crate) fn decide<S: Shelf, I: Source>(
     alloc: Global,
     form: Option<Form<'_>>,
@@ -62,6 +62,6 @@ pub(crate) fn decide<S: Shelf, I: Source>(
                 number,
             },
         ) => tell_drill(alloc, messages, edits, number),
-        Some(Form::Edit { .. }) => unreachable!(),
+        Some(Form::Script { .. }) => unreachable!(),
     }
 }

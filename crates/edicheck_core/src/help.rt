@@ -6,6 +6,7 @@ pub(crate) const HELP: &[u8] = b"edicheck checks UN/EDIFACT interchanges and dir
 edicheck check MANIFEST TEXT               print the errors of a text, and where its segments are
 edicheck contrl MANIFEST TEXT STAMP REF    print its acknowledgement, a CONTRL message
 edicheck edit MANIFEST TEXT < SCRIPT       answer a script of edits of a text and questions about it
+edicheck session MANIFEST TEXT < SCRIPT    the same, with undo, redo, and batches of edits
 edicheck segments < TEXT                   print the segments of a text
 edicheck values < TEXT                     print its segments with their values
 edicheck tables MANIFEST                   print the segment tables of a directory, and where they are ambiguous

@@ -6,10 +6,10 @@ mod check;
 mod contrl;
 mod decide;
 mod drill;
-mod edit;
 mod help;
 mod listing;
 mod program;
+mod script;
 mod tables;
 mod words;
 

@@ -6,8 +6,9 @@ ghost use Rattle.run_outcome.specs.Finish.{IsFinish};
 ghost use Rattle.run_outcome.specs.Held.{held_of};
 ghost use Rattle.run_outcome.specs.Outcome.{Outcome, memory_refused};
 ghost use Rattle.script_answers.specs.Edit.{IsAnsweredInRoom, IsAnsweredWhole};
+ghost use Rattle.script_answers.specs.Session as session;
 ghost use Rattle.run_outcome.specs.Opening.{IsToldOpening, Opened};
-ghost use Rattle.edicheck_core.specs.Form.{Asked, Edit, form_of, form_shown, needs_of};
+ghost use Rattle.edicheck_core.specs.Form.{Asked, Edit, Session, form_of, form_shown, needs_of};
 ghost use Rattle.edicheck_core.specs.Lawful.{IsLawful};
 ghost use Rattle.edicheck_core.specs.Inputs.{inputs_of};
 ghost use Rattle.edicheck_core.specs.Answer.{IsAnswer, IsSettled};
@@ -17,7 +18,7 @@ ghost use Rattle.edicheck_core.specs.Plain.{IsPlain};
 
 use crate::Status;
 use crate::decide::decide;
-use crate::edit::edit_text;
+use crate::script::answer_text;
 use crate::words::{Form, read_form};
 use edi_ports::{Shelf, Sink, Source};
 use edi_tables::Chunk;
@@ -30,11 +31,11 @@ use std::alloc::Global;
 /// `tables MANIFEST` loads the directory of that manifest from the shelf and prints its segment tables with their
 /// collisions, `compile MANIFEST` its store. `check MANIFEST TEXT` loads that directory, reads the file TEXT, and
 /// prints its errors and its tree; `contrl MANIFEST TEXT STAMP REF` prints its acknowledgement in their place.
-/// `edit MANIFEST TEXT` answers the script on the input, command by command, on that text. `drill N K X` prints what
-/// becomes of an interchange that is made from numbers when it is edited. `--help` and `--version` print a text for
-/// people.
+/// `edit MANIFEST TEXT` answers the script on the input, command by command, on that text; `session MANIFEST TEXT` does
+/// too, by a grammar with `undo`, `redo` and `batch`. `drill N K X` prints what becomes of an interchange that is made from
+/// numbers when it is edited. `--help` and `--version` print a text for people.
 ///
-/// Except for the replies of `edit`, each of which is made before its first octet is put, so is the whole output, or the
+/// Except for the replies to a script, each of which is made before its first octet is put, so is the whole output, or the
 /// line of a refusal. Of several refusals the first comes: words of no form; then for a text on the input a fault of
 /// that or over 4,194,304 octets, for a directory the manifest, each of its files in order, and their parts, then the
 /// file TEXT, and then the script; then a fault of the sink. Memory may be refused at any step of a form that needs it.
@@ -98,9 +99,33 @@ pub fn run<S: Shelf, I: Source, O: Sink>(
         (inputs_of S.Shelf shelf.new I.Source input.new) → ⊥)
         → IsAnsweredInRoom begun.directory begun.text
         (I.rest input.old) (O.has_room out.old) result }
+
+    // So is the script of a session.
+    ensures session_script { (manifest name : List ℕ) (begun : Opened)
+        → form_of words.now ≡ Some (Session manifest name)
+        → IsToldOpening manifest name (S.files shelf.old) begun
+        → session.IsAnsweredWhole (I.rest input.old)
+        (HasFailed (form_of words.now) (inputs_of S.Shelf shelf.old I.Source input.old)
+        (inputs_of S.Shelf shelf.new I.Source input.new))
+        (HasRisen (O.faults out.old) (O.faults out.new)) result }
+
+    ensures session_room { (manifest name : List ℕ) (begun : Opened)
+        → form_of words.now ≡ Some (Session manifest name)
+        → IsToldOpening manifest name (S.files shelf.old) begun
+        → (I.is_steady input.old × S.is_steady shelf.old)
+        ⊎ (HasFailed (form_of words.now) (inputs_of S.Shelf shelf.old I.Source input.old)
+        (inputs_of S.Shelf shelf.new I.Source input.new) → ⊥)
+        → session.IsAnsweredInRoom begun.directory begun.text
+        (I.rest input.old) (O.has_room out.old) result }
 {
     match read_form(words) {
-        Some(Form::Edit { manifest, text }) => edit_text(alloc, manifest, text, shelf, input, out),
+        Some(
+            Form::Script {
+                kind,
+                manifest,
+                text,
+            },
+        ) => answer_text(alloc, kind, manifest, text, shelf, input, out),
         form => settle(alloc, form, shelf, input, out),
     }
 }

@@ -1,7 +1,7 @@
 //! The forms of words.
 ghost use Rattle.std.specs.Prelude.{◌≡◌, ◌≤◌, IfSome};
 ghost use Rattle.std.specs.Option.{option_map};
-ghost use Rattle.edicheck_core.specs.Form.{form_of, form_shown, lone_word, number_in, with_manifest, with_numbers, with_stamp, with_text};
+ghost use Rattle.edicheck_core.specs.Form.{form_of, form_shown, lone_word, number_in, script_kind_of, with_manifest, with_numbers, with_stamp, with_text};
 ghost use Rattle.edicheck_core.specs.Lawful.{IsLawful};
 
 use contrl_segments::{Stamp, is_reference, read_stamp};
@@ -26,6 +26,13 @@ pub(crate) enum Question<'a> {
     Answer { stamp: Stamp, reference: &'a [u8] },
 }
 
+/// Which commands a script has: those of an edit, or those of a session too.
+#[derive(Clone, Copy, Debug)]
+pub(crate) enum ScriptKind {
+    Edits,
+    Sessions,
+}
+
 /// What the words ask for.
 #[derive(Clone, Copy, Debug)]
 pub(crate) enum Form<'a> {
@@ -46,7 +53,8 @@ pub(crate) enum Form<'a> {
         text: &'a [u8],
     },
     /// The answers to a script on the input, on the text of this name, by the directory of the manifest of this name.
-    Edit {
+    Script {
+        kind: ScriptKind,
         manifest: &'a [u8],
         text: &'a [u8],
     },
@@ -126,8 +134,24 @@ fn read_with_text<'a>(word: &[u8], manifest: &'a [u8], text: &'a [u8]) -> Option
             manifest,
             text,
         })
-    } else if word == b"edit".as_slice() {
-        Some(Form::Edit { manifest, text })
+    } else {
+        let kind = read_script_kind(word)?;
+        Some(Form::Script {
+            kind,
+            manifest,
+            text,
+        })
+    }
+}
+
+// The kind of the script that a word asks for, if it asks for one.
+fn read_script_kind(word: &[u8]) -> Option<ScriptKind>
+    ensures { result ≡ script_kind_of word.now }
+{
+    if word == b"edit".as_slice() {
+        Some(ScriptKind::Edits)
+    } else if word == b"session".as_slice() {
+        Some(ScriptKind::Sessions)
     } else {
         None
     }

@@ -97,8 +97,12 @@ impl<'a> PlainFields<'a> {
     fn take_from(&mut self, start: Start) -> &'a [u8]
         requires { self.old.next ≡ Some start }
         ensures { plain_left self.old
-            ≡ record { element = start.element; repetition = 1; component = start.component;
-              octets = result.now } ∷ plain_left self.new }
+            ≡ record {
+              element = start.element;
+              repetition = 1;
+              component = start.component;
+              octets = result.now;
+            } ∷ plain_left self.new }
     {
         let octets = self.octets;
         match self.find_separator(start.at) {

@@ -12,5 +12,6 @@ mod verdict;
 
 pub use build::compile;
 pub use directory::Directory;
+pub use names::Named;
 pub use parts::Parts;
 pub use stop::{CompileKind, CompileStop};

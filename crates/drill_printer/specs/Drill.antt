@@ -9,7 +9,7 @@ use Rattle.drill_maker.specs.Interchange.{interchange_text}
 use Rattle.drill_maker.specs.Reduced.{reduced}
 use Rattle.kept_text.specs.Edit.{text_with}
 use Rattle.text_reading.specs.Errors.{errors_of}
-use Rattle.segment_walk.specs.Count.{segment_count_of}
+use Rattle.segment_records.specs.Count.{segment_count_of}
 
 -- the directory that a drill is checked by
 abbrev pub drill_directory : Directory

@@ -1,7 +1,7 @@
 //! Edits of the text of an engine.
 ghost use Rattle.std.specs.Prelude.{◌≡◌, ◌+◌, ◌≤◌, ◌⊎◌, IfOk, None};
 ghost use Rattle.seg_lexer.specs.Context.{context_of};
-ghost use Rattle.segment_walk.specs.Count.{segment_count_of};
+ghost use Rattle.segment_records.specs.Count.{segment_count_of};
 ghost use Rattle.edi_engine.specs.Edit.{IsEdit, stop_by, stop_of};
 ghost use Rattle.kept_text.specs.Edit.{Edit, edited, reading_with, text_with};
 ghost use Rattle.kept_text.specs.Rerun.{IsRerunBounded, rerun_of};

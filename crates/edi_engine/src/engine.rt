@@ -8,7 +8,7 @@ ghost use Rattle.error_ledger.specs.Printing.{IsWellPlaced, tree_text};
 ghost use Rattle.edi_octets.specs.Decimal.{count_line};
 ghost use Rattle.segment_records.specs.Messages.{mode_after};
 ghost use Rattle.segment_records.specs.Segments.{segments_of_text};
-ghost use Rattle.segment_walk.specs.Count.{segment_count_of};
+ghost use Rattle.segment_records.specs.Count.{segment_count_of};
 ghost use Rattle.text_reading.specs.Clean.{IsCleanAnswer};
 ghost use Rattle.text_reading.specs.Errors.{errors_found, errors_of};
 ghost use Rattle.text_reading.specs.Placed.{AreMessagesPlaced};

@@ -1,15 +1,15 @@
 //! The errors of a text, segment by segment, and all of them in order.
 ghost use Rattle.std.specs.Prelude.{◌≡◌, ◌++◌, OnOk, IfOk};
-ghost use Rattle.segment_walk.specs.Errors.{segment_lines};
-ghost use Rattle.segment_walk.specs.Line.{local_seen};
-ghost use Rattle.segment_walk.specs.Look.{seen_of};
+ghost use Rattle.segment_records.specs.Errors.{segment_lines};
+ghost use Rattle.segment_records.specs.Line.{local_seen};
+ghost use Rattle.segment_records.specs.Look.{seen_of};
 ghost use Rattle.std.specs.List.{enumerate_from, flat_map};
 ghost use Rattle.std.specs.List.Sorted.{IsPermutation};
 ghost use Rattle.error_ledger.specs.Order.{IsAscending};
 ghost use Rattle.envelope_check.specs.Envelope.{envelope_errors_of};
 ghost use Rattle.seg_lexer.specs.Context.{context_of};
 ghost use Rattle.segment_records.specs.Segments.{segments_of_text};
-ghost use Rattle.segment_walk.specs.Heads.{heads_of, marks_of};
+ghost use Rattle.segment_records.specs.Heads.{heads_of, marks_of};
 ghost use Rattle.text_reading.specs.Errors.{errors_found, errors_of};
 
 use crate::heads::envelopes_of;
@@ -18,7 +18,7 @@ use crate::structure::put_structure;
 use envelope_check::envelope_errors;
 use error_ledger::{ErrorLine, order_errors};
 use kept_text::KeptText;
-use segment_walk::WalkedSegment;
+use segment_records::WalkedSegment;
 use std::alloc::{AllocError, Global};
 
 /// Puts the local errors of a segment. Only want of memory is an error.

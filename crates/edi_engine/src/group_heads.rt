@@ -2,8 +2,8 @@
 ghost use Rattle.std.specs.Prelude.{◌≡◌, ◌+◌, ◌++◌, ◌<◌, ◌≤◌, IfOk, None, OnOk, Some, codes, if◌then◌else◌, length};
 ghost use Rattle.edi_tables.specs.Rows.{has_name};
 ghost use Rattle.seg_lexer.specs.Service.{IsUsable};
-ghost use Rattle.segment_walk.specs.Look.{seen_of};
-ghost use Rattle.segment_walk.specs.Spans.{ended_by, group_ended, group_seen, last_by as last_by_of, stops_group as stops_group_of};
+ghost use Rattle.segment_records.specs.Look.{seen_of};
+ghost use Rattle.segment_records.specs.Spans.{ended_by, group_ended, group_seen, last_by as last_by_of, stops_group as stops_group_of};
 ghost use Rattle.segment_records.specs.Segments.{segments_of_text};
 ghost use Rattle.text_reading.specs.Summary.{groups_in};
 ghost use Rattle.edi_octets.specs.declared.octets.TheConstants.{LONGEST_TEXT};
@@ -14,8 +14,7 @@ use edi_octets::Octets;
 use edi_tables::{Chunk, Tag};
 use kept_text::KeptText;
 use seg_lexer::Service;
-use segment_records::{copy_value, is_named, is_no_part};
-use segment_walk::WalkedSegment;
+use segment_records::{WalkedSegment, copy_value, is_named, is_no_part};
 use std::alloc::{AllocError, Global};
 
 /// Puts the functional group that is open, if there is one, with its last segment, by its number from 1. Only want of memory is

@@ -2,9 +2,9 @@
 ghost use Rattle.std.specs.Prelude.{◌≡◌, ◌+◌, ◌≤◌, length, IfOk};
 ghost use Rattle.seg_lexer.specs.Left.{components_left};
 ghost use Rattle.seg_lexer.specs.Service.{IsUsable};
-ghost use Rattle.segment_walk.specs.Heads.{count_in, name_in, reference_in, heads_of, marks_of};
-ghost use Rattle.segment_walk.specs.Look.{seen_of};
-ghost use Rattle.segment_walk.specs.Told.{head_seen};
+ghost use Rattle.segment_records.specs.Heads.{count_in, name_in, reference_in, heads_of, marks_of};
+ghost use Rattle.segment_records.specs.Look.{seen_of};
+ghost use Rattle.segment_records.specs.Told.{head_seen};
 ghost use Rattle.segment_records.specs.Segments.{segments_of_text};
 ghost use Rattle.edi_octets.specs.declared.octets.TheConstants.{LONGEST_TEXT};
 
@@ -13,8 +13,7 @@ use edi_tables::Chunk;
 use envelope_check::{Head, HeadKind, SegmentMark};
 use kept_text::KeptText;
 use seg_lexer::{Fields, Service};
-use segment_records::{copy_two, copy_value};
-use segment_walk::WalkedSegment;
+use segment_records::{WalkedSegment, copy_two, copy_value};
 use std::alloc::{AllocError, Global};
 
 /// A segment as a head of this kind, with the values that its kind gives. They are read from its text, by the service

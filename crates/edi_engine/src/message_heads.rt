@@ -2,8 +2,8 @@
 ghost use Rattle.std.specs.Prelude.{◌≡◌, ◌+◌, ◌++◌, ◌<◌, ◌≤◌, IfOk, None, OnOk, Some, codes, if◌then◌else◌, length};
 ghost use Rattle.edi_tables.specs.Rows.{has_name};
 ghost use Rattle.seg_lexer.specs.Service.{IsUsable};
-ghost use Rattle.segment_walk.specs.Look.{seen_of};
-ghost use Rattle.segment_walk.specs.Spans.{begun_by as begun_by_of, ended_by, group_by as group_by_of, message_ended, message_seen, stops_message as stops_message_of};
+ghost use Rattle.segment_records.specs.Look.{seen_of};
+ghost use Rattle.segment_records.specs.Spans.{begun_by as begun_by_of, ended_by, group_by as group_by_of, message_ended, message_seen, stops_message as stops_message_of};
 ghost use Rattle.segment_records.specs.Segments.{segments_of_text};
 ghost use Rattle.text_reading.specs.Summary.{messages_in};
 ghost use Rattle.edi_octets.specs.declared.octets.TheConstants.{LONGEST_TEXT};
@@ -14,8 +14,7 @@ use edi_octets::Octets;
 use edi_tables::Tag;
 use kept_text::KeptText;
 use seg_lexer::Service;
-use segment_records::{copy_value, is_named};
-use segment_walk::WalkedSegment;
+use segment_records::{WalkedSegment, copy_value, is_named};
 use std::alloc::{AllocError, Global};
 
 /// Puts the message that is open, if there is one, with its last segment, by its number from 1. Only want of memory is an error.

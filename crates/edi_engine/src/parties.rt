@@ -1,7 +1,7 @@
 //! The parties of an interchange and of a functional group.
 ghost use Rattle.std.specs.Prelude.{◌≡◌, IfOk};
 ghost use Rattle.seg_lexer.specs.Left.{components_left};
-ghost use Rattle.segment_walk.specs.Openers.{party_in};
+ghost use Rattle.segment_records.specs.Openers.{party_in};
 
 use contrl_segments::Party;
 use edi_octets::Octets;

@@ -5,15 +5,14 @@ ghost use Rattle.edi_tables.specs.Pairs.{count_in as count_of};
 ghost use Rattle.edi_tables.specs.Walk.{groups_round};
 ghost use Rattle.segment_records.specs.Places.{opened_by, opening_place as opening_place_of, place_by, place_with};
 ghost use Rattle.table_walk.specs.Steps.{AreCountsUpTo};
-ghost use Rattle.segment_walk.specs.Groups.{numbers_in};
-ghost use Rattle.segment_walk.specs.Look.{seen_of};
-ghost use Rattle.segment_walk.specs.WalkedSegments.{Follows, as_segment};
+ghost use Rattle.segment_records.specs.Groups.{numbers_in};
+ghost use Rattle.segment_records.specs.Look.{seen_of};
+ghost use Rattle.segment_records.specs.WalkedSegments.{Follows, as_segment};
 
 use dir_compile::Directory;
 use edi_tables::{List, Table};
 use error_ledger::{GroupMark, TreePlace};
-use segment_records::{Mode, is_named, is_no_part};
-use segment_walk::WalkedSegment;
+use segment_records::{Mode, WalkedSegment, is_named, is_no_part};
 use std::alloc::{AllocError, Global};
 use table_walk::State;
 

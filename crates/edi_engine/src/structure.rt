@@ -4,16 +4,15 @@ ghost use Rattle.std.specs.Option.{option_copied};
 ghost use Rattle.edi_tables.specs.Walk.{entry_for as entry_for_of};
 ghost use Rattle.table_walk.specs.Errors.Fault.{Missing};
 ghost use Rattle.table_walk.specs.Steps.{IsShaped, member_in, missing_in};
-ghost use Rattle.segment_walk.specs.Errors.{fault_line};
-ghost use Rattle.segment_walk.specs.Line.{end_lines, ends_before as ends_before_of, fault_lines, faults_of_step, step_lines, structure_seen};
-ghost use Rattle.segment_walk.specs.Look.{seen_of};
-ghost use Rattle.segment_walk.specs.WalkedSegments.{Follows, as_segment, bounds_message as bounds_message_of};
+ghost use Rattle.segment_records.specs.Errors.{fault_line};
+ghost use Rattle.segment_records.specs.Line.{end_lines, ends_before as ends_before_of, fault_lines, faults_of_step, step_lines, structure_seen};
+ghost use Rattle.segment_records.specs.Look.{seen_of};
+ghost use Rattle.segment_records.specs.WalkedSegments.{Follows, as_segment, bounds_message as bounds_message_of};
 
 use dir_compile::Directory;
 use edi_tables::{Table, Tag};
 use error_ledger::{ErrorLine, Kind};
-use segment_records::{Mode, Record, is_named, is_no_part};
-use segment_walk::WalkedSegment;
+use segment_records::{Mode, Record, WalkedSegment, is_named, is_no_part};
 use std::alloc::{AllocError, Global};
 use table_walk::State;
 

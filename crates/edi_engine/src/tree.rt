@@ -3,10 +3,10 @@ ghost use Rattle.std.specs.Prelude.{◌≡◌, ◌++◌, All, IfOk, codes, map};
 ghost use Rattle.dir_compile.specs.Directory.{tables_of};
 ghost use Rattle.error_ledger.specs.Printing.{IsWellPlaced, tree_text};
 ghost use Rattle.edi_octets.specs.Decimal.{count_line};
-ghost use Rattle.segment_walk.specs.Groups.{numbers_in};
-ghost use Rattle.segment_walk.specs.Look.{seen_of};
-ghost use Rattle.segment_walk.specs.WalkedSegments.{Follows};
-ghost use Rattle.segment_walk.specs.Told.{line_in_tree};
+ghost use Rattle.segment_records.specs.Groups.{numbers_in};
+ghost use Rattle.segment_records.specs.Look.{seen_of};
+ghost use Rattle.segment_records.specs.WalkedSegments.{Follows};
+ghost use Rattle.segment_records.specs.Told.{line_in_tree};
 ghost use Rattle.text_reading.specs.Placed.{AreMessagesPlaced};
 ghost use Rattle.text_reading.specs.Tree.{tree_of};
 
@@ -15,7 +15,7 @@ use dir_compile::Directory;
 use edi_tables::{Chunk, List};
 use error_ledger::{TreeLine, put_tree_line};
 use kept_text::KeptText;
-use segment_walk::WalkedSegment;
+use segment_records::WalkedSegment;
 use std::alloc::{AllocError, Global};
 
 /// Room for the lines of a segment: most have 8 to 20 octets, and some open a group, which is a line more.

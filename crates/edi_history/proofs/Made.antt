@@ -3,7 +3,7 @@ use Rattle.std.proofs.Common.{◌≡◌, ◌∙◌, sym, ap, refl, ℕ, ◌+◌,
 use Rattle.std.proofs.lemmas.List.{take_more}
 use Rattle.dir_compile.specs.Directory.{Directory}
 use Rattle.edi_tables.specs.Octets.{Octets}
-use Rattle.segment_walk.specs.Count.{segment_count_of}
+use Rattle.segment_records.specs.Count.{segment_count_of}
 use Rattle.kept_text.specs.Reading.{Reading}
 use Rattle.edi_engine.specs.Edit.{stop_of}
 use Rattle.edi_engine.specs.declared.edit.EditStop.{EditStop}

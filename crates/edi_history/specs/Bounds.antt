@@ -3,7 +3,7 @@ use Rattle.std.specs.Prelude.{◌≡◌, ℕ, ◌+◌, ◌≤◌, List, [], ◌�
 use Rattle.dir_compile.specs.Directory.{Directory}
 use Rattle.edi_tables.specs.Octets.{Octets}
 use Rattle.seg_lexer.specs.Context.{context_of}
-use Rattle.segment_walk.specs.Count.{segment_count_of}
+use Rattle.segment_records.specs.Count.{segment_count_of}
 use Rattle.kept_text.specs.Edit.{Edit}
 use Rattle.kept_text.specs.Rerun.{IsRerunBounded, rerun_of}
 use Rattle.kept_text.specs.Stretch.{reach_of}

@@ -1,7 +1,7 @@
 //! A text with the versions before it and those that were undone.
 ghost use Rattle.std.specs.Prelude.{◌≡◌, ◌+◌, ◌≤◌, ◌⊎◌, ◌↔◌, [], IfOk, None, length};
 ghost use Rattle.seg_lexer.specs.Context.{context_of};
-ghost use Rattle.segment_walk.specs.Count.{segment_count_of};
+ghost use Rattle.segment_records.specs.Count.{segment_count_of};
 ghost use Rattle.kept_text.specs.Edit.{Edit, edited, text_with};
 ghost use Rattle.kept_text.specs.Rerun.{IsRerunBounded, rerun_of};
 ghost use Rattle.kept_text.specs.Stretch.{reach_of};

@@ -23,8 +23,8 @@ use Rattle.edi_octets.specs.Profile.{status_in, with_earlier}
 use Rattle.dir_compile.specs.declared.parts.Parts.{Parts}
 use Rattle.dir_compile.specs.Compile.{element_name, list_name, composite_name, segment_name, message_name, value_name, named_in}
 use Rattle.dir_compile.specs.InOrder.{ascending_by}
-use Rattle.guide_laws.specs.Guide.{NodeChange, TableChange, narrowed_rows}
-use Rattle.guide_laws.specs.Guide.NodeChange.{Drop, Keep}
+use Rattle.guide_overlay.specs.Rows.{NodeChange, TableChange, narrowed_rows}
+use Rattle.guide_overlay.specs.Rows.NodeChange.{Drop, Keep}
 use Rattle.guide_overlay.specs.declared.line.Topic.{Topic}
 use Rattle.guide_overlay.specs.declared.line.Topic.TheVariants.{OfTable, OfSegment, OfComposite, OfCodes}
 use Rattle.guide_overlay.specs.declared.stop.GuideKind.{GuideKind}

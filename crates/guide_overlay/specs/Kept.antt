@@ -3,7 +3,7 @@ use Rattle.std.specs.Prelude.{◌≡◌, Bool, true, List, [], ◌∷◌, ◌++�
 use Rattle.std.specs.List.{list_all}
 use Rattle.std.specs.Borrow.{Bor}
 use Rattle.edi_tables.specs.Octets.{Octets}
-use Rattle.guide_laws.specs.Guide.NodeChange.{Drop, Keep}
+use Rattle.guide_overlay.specs.Rows.NodeChange.{Drop, Keep}
 use Rattle.guide_overlay.specs.declared.line.DetailText.{DetailText}
 use Rattle.guide_overlay.specs.declared.line.DetailText.TheVariants as text
 use Rattle.guide_overlay.specs.declared.line.LineRead.{LineRead}

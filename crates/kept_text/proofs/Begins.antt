@@ -11,7 +11,7 @@ use Rattle.seg_lexer.specs.Whole.{after_last}
 use Rattle.seg_lexer.proofs.EndsLemmas.{IsAscending, IsAscending-lower, below-none, ends-ascending}
 use Rattle.seg_lexer.proofs.ServiceLemmas.{service_of-usable}
 use Rattle.segment_records.specs.Records.{Kept}
-use Rattle.segment_walk.specs.WalkedSegments.{kept_in, octets_in}
+use Rattle.segment_records.specs.WalkedSegments.{kept_in, octets_in}
 use Rattle.kept_text.specs.Edit.{Edit, edited}
 use Rattle.kept_text.specs.Stretch.{stretch_from}
 use Rattle.kept_text.proofs.Fronts.{from_old, segments_kept}

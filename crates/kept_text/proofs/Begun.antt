@@ -15,10 +15,10 @@ use Rattle.segment_records.specs.Segments.{segments_by, segments_of_text}
 use Rattle.segment_records.specs.declared.mode.Mode.TheVariants.{Outside}
 use Rattle.segment_records.proofs.BodyLaws.{moved_on, whole_is_body}
 use Rattle.segment_records.proofs.ModeLaws.{length_kept}
-use Rattle.segment_walk.specs.Count.{segment_count_of}
-use Rattle.segment_walk.specs.WalkedSegments.{kept_in}
-use Rattle.segment_walk.proofs.Rests.{rest_count, rest_segments, same_count}
-use Rattle.segment_walk.proofs.Stretches.{context_service, few_segments}
+use Rattle.segment_records.specs.Count.{segment_count_of}
+use Rattle.segment_records.specs.WalkedSegments.{kept_in}
+use Rattle.segment_records.proofs.Rests.{rest_count, rest_segments, same_count}
+use Rattle.segment_records.proofs.Stretches.{context_service, few_segments}
 
 -- by its context
 module _ (text : List ℕ) (context : Context) (is : context ≡ context_of text) where

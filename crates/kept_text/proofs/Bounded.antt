@@ -11,7 +11,7 @@ use Rattle.seg_lexer.specs.Service.{service_of}
 use Rattle.seg_lexer.specs.declared.service.Service.{Service}
 use Rattle.seg_lexer.proofs.EndsLemmas.{ends-ascending}
 use Rattle.segment_records.specs.Segments.{Segment, segments_by, segments_of_text}
-use Rattle.segment_walk.proofs.Rests.{length_segments}
+use Rattle.segment_records.proofs.Rests.{length_segments}
 use Rattle.kept_text.specs.Edit.{Edit, edited}
 use Rattle.kept_text.specs.Stretch.{ends_moved, first_kept, is_among, segments_before, stretch_from, stretch_to}
 use Rattle.kept_text.specs.Rerun.{IsRerunBounded, bounds_extent, rerun_of}

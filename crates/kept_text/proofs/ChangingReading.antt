@@ -10,9 +10,9 @@ use Rattle.segment_records.specs.Messages.{mode_after}
 use Rattle.segment_records.specs.Records.{IsModeOf, Kept}
 use Rattle.segment_records.specs.Segments.{segments_of_text}
 use Rattle.segment_records.specs.declared.mode.Mode.{Mode}
-use Rattle.segment_walk.specs.Count.{segment_count_of}
-use Rattle.segment_walk.specs.WalkedSegments.{kept_in, octets_in}
-use Rattle.segment_walk.proofs.Rests.{rest_count}
+use Rattle.segment_records.specs.Count.{segment_count_of}
+use Rattle.segment_records.specs.WalkedSegments.{kept_in, octets_in}
+use Rattle.segment_records.proofs.Rests.{rest_count}
 use Rattle.kept_text.specs.Again.{last_mode}
 use Rattle.kept_text.specs.Edit.{Edit, edited, text_with}
 use Rattle.kept_text.specs.Kept.{IsReading, reading}

@@ -12,7 +12,7 @@ use Rattle.segment_records.specs.Segments.{segments_by}
 use Rattle.segment_records.specs.Steps.{mode_from}
 use Rattle.segment_records.specs.declared.mode.Mode.{Mode}
 use Rattle.segment_records.specs.declared.mode.Mode.TheVariants.{Outside}
-use Rattle.segment_walk.proofs.Rests.{kept_rest}
+use Rattle.segment_records.proofs.Rests.{kept_rest}
 use Rattle.kept_text.proofs.Records.{drop_kept, take_kept}
 
 -- what is kept of all segments of a text, by this context

@@ -13,8 +13,8 @@ use Rattle.seg_lexer.proofs.ServiceLemmas.{service_of-usable}
 use Rattle.segment_records.specs.Segments.{segments_of_text, segments_by}
 use Rattle.segment_records.specs.declared.mode.Mode.TheVariants.{Outside}
 use Rattle.segment_records.proofs.ModeLaws.{length_kept}
-use Rattle.segment_walk.specs.WalkedSegments.{kept_in, octets_in}
-use Rattle.segment_walk.proofs.Rests.{length_segments}
+use Rattle.segment_records.specs.WalkedSegments.{kept_in, octets_in}
+use Rattle.segment_records.proofs.Rests.{length_segments}
 use Rattle.kept_text.specs.Again.{IsEndOf}
 use Rattle.kept_text.specs.Edit.{Edit}
 use Rattle.kept_text.specs.Stretch.{ends_moved, is_among}

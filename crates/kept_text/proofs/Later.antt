@@ -24,7 +24,7 @@ use Rattle.segment_records.specs.declared.mode.Mode.TheVariants.{Outside, Untabl
 use Rattle.segment_records.proofs.BodyLaws.{moved_on}
 use Rattle.segment_records.proofs.Forgets.{forgets_before}
 use Rattle.segment_records.proofs.ModeLaws.{steps_are_modes}
-use Rattle.segment_walk.proofs.Rests.{rest_segments}
+use Rattle.segment_records.proofs.Rests.{rest_segments}
 use Rattle.kept_text.specs.Rerun.{bounds_extent}
 use Rattle.kept_text.proofs.Taken.{boundary_number, ends_front}
 

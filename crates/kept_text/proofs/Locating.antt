@@ -6,7 +6,7 @@ use Rattle.std.proofs.lemmas.List.Sums.{sum_by_more, sum_by-take-le}
 use Rattle.std.proofs.lemmas.Bool.{cases_lt}
 use Rattle.std.proofs.lemmas.Option.{get_or_from_slice_get, slice_get_within}
 use Rattle.segment_records.specs.Records.{Kept}
-use Rattle.segment_walk.specs.WalkedSegments.{octets_in}
+use Rattle.segment_records.specs.WalkedSegments.{octets_in}
 
 -- the octets of the records up to one, itself included, are those before it and its own
 pub octets_with : (kept : List Kept) (p : ℕ) (item : Kept) → slice_get kept p ≡ Some item

@@ -12,7 +12,7 @@ use Rattle.segment_records.specs.declared.mode.Mode.{Mode}
 use Rattle.segment_records.specs.declared.mode.Mode.TheVariants.{Outside}
 use Rattle.segment_records.proofs.Held.{mode_first}
 use Rattle.segment_records.proofs.ModeLaws.{kept_is, length_kept, steps_are_modes}
-use Rattle.segment_walk.specs.WalkedSegments.{kept_in}
+use Rattle.segment_records.specs.WalkedSegments.{kept_in}
 use Rattle.kept_text.specs.Again.{last_mode}
 use Rattle.kept_text.proofs.LastMode.{last_mode_at}
 

@@ -12,14 +12,14 @@ use Rattle.segment_records.specs.Segments.{segments_of_text}
 use Rattle.segment_records.specs.declared.mode.Mode.{Mode}
 use Rattle.segment_records.specs.declared.mode.Mode.TheVariants.{Outside}
 use Rattle.segment_records.proofs.ModeLaws.{length_kept}
-use Rattle.segment_walk.specs.Count.{segment_count_of}
+use Rattle.segment_records.specs.Count.{segment_count_of}
 use Rattle.kept_text.specs.declared.kept.KeptText.TheInside.{Inside}
 use Rattle.kept_text.specs.Again.{last_mode}
 use Rattle.kept_text.specs.Kept.{IsReading}
 use Rattle.kept_text.proofs.ModesTaken.{modes_taken}
-use Rattle.segment_walk.specs.WalkedSegments.{AreStretches, kept_in, octets_in, seen_from, seen_in}
-use Rattle.segment_walk.proofs.Rests.{same_count}
-use Rattle.segment_walk.proofs.Stretches.{context_service, few_segments, kept_stretches, last_boundary}
+use Rattle.segment_records.specs.WalkedSegments.{AreStretches, kept_in, octets_in, seen_from, seen_in}
+use Rattle.segment_records.proofs.Rests.{same_count}
+use Rattle.segment_records.proofs.Stretches.{context_service, few_segments, kept_stretches, last_boundary}
 
 module _ (e : Inside) (it : IsReading e) where
   pub service_is : e.context.service ≡ service_of e.text

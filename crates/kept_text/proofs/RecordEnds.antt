@@ -16,7 +16,7 @@ use Rattle.segment_records.specs.Records.{Kept, kept_from, kept_of}
 use Rattle.segment_records.specs.Segments.{Segment, segment_between}
 use Rattle.segment_records.specs.Steps.{step_of}
 use Rattle.segment_records.specs.declared.mode.Mode.{Mode}
-use Rattle.segment_walk.specs.WalkedSegments.{octets_in}
+use Rattle.segment_records.specs.WalkedSegments.{octets_in}
 use Rattle.kept_text.proofs.Places.{starts}
 
 -- boundary j is after the octets of the first j records

@@ -11,8 +11,8 @@ use Rattle.seg_lexer.proofs.EndsLemmas.{IsAscending, ends-ascending}
 use Rattle.seg_lexer.proofs.SegmentsLemmas.{boundary-high}
 use Rattle.segment_records.specs.Segments.{segments_by}
 use Rattle.segment_records.proofs.BodyLaws.{moved_on}
-use Rattle.segment_walk.proofs.Rests.{length_segments, rest_count, rest_segments}
-use Rattle.segment_walk.proofs.Stretches.{few_segments}
+use Rattle.segment_records.proofs.Rests.{length_segments, rest_count, rest_segments}
+use Rattle.segment_records.proofs.Stretches.{few_segments}
 use Rattle.kept_text.proofs.Taken.{boundary_number}
 
 -- a boundary isn't before as many octets as its number

@@ -6,7 +6,7 @@ use Rattle.dir_compile.specs.declared.parts.Parts.{Parts}
 use Rattle.seg_lexer.specs.Segments.{boundaries_of, ends_of}
 use Rattle.seg_lexer.specs.Service.{IsUsable, service_of}
 use Rattle.seg_lexer.proofs.ServiceLemmas.{service_of-usable}
-use Rattle.segment_walk.specs.WalkedSegments.{kept_in}
+use Rattle.segment_records.specs.WalkedSegments.{kept_in}
 use Rattle.kept_text.specs.Again.{IsEndOf, NoneBefore}
 use Rattle.kept_text.specs.Edit.{Edit, edited}
 use Rattle.kept_text.specs.Stretch.{ends_moved, first_kept, is_among, reach_of}

@@ -12,8 +12,8 @@ use Rattle.seg_lexer.specs.declared.service.Service.{Service}
 use Rattle.segment_records.specs.Records.{IsModeOf, Kept, kept_of, records_from}
 use Rattle.segment_records.specs.Segments.{segment_read}
 use Rattle.segment_records.specs.declared.mode.Mode.{Mode}
-use Rattle.segment_walk.proofs.Counts.{mode_more}
-use Rattle.segment_walk.proofs.Rests.{read_next}
+use Rattle.segment_records.proofs.Counts.{mode_more}
+use Rattle.segment_records.proofs.Rests.{read_next}
 use Rattle.kept_text.specs.Again.{IsEndOf, NoneBefore, last_mode}
 use Rattle.kept_text.specs.declared.stretch.Span.{Span}
 use Rattle.kept_text.proofs.LastMode.{last_mode_more}

@@ -13,7 +13,7 @@ use Rattle.seg_lexer.proofs.SegmentsLemmas.{boundary-high}
 use Rattle.seg_lexer.proofs.WholeLemmas.{whole-take}
 use Rattle.segment_records.specs.Segments.{segments_by}
 use Rattle.segment_records.proofs.BodyLaws.{moved_on, segments_append}
-use Rattle.segment_walk.proofs.Rests.{length_segments}
+use Rattle.segment_records.proofs.Rests.{length_segments}
 use Rattle.kept_text.proofs.Places.{below_start}
 
 module _ (s : Service) (text : List ℕ) (usable : IsUsable s text) (k from : ℕ)

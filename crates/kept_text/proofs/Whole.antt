@@ -17,9 +17,9 @@ use Rattle.segment_records.specs.Steps.{mode_from}
 use Rattle.segment_records.specs.declared.mode.Mode.{Mode}
 use Rattle.segment_records.specs.declared.mode.Mode.TheVariants.{Outside}
 use Rattle.segment_records.proofs.ModeLaws.{mode_from_is}
-use Rattle.segment_walk.specs.WalkedSegments.{kept_in}
-use Rattle.segment_walk.proofs.Rests.{length_segments}
-use Rattle.segment_walk.proofs.Stretches.{context_service}
+use Rattle.segment_records.specs.WalkedSegments.{kept_in}
+use Rattle.segment_records.proofs.Rests.{length_segments}
+use Rattle.segment_records.proofs.Stretches.{context_service}
 use Rattle.kept_text.specs.Edit.{Edit, edited}
 use Rattle.kept_text.specs.Stretch.{stretch_from}
 use Rattle.kept_text.proofs.Joined.{front_kept, joined, kept_of_text}

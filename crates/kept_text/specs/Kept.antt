@@ -4,7 +4,7 @@ use Rattle.dir_compile.specs.Directory.{IsDirectory}
 use Rattle.seg_lexer.specs.Context.{context_of}
 use Rattle.segment_records.specs.declared.mode.Mode.TheVariants.{Outside}
 use Rattle.kept_text.specs.Reading.{Reading}
-use Rattle.segment_walk.specs.WalkedSegments.{kept_in}
+use Rattle.segment_records.specs.WalkedSegments.{kept_in}
 use Rattle.kept_text.specs.declared.kept.KeptText.TheInside.{Inside}
 use Rattle.edi_octets.specs.declared.octets.TheConstants.{LONGEST_TEXT}
 

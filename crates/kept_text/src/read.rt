@@ -9,8 +9,8 @@ ghost use Rattle.seg_lexer.specs.Whole.{at_start};
 ghost use Rattle.segment_records.specs.Laws.{ForgetsBefore, StepsAreModes, StepsTellFaults, StepsTellPlaces, WholeIsBody, WholeThenMore};
 ghost use Rattle.segment_records.specs.Records.{IsModeOf, records_from};
 ghost use Rattle.segment_records.specs.Segments.{Segment, segments_by};
-ghost use Rattle.segment_walk.specs.Count.{segment_count_of};
-ghost use Rattle.segment_walk.specs.WalkedSegments.{kept_in};
+ghost use Rattle.segment_records.specs.Count.{segment_count_of};
+ghost use Rattle.segment_records.specs.WalkedSegments.{kept_in};
 ghost use Rattle.edi_octets.specs.declared.octets.TheConstants.{LONGEST_TEXT};
 
 use clean_segments::CleanSegments;

@@ -2,7 +2,7 @@
 ghost use Rattle.std.specs.Prelude.{◌≡◌, ◌+◌, ◌-◌, ◌≤◌, ◌⊎◌, true, false, length, take, drop, IfOk};
 ghost use Rattle.edi_octets.specs.declared.octets.TheConstants.{LONGEST_TEXT};
 ghost use Rattle.segment_records.specs.Records.{IsModeOf};
-ghost use Rattle.segment_walk.specs.WalkedSegments.{bounds_message as bounds_message_by};
+ghost use Rattle.segment_records.specs.WalkedSegments.{bounds_message as bounds_message_by};
 ghost use Rattle.kept_text.specs.Again.{AreInner, AreOthers, StaysAfter, last_mode, placed_from};
 
 use crate::read::mode_after;

@@ -8,7 +8,7 @@ ghost use Rattle.seg_lexer.specs.Service.{IsUsable};
 ghost use Rattle.seg_lexer.specs.Whole.{at_start};
 ghost use Rattle.segment_records.specs.Records.{IsModeOf, records_from};
 ghost use Rattle.segment_records.specs.Segments.{segments_by};
-ghost use Rattle.segment_walk.specs.WalkedSegments.{octets_in};
+ghost use Rattle.segment_records.specs.WalkedSegments.{octets_in};
 
 use crate::read::mode_after;
 use clean_segments::CleanSegments;

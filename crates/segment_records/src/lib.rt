@@ -1,13 +1,22 @@
-//! What a reading keeps of each segment of a text: its local errors, where it is in its message, and the mode after it.
+//! What a reading keeps of each segment of a text: its local errors, where it is in its message, and the mode after it. And
+//! the walk over these: the segments of a text, one after the other, each by its record, the text and the directory.
+//!
+//! `Count`, `Errors`, `Heads` and `Openers` of its definitions are rules on segments by themselves. `Groups`, `Line`, `Look`,
+//! `Spans`, `Told`, `Walked` and `WalkedSegments` say the same of a segment by what is seen of it in a walk over records, and
+//! laws in `proofs` lead from these to those.
 #![tactic(auto)]
 
+mod errors;
 mod mode;
 mod record;
 mod step;
 mod tags;
 mod values;
+mod walked_segment;
 
+pub use errors::error_with;
 pub use mode::Mode;
 pub use record::{Record, SegmentPlace};
 pub use tags::{is_named, is_no_part};
-pub use values::{copy_two, copy_value, find_table};
+pub use values::{copy_two, copy_value, find_table, lend_found};
+pub use walked_segment::{Segments, WalkedSegment};

@@ -184,8 +184,8 @@ fn copy_found<O: Octets>(alloc: Global, value: Option<Value<'_, O>>) -> Result<C
     }
 }
 
-// The octets of a value, which the text lends where it can; none where there is no value.
-fn lend_found<'a, O: Octets>(
+/// The octets of a value, which the text lends where it can; none where there is no value. Only want of memory is an error.
+pub fn lend_found<'a, O: Octets>(
     alloc: Global,
     value: Option<Value<'a, O>>,
 ) -> Result<CowSlice<'a, u8, Global>, AllocError>

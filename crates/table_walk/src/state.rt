@@ -184,6 +184,7 @@ fn state_next(alloc: Global, position: &Position<'_>, entry: u16) -> Result<Stat
 }
 
 // These nodes as a list.
+#[inline(always)]
 fn gather(alloc: Global, nodes: Missing<'_>) -> Result<SmallVec<u16, 4>, AllocError>
     ensures { IfOk result (λ list. list.items ≡ nodes.entry) }
 {

@@ -16,19 +16,19 @@ use Rattle.seg_lexer.specs.Segments.{tail_of}
 use Rattle.seg_lexer.specs.Service.{service_of}
 use Rattle.seg_lexer.specs.declared.service.Service.{Service}
 use Rattle.segment_records.specs.Segments.{Segment, segments_of_text, value_in}
-use Rattle.segment_walk.specs.Count.{segment_count_of}
-use Rattle.segment_walk.specs.Errors.{error_with, is_unknown, levels, segment_lines, versions}
+use Rattle.segment_records.specs.Count.{segment_count_of}
+use Rattle.segment_records.specs.Errors.{error_with, is_unknown, levels, segment_lines, versions}
 use Rattle.text_reading.specs.Errors.{advice_lines, errors_found, opening_lines, syntax_lines, tail_lines}
-use Rattle.segment_walk.specs.Heads.{heads_of, marks_of}
-use Rattle.segment_walk.specs.Line.{opening_seen}
-use Rattle.segment_walk.specs.Look.{seen_of}
-use Rattle.segment_walk.specs.declared.walked_segment.WalkedSegment.{WalkedSegment}
-use Rattle.segment_walk.specs.WalkedSegments.{SeenSegment, as_segment, seen_at, seen_in}
-use Rattle.segment_walk.proofs.Following.{stretch_in}
-use Rattle.segment_walk.proofs.Headed.{components_alike, place_in, starts_alike}
-use Rattle.segment_walk.proofs.Looking.{seen_is}
-use Rattle.segment_walk.proofs.Rests.{same_count}
-use Rattle.segment_walk.proofs.Stretches.{context_service, few_segments}
+use Rattle.segment_records.specs.Heads.{heads_of, marks_of}
+use Rattle.segment_records.specs.Line.{opening_seen}
+use Rattle.segment_records.specs.Look.{seen_of}
+use Rattle.segment_records.specs.declared.walked_segment.WalkedSegment.{WalkedSegment}
+use Rattle.segment_records.specs.WalkedSegments.{SeenSegment, as_segment, seen_at, seen_in}
+use Rattle.segment_records.proofs.Following.{stretch_in}
+use Rattle.segment_records.proofs.Headed.{components_alike, place_in, starts_alike}
+use Rattle.segment_records.proofs.Looking.{seen_is}
+use Rattle.segment_records.proofs.Rests.{same_count}
+use Rattle.segment_records.proofs.Stretches.{context_service, few_segments}
 
 -- nothing is left where no segment comes
 pub none_left : (left rest : List SeenSegment) (next : Option WalkedSegment) → next ≡ None → YieldsFirstBy seen_of (λ (xs : List SeenSegment). xs) left next rest → left ≡ []

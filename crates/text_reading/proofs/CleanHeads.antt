@@ -14,12 +14,12 @@ use Rattle.envelope_check.specs.declared.head.HeadKind.TheVariants.{Unb, Unh, Un
 use Rattle.envelope_check.specs.declared.head.SegmentMark.{SegmentMark}
 use Rattle.envelope_check.proofs.OneMessage.{envelope_free, head_with}
 use Rattle.segment_records.specs.Segments.{Segment, value_in}
-use Rattle.contrl_laws.proofs.Each.{Each}
-use Rattle.contrl_laws.proofs.Runs.{HaveTags}
-use Rattle.contrl_laws.proofs.Walk.{Accepts, Go, Spot, grouped_after, spot_after}
-use Rattle.contrl_laws.proofs.Walk.Go.{to_message, to_segment, to_element, to_group}
-use Rattle.segment_walk.specs.Heads.{head_at, head_of, heads_of, marks_of, name_in, tabled_in}
-use Rattle.segment_walk.proofs.Headed.{fits_are}
+use Rattle.text_reading.proofs.Each.{Each}
+use Rattle.text_reading.proofs.Runs.{HaveTags}
+use Rattle.text_reading.proofs.Walk.{Accepts, Go, Spot, grouped_after, spot_after}
+use Rattle.text_reading.proofs.Walk.Go.{to_message, to_segment, to_element, to_group}
+use Rattle.segment_records.specs.Heads.{head_at, head_of, heads_of, marks_of, name_in, tabled_in}
+use Rattle.segment_records.proofs.Headed.{fits_are}
 
 abbrev tag_with : List ℕ → Option Tag
 tag_with octets = Some (record { octets = octets })

@@ -42,19 +42,19 @@ use Rattle.contrl_segments.specs.declared.summary.Opening.TheVariants.{NoUnb, Ba
 use Rattle.contrl_segments.specs.declared.summary.Summary.{Summary}
 use Rattle.contrl_segments.proofs.ReadLemmas.{written-read}
 use Rattle.contrl_writer.proofs.TaggedLemmas.{all-written, no-advice}
-use Rattle.contrl_laws.proofs.Back.{AllTagged, AreRead, context-back, have-tags, length-read, segments-back, splits-back, value-back}
-use Rattle.contrl_laws.proofs.Each.{Each, each-get}
-use Rattle.contrl_laws.proofs.Items.{IsLawful, lawful-free}
-use Rattle.contrl_laws.proofs.Reports.{tags_of}
-use Rattle.contrl_laws.proofs.Runs.{HaveTags, contrl_runs, runs_free}
-use Rattle.contrl_laws.proofs.Shape.{IsGoodSummary, IsShaped, contrl_shape, shaped}
-use Rattle.contrl_laws.proofs.Values.{context_with, decimal_back}
-use Rattle.contrl_laws.proofs.Walk.Spot.{AtHead}
+use Rattle.text_reading.proofs.Back.{AllTagged, AreRead, context-back, have-tags, length-read, segments-back, splits-back, value-back}
+use Rattle.text_reading.proofs.Each.{Each, each-get}
+use Rattle.text_reading.proofs.Items.{IsLawful, lawful-free}
+use Rattle.text_reading.proofs.Reports.{tags_of}
+use Rattle.text_reading.proofs.Runs.{HaveTags, contrl_runs, runs_free}
+use Rattle.text_reading.proofs.Shape.{IsGoodSummary, IsShaped, contrl_shape, shaped}
+use Rattle.text_reading.proofs.Values.{context_with, decimal_back}
+use Rattle.text_reading.proofs.Walk.Spot.{AtHead}
 use Rattle.text_reading.specs.Clean.{IsCleanAnswer, IsGoodOpening}
-use Rattle.segment_walk.specs.Errors.{fault_line, is_unknown, local_line, nodes_in, segment_lines, versions}
+use Rattle.segment_records.specs.Errors.{fault_line, is_unknown, local_line, nodes_in, segment_lines, versions}
 use Rattle.text_reading.specs.Errors.{advice_lines, errors_found, errors_of, opening_lines, syntax_lines, tail_lines}
-use Rattle.segment_walk.specs.Errors as errors
-use Rattle.segment_walk.specs.Heads.{heads_of, marks_of}
+use Rattle.segment_records.specs.Errors as errors
+use Rattle.segment_records.specs.Heads.{heads_of, marks_of}
 use Rattle.text_reading.specs.Summary.{contrl_to, summary_of}
 use Rattle.text_reading.proofs.CleanHeads.{IsMessage, each-plain, message_free}
 use Rattle.text_reading.proofs.CleanSummary.{IsOpened, summary_good, summary_opened}

@@ -25,12 +25,12 @@ use Rattle.envelope_check.specs.Envelope.{end_of_interchange, envelope_errors_of
 use Rattle.envelope_check.specs.Heads.{tags_of}
 use Rattle.segment_records.specs.Messages.{structure_errors_at, position_at}
 use Rattle.segment_records.specs.Segments.{Segment, segments_of_text, value_in}
-use Rattle.contrl_laws.proofs.Each.{Each, each-all, each-append, each-flat, each-map}
-use Rattle.contrl_laws.proofs.Lawful.{IsPlaced}
-use Rattle.contrl_laws.proofs.Places.{NamesElement, local_names}
-use Rattle.segment_walk.specs.Errors.{error_of, fault_line, is_unknown, levels, local_line, nodes_in, segment_lines, structure_lines, versions}
+use Rattle.text_reading.proofs.Each.{Each, each-all, each-append, each-flat, each-map}
+use Rattle.text_reading.proofs.Lawful.{IsPlaced}
+use Rattle.text_reading.proofs.Places.{NamesElement, local_names}
+use Rattle.segment_records.specs.Errors.{error_of, fault_line, is_unknown, levels, local_line, nodes_in, segment_lines, structure_lines, versions}
 use Rattle.text_reading.specs.Errors.{advice_lines, errors_found, errors_in, errors_of, opening_lines, syntax_lines, tail_lines}
-use Rattle.segment_walk.specs.Heads.{heads_of, marks_of}
+use Rattle.segment_records.specs.Heads.{heads_of, marks_of}
 
 each-when : (b : Bool) (e : ErrorLine) → IsPlaced e → Each IsPlaced (when b e)
 each-when true e placed = (placed, tt)

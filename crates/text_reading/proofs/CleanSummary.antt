@@ -19,16 +19,16 @@ use Rattle.contrl_segments.specs.declared.summary.Opening.{Opening}
 use Rattle.contrl_segments.specs.declared.summary.Opening.TheVariants.{NoUnb, BadUnb, Good}
 use Rattle.error_ledger.specs.Order.{in_order}
 use Rattle.segment_records.specs.Segments.{Segment, segments_of_text, tag_read, tags_in}
-use Rattle.contrl_laws.proofs.Back.{cons_parts, tags-read}
-use Rattle.contrl_laws.proofs.Each.{Each, each-get, each-map}
-use Rattle.contrl_laws.proofs.Lawful.{IsGoodGroup, IsGoodMessage, IsPlaced, IsPlacedLevelled}
-use Rattle.contrl_laws.proofs.Openers.{unb_good, ung_good, unh_good}
-use Rattle.contrl_laws.proofs.Shape.{IsGoodSummary, IsGoodUnb}
-use Rattle.contrl_laws.proofs.Told.{IsNumbered, tag-named, text-numbered}
-use Rattle.contrl_laws.proofs.Values.{context_with}
+use Rattle.text_reading.proofs.Back.{cons_parts, tags-read}
+use Rattle.text_reading.proofs.Each.{Each, each-get, each-map}
+use Rattle.text_reading.proofs.Lawful.{IsGoodGroup, IsGoodMessage, IsPlaced, IsPlacedLevelled}
+use Rattle.text_reading.proofs.Openers.{unb_good, ung_good, unh_good}
+use Rattle.text_reading.proofs.Shape.{IsGoodSummary, IsGoodUnb}
+use Rattle.text_reading.proofs.Told.{IsNumbered, tag-named, text-numbered}
+use Rattle.text_reading.proofs.Values.{context_with}
 use Rattle.text_reading.specs.Clean.{IsGoodOpening}
 use Rattle.text_reading.specs.Errors.{errors_of}
-use Rattle.segment_walk.specs.Openers.{group_head_of, message_head_of, opening_by}
+use Rattle.segment_records.specs.Openers.{group_head_of, message_head_of, opening_by}
 use Rattle.text_reading.specs.Summary.{group_of, groups_in, messages_in, opening_components, opening_in, summary_of}
 use Rattle.text_reading.proofs.CleanPlaces.{each-ordered, errors_placed}
 

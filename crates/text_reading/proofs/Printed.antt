@@ -11,9 +11,9 @@ use Rattle.dir_compile.specs.Directory.{IsDirectory}
 use Rattle.error_ledger.specs.Printing.{IsWellPlaced, ended_lines, tree_lines, tree_text}
 use Rattle.edi_octets.specs.Decimal.{count_line}
 use Rattle.error_ledger.proofs.PrintLemmas.{lines_bounded}
-use Rattle.segment_walk.specs.WalkedSegments.{Follows, SeenSegment, seen_in}
-use Rattle.segment_walk.specs.Told.{line_in_tree}
-use Rattle.segment_walk.proofs.TreePlaces.{well_all}
+use Rattle.segment_records.specs.WalkedSegments.{Follows, SeenSegment, seen_in}
+use Rattle.segment_records.specs.Told.{line_in_tree}
+use Rattle.segment_records.proofs.TreePlaces.{well_all}
 use Rattle.text_reading.specs.Tree.{tree_of}
 use Rattle.text_reading.proofs.Treed.{tree_is}
 

@@ -30,20 +30,20 @@ use Rattle.segment_records.specs.Segments.{Segment, segments_of_text, tags_in}
 use Rattle.segment_records.specs.Records.{Kept}
 use Rattle.segment_records.specs.declared.mode.Mode.{Mode}
 use Rattle.segment_records.specs.declared.mode.Mode.TheVariants.{Outside}
-use Rattle.segment_walk.specs.Count.{segment_count_of}
-use Rattle.segment_walk.specs.WalkedSegments.{SeenSegment, kept_in, seen_at, seen_from, seen_in}
-use Rattle.segment_walk.specs.Spans.{IsNumbered, begun_by, group_by, group_spans, grouped, heads_from, message_seen, message_spans, stops_group, stops_message}
-use Rattle.segment_walk.specs.Openers.{group_head_of, message_head_of, opening_by}
+use Rattle.segment_records.specs.Count.{segment_count_of}
+use Rattle.segment_records.specs.WalkedSegments.{SeenSegment, kept_in, seen_at, seen_from, seen_in}
+use Rattle.segment_records.specs.Spans.{IsNumbered, begun_by, group_by, group_spans, grouped, heads_from, message_seen, message_spans, stops_group, stops_message}
+use Rattle.segment_records.specs.Openers.{group_head_of, message_head_of, opening_by}
 use Rattle.text_reading.specs.Summary.{group_of, groups_in, messages_in, opening_components, opening_in}
-use Rattle.segment_walk.specs.Told.{components_seen}
+use Rattle.segment_records.specs.Told.{components_seen}
 use Rattle.text_reading.proofs.Bounds.{none_first, some_first}
-use Rattle.segment_walk.proofs.Following.{stretch_in}
+use Rattle.segment_records.proofs.Following.{stretch_in}
 use Rattle.text_reading.proofs.Grouping.{below_next, group_is, opened_below, opened_next}
-use Rattle.segment_walk.proofs.Headed.{components_alike, place_in}
-use Rattle.segment_walk.proofs.Looking.{first_left, next_left, seen_is}
-use Rattle.segment_walk.proofs.Rests.{same_count}
-use Rattle.segment_walk.proofs.Spanned.{AreAt, IsAt, heads_are, heads_mapped}
-use Rattle.segment_walk.proofs.Stretches.{context_service}
+use Rattle.segment_records.proofs.Headed.{components_alike, place_in}
+use Rattle.segment_records.proofs.Looking.{first_left, next_left, seen_is}
+use Rattle.segment_records.proofs.Rests.{same_count}
+use Rattle.segment_records.proofs.Spanned.{AreAt, IsAt, heads_are, heads_mapped}
+use Rattle.segment_records.proofs.Stretches.{context_service}
 
 -- a UNH neither opens nor stops a group
 record IsApart (tag : Option Tag) : Type 0 where

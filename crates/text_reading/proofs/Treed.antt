@@ -9,9 +9,9 @@ use Rattle.seg_lexer.specs.Context.{context_of}
 use Rattle.segment_records.specs.Places.{place_by}
 use Rattle.segment_records.specs.Segments.{Segment, segments_of_text}
 use Rattle.segment_records.proofs.PlaceLaws.{steps_tell_places}
-use Rattle.segment_walk.specs.WalkedSegments.{seen_at, seen_in}
-use Rattle.segment_walk.specs.Told.{line_in_tree}
-use Rattle.segment_walk.proofs.Looking.{all_enumerated, map_alike, seen_is}
+use Rattle.segment_records.specs.WalkedSegments.{seen_at, seen_in}
+use Rattle.segment_records.specs.Told.{line_in_tree}
+use Rattle.segment_records.proofs.Looking.{all_enumerated, map_alike, seen_is}
 use Rattle.text_reading.specs.Tree.{tree_line, tree_of}
 
 module _ (dir : Parts) (directory : IsDirectory dir) (text : List ℕ) where

@@ -13,8 +13,8 @@ use Rattle.error_ledger.specs.declared.kind.Kind.TheVariants as kind
 use Rattle.envelope_check.specs.Envelope.{envelope_errors_of}
 use Rattle.envelope_check.specs.declared.head.SegmentMark.{SegmentMark}
 use Rattle.segment_records.specs.Segments.{Segment, segments_of_text, value_in}
-use Rattle.segment_walk.specs.Errors.{error_of, error_with, is_unknown, levels, segment_lines, versions}
-use Rattle.segment_walk.specs.Heads.{heads_of, marks_of}
+use Rattle.segment_records.specs.Errors.{error_of, error_with, is_unknown, levels, segment_lines, versions}
+use Rattle.segment_records.specs.Heads.{heads_of, marks_of}
 use Rattle.error_ledger.specs.Order.{in_order}
 
 -- a place of a text where no tag is read

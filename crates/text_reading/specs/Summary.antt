@@ -19,7 +19,7 @@ use Rattle.contrl_segments.specs.declared.summary.Opening.TheVariants.{NoUnb}
 use Rattle.contrl_segments.specs.declared.summary.Summary.{Summary}
 use Rattle.contrl_writer.specs.Contrl.{answer_to}
 use Rattle.segment_records.specs.Segments.{Segment, segments_of_text, tags_in}
-use Rattle.segment_walk.specs.Openers.{group_head_of, message_head_of, opening_by}
+use Rattle.segment_records.specs.Openers.{group_head_of, message_head_of, opening_by}
 use Rattle.text_reading.specs.Errors.{errors_of}
 
 -- what opens an interchange with this first segment

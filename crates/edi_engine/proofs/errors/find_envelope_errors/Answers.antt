@@ -2,8 +2,8 @@ use Rattle.std.proofs.Common.{◌∙◌, List, length, sym, ap, subst}
 use Rattle.envelope_check.specs.declared.head.Head.{Head}
 use Rattle.envelope_check.specs.Heads.{Fits}
 use Rattle.segment_records.specs.Segments.{segments_of_text}
-use Rattle.segment_walk.specs.Heads.{heads_of}
-use Rattle.segment_walk.proofs.Headed.{count_marks, fits_are}
+use Rattle.segment_records.specs.Heads.{heads_of}
+use Rattle.segment_records.proofs.Headed.{count_marks, fits_are}
 use Rattle.edi_engine.proofs.errors.find_envelope_errors.Goals as goal
 
 pub envelope_errors-requires-clause-fits : goal.envelope_errors-requires-clause-fits

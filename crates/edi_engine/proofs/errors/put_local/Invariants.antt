@@ -1,7 +1,7 @@
 use Rattle.std.proofs.Common.{◌≡◌, ◌++◌, map, take}
-use Rattle.segment_walk.specs.Errors.{local_line}
-use Rattle.segment_walk.specs.Look.{seen_of}
-use Rattle.segment_walk.specs.WalkedSegments.{as_segment}
+use Rattle.segment_records.specs.Errors.{local_line}
+use Rattle.segment_records.specs.Look.{seen_of}
+use Rattle.segment_records.specs.WalkedSegments.{as_segment}
 use Rattle.edi_engine.proofs.errors.put_local.Given as goal
 
 abbrev pub invariant-loop-error : goal.invariant-loop-error

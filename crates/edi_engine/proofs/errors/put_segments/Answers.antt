@@ -3,10 +3,10 @@ use Rattle.std.specs.List.{flat_map}
 use Rattle.std.proofs.lemmas.List.{append_assoc}
 use Rattle.dir_compile.specs.declared.parts.Parts.{Parts}
 use Rattle.error_ledger.specs.declared.error.ErrorLine.{ErrorLine}
-use Rattle.segment_walk.specs.Line.{lines_seen, local_seen, structure_seen}
-use Rattle.segment_walk.specs.Look.{seen_of}
-use Rattle.segment_walk.specs.WalkedSegments.{Follows, SeenSegment, seen_in}
-use Rattle.segment_walk.proofs.Likeness.{lines_are}
+use Rattle.segment_records.specs.Line.{lines_seen, local_seen, structure_seen}
+use Rattle.segment_records.specs.Look.{seen_of}
+use Rattle.segment_records.specs.WalkedSegments.{Follows, SeenSegment, seen_in}
+use Rattle.segment_records.proofs.Likeness.{lines_are}
 use Rattle.text_reading.proofs.Passing.{flat_done, flat_left, rest_all}
 use Rattle.edi_engine.proofs.errors.put_segments.Goals as goal
 

@@ -1,8 +1,8 @@
 use Rattle.std.proofs.Common.{◌≡◌, ◌++◌}
 use Rattle.std.specs.Prelude.{All}
 use Rattle.std.specs.List.{flat_map}
-use Rattle.segment_walk.specs.Line.{lines_seen}
-use Rattle.segment_walk.specs.WalkedSegments.{Follows}
+use Rattle.segment_records.specs.Line.{lines_seen}
+use Rattle.segment_records.specs.WalkedSegments.{Follows}
 use Rattle.edi_engine.proofs.errors.put_segments.Given as goal
 
 -- the errors of the segments to come are left to be put

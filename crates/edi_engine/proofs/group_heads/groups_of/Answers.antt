@@ -2,11 +2,11 @@ use Rattle.std.proofs.Common.{◌∙◌, ◌++◌, List, ℕ, None, sym, ap, sub
 use Rattle.std.specs.Prelude.{All, codes}
 use Rattle.edi_tables.specs.Rows.{has_name}
 use Rattle.contrl_segments.specs.declared.summary.GroupHead.{GroupHead}
-use Rattle.segment_walk.specs.Look.{seen_of}
-use Rattle.segment_walk.specs.WalkedSegments.{LiesIn}
-use Rattle.segment_walk.specs.Spans.{IsNumbered, group_spans, heads_from, last_by, stops_group}
+use Rattle.segment_records.specs.Look.{seen_of}
+use Rattle.segment_records.specs.WalkedSegments.{LiesIn}
+use Rattle.segment_records.specs.Spans.{IsNumbered, group_spans, heads_from, last_by, stops_group}
 use Rattle.text_reading.proofs.Passing.{first_all, rest_all}
-use Rattle.segment_walk.proofs.Spanned.{heads_done, heads_on, heads_stop}
+use Rattle.segment_records.proofs.Spanned.{heads_done, heads_on, heads_stop}
 use Rattle.text_reading.proofs.Summed.{groups_told, numbered_in}
 use Rattle.edi_engine.proofs.group_heads.groups_of.Goals as goal
 

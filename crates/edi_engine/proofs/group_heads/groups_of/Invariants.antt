@@ -1,7 +1,7 @@
 use Rattle.std.proofs.Common.{◌≡◌, ◌++◌, None}
 use Rattle.std.specs.Prelude.{All}
-use Rattle.segment_walk.specs.WalkedSegments.{LiesIn}
-use Rattle.segment_walk.specs.Spans.{IsNumbered, group_spans, heads_from}
+use Rattle.segment_records.specs.WalkedSegments.{LiesIn}
+use Rattle.segment_records.specs.Spans.{IsNumbered, group_spans, heads_from}
 use Rattle.edi_engine.proofs.group_heads.groups_of.Given as goal
 
 -- the groups of the segments to come are left to be put, and the one that is open

@@ -3,10 +3,10 @@ use Rattle.std.specs.List.{filter_map}
 use Rattle.std.specs.Option.{option_map}
 use Rattle.envelope_check.specs.Heads.{kind_of}
 use Rattle.seg_lexer.specs.declared.service.Service.{Service}
-use Rattle.segment_walk.specs.Look.{seen_of}
-use Rattle.segment_walk.specs.WalkedSegments.{LiesIn, seen_in}
-use Rattle.segment_walk.specs.Told.{head_seen, head_when, mark_seen}
-use Rattle.segment_walk.proofs.Headed.{heads_are, mark_is, marks_are}
+use Rattle.segment_records.specs.Look.{seen_of}
+use Rattle.segment_records.specs.WalkedSegments.{LiesIn, seen_in}
+use Rattle.segment_records.specs.Told.{head_seen, head_when, mark_seen}
+use Rattle.segment_records.proofs.Headed.{heads_are, mark_is, marks_are}
 use Rattle.text_reading.proofs.Passing.{filter_done, filter_left, filter_past, map_done, map_left, rest_all}
 use Rattle.edi_engine.proofs.heads.envelopes_of.Goals as goal
 

@@ -1,8 +1,8 @@
 use Rattle.std.proofs.Common.{◌≡◌, ◌++◌, map}
 use Rattle.std.specs.Prelude.{All}
 use Rattle.std.specs.List.{filter_map}
-use Rattle.segment_walk.specs.WalkedSegments.{LiesIn}
-use Rattle.segment_walk.specs.Told.{head_when, mark_seen}
+use Rattle.segment_records.specs.WalkedSegments.{LiesIn}
+use Rattle.segment_records.specs.Told.{head_when, mark_seen}
 use Rattle.edi_engine.proofs.heads.envelopes_of.Given as goal
 
 -- the heads and the marks of the segments to come are left to be made

@@ -2,11 +2,11 @@ use Rattle.std.proofs.Common.{◌∙◌, ◌++◌, List, ℕ, None, sym, ap, sub
 use Rattle.std.specs.Prelude.{All, codes}
 use Rattle.edi_tables.specs.Rows.{has_name}
 use Rattle.contrl_segments.specs.declared.summary.MessageHead.{MessageHead}
-use Rattle.segment_walk.specs.Look.{seen_of}
-use Rattle.segment_walk.specs.WalkedSegments.{LiesIn}
-use Rattle.segment_walk.specs.Spans.{IsNumbered, grouped, message_spans, heads_from, last_by, stops_message}
+use Rattle.segment_records.specs.Look.{seen_of}
+use Rattle.segment_records.specs.WalkedSegments.{LiesIn}
+use Rattle.segment_records.specs.Spans.{IsNumbered, grouped, message_spans, heads_from, last_by, stops_message}
 use Rattle.text_reading.proofs.Passing.{first_all, rest_all}
-use Rattle.segment_walk.proofs.Spanned.{heads_done, heads_on, heads_stop}
+use Rattle.segment_records.proofs.Spanned.{heads_done, heads_on, heads_stop}
 use Rattle.text_reading.proofs.Summed.{few_left, few_same, grouped_next, messages_told, numbered_in}
 use Rattle.edi_engine.proofs.message_heads.messages_of.Goals as goal
 

@@ -1,7 +1,7 @@
 use Rattle.std.proofs.Common.{◌≡◌, ◌+◌, ◌≤◌, ◌++◌, None, length}
 use Rattle.std.specs.Prelude.{All}
-use Rattle.segment_walk.specs.WalkedSegments.{LiesIn}
-use Rattle.segment_walk.specs.Spans.{IsNumbered, grouped, heads_from, message_spans}
+use Rattle.segment_records.specs.WalkedSegments.{LiesIn}
+use Rattle.segment_records.specs.Spans.{IsNumbered, grouped, heads_from, message_spans}
 use Rattle.edi_engine.proofs.message_heads.messages_of.Given as goal
 
 -- the messages of the segments to come are left to be put, and the one that is open

@@ -2,10 +2,10 @@ use Rattle.std.proofs.Common.{◌++◌, ◌∙◌, List, ℕ, sym, ap}
 use Rattle.std.proofs.lemmas.Result.{on_ok_weaker}
 use Rattle.edi_tables.specs.Rows.{has_name}
 use Rattle.std.specs.Prelude.{codes}
-use Rattle.segment_walk.specs.Look.{seen_of}
+use Rattle.segment_records.specs.Look.{seen_of}
 use Rattle.error_ledger.specs.declared.error.ErrorLine.{ErrorLine}
 use Rattle.seg_lexer.specs.declared.service.Service.{Service}
-use Rattle.segment_walk.specs.Line.{opening_seen}
+use Rattle.segment_records.specs.Line.{opening_seen}
 use Rattle.text_reading.proofs.Bounds.{none_left, opening_is, syntax_none, syntax_past}
 use Rattle.edi_engine.proofs.opening.put_syntax.Goals as goal
 

@@ -10,10 +10,10 @@ use Rattle.segment_records.specs.Messages.{nodes_at}
 use Rattle.segment_records.specs.Places.{inner_place, opening_place, place_with}
 use Rattle.segment_records.specs.Steps.{is_no_part}
 use Rattle.segment_records.specs.declared.mode.Mode.{Mode}
-use Rattle.segment_walk.specs.Look.{seen_of}
-use Rattle.segment_walk.specs.WalkedSegments.{as_segment}
-use Rattle.segment_walk.proofs.Nodes.{numbers_got}
-use Rattle.segment_walk.proofs.TreePlaces.{entry_within, place_at_unh, place_inside, place_outside, tag_segment}
+use Rattle.segment_records.specs.Look.{seen_of}
+use Rattle.segment_records.specs.WalkedSegments.{as_segment}
+use Rattle.segment_records.proofs.Nodes.{numbers_got}
+use Rattle.segment_records.proofs.TreePlaces.{entry_within, place_at_unh, place_inside, place_outside, tag_segment}
 use Rattle.edi_engine.proofs.places.find_place.Goals as goal
 
 pub returns-then-is_named : goal.returns-then-is_named

@@ -1,6 +1,6 @@
 use Rattle.std.proofs.Common.{Bool, ◌+◌, ◌∙◌, ap, arith}
 use Rattle.std.specs.Prelude.{if◌then◌else◌}
-use Rattle.segment_walk.proofs.Nodes.{at_most_one, groups_more, numbers_more}
+use Rattle.segment_records.proofs.Nodes.{at_most_one, groups_more, numbers_more}
 use Rattle.edi_engine.proofs.places.groups_until.Goals as goal
 
 pub loop-i-preserved : goal.loop-i-preserved

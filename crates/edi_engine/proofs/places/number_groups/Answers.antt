@@ -4,7 +4,7 @@ use Rattle.std.proofs.lemmas.List.{map-append, take_more}
 use Rattle.std.proofs.lemmas.Option.{get_or_from_slice_get, slice_get_within}
 use Rattle.edi_tables.specs.declared.table.Node.{Node}
 use Rattle.dir_compile.specs.Directory.{tables_of}
-use Rattle.segment_walk.specs.Groups.{numbers_in}
+use Rattle.segment_records.specs.Groups.{numbers_in}
 use Rattle.edi_engine.proofs.places.number_groups.Goals as goal
 
 -- one more table

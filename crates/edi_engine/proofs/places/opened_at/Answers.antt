@@ -1,7 +1,7 @@
 use Rattle.std.proofs.Common.{◌∙◌, ℕ, ◌-◌, length, get_or, sym, ap, arith}
 use Rattle.table_walk.proofs.PairReads.{count_up_to}
 use Rattle.edi_tables.specs.Walk.{is_trigger_at}
-use Rattle.segment_walk.proofs.Nodes.{length_numbers, opens_is}
+use Rattle.segment_records.proofs.Nodes.{length_numbers, opens_is}
 use Rattle.edi_engine.proofs.places.opened_at.Goals as goal
 
 pub bounds-numbers-from : goal.bounds-numbers-from

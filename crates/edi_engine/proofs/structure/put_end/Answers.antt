@@ -4,13 +4,13 @@ use Rattle.std.proofs.lemmas.Option.{get_or_from_slice_get}
 use Rattle.std.proofs.lemmas.Result.{on_ok_weaker}
 use Rattle.edi_tables.specs.declared.table.Node.{Node}
 use Rattle.dir_compile.specs.Directory.{tables_of}
-use Rattle.segment_walk.specs.Look.{seen_of}
-use Rattle.segment_walk.specs.Line.{fault_lines}
+use Rattle.segment_records.specs.Look.{seen_of}
+use Rattle.segment_records.specs.Line.{fault_lines}
 use Rattle.table_walk.specs.Errors.Fault.{Missing}
 use Rattle.table_walk.specs.Steps.{IsShaped}
 use Rattle.segment_records.specs.Records.{IsModeOf}
-use Rattle.segment_walk.proofs.Ending.{ends_within}
-use Rattle.segment_walk.proofs.Nodes.{past_within}
+use Rattle.segment_records.proofs.Ending.{ends_within}
+use Rattle.segment_records.proofs.Nodes.{past_within}
 use Rattle.edi_engine.proofs.structure.put_end.Goals as goal
 
 pub put_missing-requires : goal.put_missing-requires

@@ -1,7 +1,7 @@
 use Rattle.std.proofs.Common.{◌≡◌, ◌++◌, map, take}
 use Rattle.table_walk.specs.Errors.Fault.{Missing}
-use Rattle.segment_walk.specs.Line.{fault_lines}
-use Rattle.segment_walk.specs.Look.{seen_of}
+use Rattle.segment_records.specs.Line.{fault_lines}
+use Rattle.segment_records.specs.Look.{seen_of}
 use Rattle.edi_engine.proofs.structure.put_missing.Given as goal
 
 abbrev pub invariant-loop-node : goal.invariant-loop-node

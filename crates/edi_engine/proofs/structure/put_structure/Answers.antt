@@ -1,8 +1,8 @@
 use Rattle.std.proofs.Common.{◌++◌, ◌∙◌, ap}
 use Rattle.std.proofs.lemmas.List.{append_assoc}
 use Rattle.std.proofs.lemmas.Result.{on_ok_weaker}
-use Rattle.segment_walk.specs.Line.{end_lines, step_lines}
-use Rattle.segment_walk.specs.Look.{seen_of}
+use Rattle.segment_records.specs.Line.{end_lines, step_lines}
+use Rattle.segment_records.specs.Look.{seen_of}
 use Rattle.edi_engine.proofs.structure.put_structure.Goals as goal
 
 pub returns : goal.returns

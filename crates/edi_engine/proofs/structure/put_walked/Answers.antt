@@ -1,6 +1,6 @@
 use Rattle.std.proofs.Common.{ℕ, ◌<◌, ◌∙◌, length, sym, subst}
 use Rattle.std.specs.Prelude.{All}
-use Rattle.segment_walk.proofs.Nodes.{member_within, missing_within}
+use Rattle.segment_records.proofs.Nodes.{member_within, missing_within}
 use Rattle.edi_engine.proofs.structure.put_walked.Goals as goal
 
 pub put_missing-requires : goal.put_missing-requires

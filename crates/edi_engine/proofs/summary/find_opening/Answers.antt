@@ -4,7 +4,7 @@ use Rattle.std.proofs.lemmas.Result.{IfOk-weaker}
 use Rattle.edi_tables.specs.Rows.{has_name}
 use Rattle.seg_lexer.specs.Context.{context_of}
 use Rattle.segment_records.specs.Segments.{segments_of_text}
-use Rattle.segment_walk.specs.Look.{seen_of}
+use Rattle.segment_records.specs.Look.{seen_of}
 use Rattle.text_reading.specs.Summary.{opening_in}
 use Rattle.text_reading.proofs.Bounds.{none_left}
 use Rattle.text_reading.proofs.Summed.{opening_none, opening_other, opening_read}

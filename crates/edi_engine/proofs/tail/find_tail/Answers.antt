@@ -1,6 +1,6 @@
 use Rattle.std.proofs.Common.{length, sym, arith}
 use Rattle.seg_lexer.specs.Segments.{ends_of}
-use Rattle.segment_walk.proofs.Tails.{last_at, none_past, tail_within}
+use Rattle.segment_records.proofs.Tails.{last_at, none_past, tail_within}
 use Rattle.edi_engine.proofs.tail.find_tail.Goals as goal
 
 pub next_segment-requires-clause-boundary : goal.next_segment-requires-clause-boundary

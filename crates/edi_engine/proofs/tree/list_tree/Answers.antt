@@ -2,12 +2,12 @@ use Rattle.std.proofs.Common.{◌∙◌, map, sym, ap, subst}
 use Rattle.std.specs.Prelude.{All}
 use Rattle.error_ledger.specs.Printing.{IsWellPlaced}
 use Rattle.dir_compile.specs.declared.parts.Parts.{Parts}
-use Rattle.segment_walk.specs.Look.{seen_of}
-use Rattle.segment_walk.specs.WalkedSegments.{Follows, seen_in}
-use Rattle.segment_walk.specs.Told.{line_in_tree}
+use Rattle.segment_records.specs.Look.{seen_of}
+use Rattle.segment_records.specs.WalkedSegments.{Follows, seen_in}
+use Rattle.segment_records.specs.Told.{line_in_tree}
 use Rattle.text_reading.proofs.PlacedLaws.{are_placed}
 use Rattle.text_reading.proofs.Passing.{map_done, map_left, rest_all}
-use Rattle.segment_walk.proofs.TreePlaces.{well_all}
+use Rattle.segment_records.proofs.TreePlaces.{well_all}
 use Rattle.text_reading.proofs.Treed.{tree_is}
 use Rattle.edi_engine.proofs.tree.list_tree.Goals as goal
 

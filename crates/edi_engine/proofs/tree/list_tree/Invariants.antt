@@ -1,7 +1,7 @@
 use Rattle.std.proofs.Common.{◌≡◌, ◌++◌, map}
 use Rattle.std.specs.Prelude.{All}
-use Rattle.segment_walk.specs.WalkedSegments.{Follows}
-use Rattle.segment_walk.specs.Told.{line_in_tree}
+use Rattle.segment_records.specs.WalkedSegments.{Follows}
+use Rattle.segment_records.specs.Told.{line_in_tree}
 use Rattle.edi_engine.proofs.tree.list_tree.Given as goal
 
 -- the members for the segments to come are left to be made

@@ -3,8 +3,8 @@ use Rattle.std.specs.Prelude.{All, ◌++◌}
 use Rattle.dir_compile.specs.declared.parts.Parts.{Parts}
 use Rattle.dir_compile.specs.Directory.{IsDirectory}
 use Rattle.error_ledger.specs.Printing.{IsWellPlaced, ended_lines, tree_lines}
-use Rattle.segment_walk.specs.Look.{seen_of}
-use Rattle.segment_walk.specs.WalkedSegments.{Follows, seen_in}
+use Rattle.segment_records.specs.Look.{seen_of}
+use Rattle.segment_records.specs.WalkedSegments.{Follows, seen_in}
 use Rattle.text_reading.proofs.PlacedLaws.{are_placed}
 use Rattle.text_reading.proofs.Passing.{rest_all}
 use Rattle.text_reading.proofs.Printed.{all_lines, count_left, lines_few, printed_done, printed_is, printed_lines, text_left, well_first}

@@ -1,7 +1,7 @@
 use Rattle.std.proofs.Common.{◌≡◌, ◌+◌, ◌≤◌, ◌++◌, length}
 use Rattle.std.specs.Prelude.{All}
 use Rattle.error_ledger.specs.Printing.{ended_lines}
-use Rattle.segment_walk.specs.WalkedSegments.{Follows}
+use Rattle.segment_records.specs.WalkedSegments.{Follows}
 use Rattle.text_reading.proofs.Printed.{all_lines}
 use Rattle.edi_engine.proofs.tree.print_tree.Given as goal
 

@@ -7,10 +7,10 @@ use Rattle.segment_records.proofs.FaultLaws.{steps_tell_faults}
 use Rattle.segment_records.proofs.Forgets.{forgets_before}
 use Rattle.segment_records.proofs.ModeLaws.{steps_are_modes}
 use Rattle.segment_records.proofs.PlaceLaws.{steps_tell_places}
-use Rattle.segment_walk.proofs.Counts.{mode_more}
+use Rattle.segment_records.proofs.Counts.{mode_more}
 use Rattle.kept_text.proofs.LastMode.{last_mode_more, last_mode_same}
 use Rattle.kept_text.specs.Again.{last_mode}
-use Rattle.segment_walk.proofs.Rests.{boundary_next, count_next, none_found, read_all, read_next}
+use Rattle.segment_records.proofs.Rests.{boundary_next, count_next, none_found, read_all, read_next}
 use Rattle.kept_text.proofs.read.read_records.Goals as goal
 
 pub returns-in_err-record-clause-placed : goal.returns-in_err-record-clause-placed

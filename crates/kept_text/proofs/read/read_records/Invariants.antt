@@ -3,7 +3,7 @@ use Rattle.seg_lexer.specs.Segments.{IsBoundary}
 use Rattle.clean_segments.specs.Clean.{AreClean}
 use Rattle.segment_records.specs.Records.{IsModeOf, records_from}
 use Rattle.kept_text.specs.Again.{last_mode}
-use Rattle.segment_walk.proofs.Rests.{rest_count}
+use Rattle.segment_records.proofs.Rests.{rest_count}
 use Rattle.kept_text.proofs.read.read_records.Given as goal
 
 -- the records of the octets left come after those that were read, and after the mode that the last of them leaves

@@ -1,5 +1,5 @@
 use Rattle.std.proofs.Common.{◌≡◌, ◌+◌, ◌-◌, ℕ, [], ◌∷◌, length, drop, take, sym, ap, ◌∙◌, arith, length-drop}
-use Rattle.segment_walk.proofs.Looking.{first_left}
+use Rattle.segment_records.proofs.Looking.{first_left}
 use Rattle.kept_text.specs.Again.{last_mode}
 use Rattle.kept_text.proofs.LastMode.{last_mode_at}
 use Rattle.kept_text.proofs.rerun.mode_after_first.Goals as goal

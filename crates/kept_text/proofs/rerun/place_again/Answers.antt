@@ -3,8 +3,8 @@ use Rattle.std.specs.List.{slice_get}
 use Rattle.std.proofs.lemmas.Option.{slice_get_within}
 use Rattle.segment_records.specs.Records.{IsModeOf}
 use Rattle.segment_records.specs.declared.mode.Mode.{Mode}
-use Rattle.segment_walk.proofs.Counts.{mode_more}
-use Rattle.segment_walk.proofs.Looking.{first_left, next_left}
+use Rattle.segment_records.proofs.Counts.{mode_more}
+use Rattle.segment_records.proofs.Looking.{first_left, next_left}
 use Rattle.kept_text.specs.Again.{StaysAfter, last_mode}
 use Rattle.kept_text.proofs.LastMode.{last_mode_more, last_mode_same}
 use Rattle.kept_text.proofs.PlacingAgain.{again_more, inner_more, kept_more, length_more, others_more, placed_one, stays_end, stays_here}

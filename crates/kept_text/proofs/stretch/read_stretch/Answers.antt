@@ -2,8 +2,8 @@ use Rattle.std.proofs.Common.{◌≡◌, ◌+◌, length, ap, ◌∙◌, subst, 
 use Rattle.segment_records.specs.Records.{IsModeOf, kept_of}
 use Rattle.segment_records.specs.Segments.{segment_read}
 use Rattle.segment_records.specs.declared.mode.Mode.{Mode}
-use Rattle.segment_walk.proofs.Counts.{mode_more}
-use Rattle.segment_walk.proofs.Rests.{count_next, length_segments, none_found, rest_count, same_count}
+use Rattle.segment_records.proofs.Counts.{mode_more}
+use Rattle.segment_records.proofs.Rests.{count_next, length_segments, none_found, rest_count, same_count}
 use Rattle.kept_text.proofs.LastMode.{last_mode_same}
 use Rattle.kept_text.proofs.StretchRead.{AreRead, at_none, length_more, none_further, none_read, stepped}
 use Rattle.kept_text.proofs.stretch.read_stretch.Goals as goal

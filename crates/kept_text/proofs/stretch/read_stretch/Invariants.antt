@@ -2,7 +2,7 @@ use Rattle.std.proofs.Common.{◌≡◌, ◌+◌, ◌-◌, ◌≤◌, ℕ, Some,
 use Rattle.std.specs.List.{slice_get}
 use Rattle.clean_segments.specs.Clean.{AreClean}
 use Rattle.seg_lexer.specs.Segments.{boundaries_of, ends_of}
-use Rattle.segment_walk.proofs.Rests.{rest_count}
+use Rattle.segment_records.proofs.Rests.{rest_count}
 use Rattle.kept_text.specs.Again.{NoneBefore}
 use Rattle.kept_text.proofs.StretchRead.{AreRead}
 use Rattle.kept_text.proofs.stretch.read_stretch.Given as goal

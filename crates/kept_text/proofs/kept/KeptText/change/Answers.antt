@@ -2,8 +2,8 @@ use Rattle.std.proofs.Common.{◌≡◌, ℕ, ◌≤◌, List, Option, Some, Non
 use Rattle.seg_lexer.specs.Segments.{IsBoundary}
 use Rattle.seg_lexer.specs.Service.{IsUsable}
 use Rattle.segment_records.specs.declared.mode.Mode.{Mode}
-use Rattle.segment_walk.specs.Count.{segment_count_of}
-use Rattle.segment_walk.proofs.Rests.{rest_count}
+use Rattle.segment_records.specs.Count.{segment_count_of}
+use Rattle.segment_records.proofs.Rests.{rest_count}
 use Rattle.kept_text.specs.Again.{StaysAfter, last_mode, one_where_some}
 use Rattle.kept_text.specs.declared.stretch.Span.{Span}
 use Rattle.kept_text.proofs.Begins.{IsLastBefore}

@@ -1,5 +1,5 @@
 use Rattle.std.proofs.Common.{◌≡◌, ◌∙◌, ap, length, arith}
-use Rattle.segment_walk.specs.WalkedSegments.{kept_in}
+use Rattle.segment_records.specs.WalkedSegments.{kept_in}
 use Rattle.kept_text.specs.Change.{changed_by}
 use Rattle.kept_text.specs.Reading.{Reading}
 use Rattle.kept_text.proofs.Begun.{few_kept}

@@ -1,5 +1,5 @@
 use Rattle.std.proofs.Common.{◌∙◌, ap, arith}
-use Rattle.segment_walk.specs.Count.{segment_count_of}
+use Rattle.segment_records.specs.Count.{segment_count_of}
 use Rattle.kept_text.specs.Reading.{Reading}
 use Rattle.kept_text.proofs.Readings.{count_is, few_records}
 use Rattle.kept_text.proofs.kept.KeptText.segment_count.Goals as goal

@@ -2,8 +2,8 @@ use Rattle.std.proofs.Common.{◌∙◌, length, sym, ap, subst, arith}
 use Rattle.std.specs.Prelude.{All}
 use Rattle.dir_compile.specs.Directory.{IsDirectory}
 use Rattle.kept_text.specs.Reading.{Reading}
-use Rattle.segment_walk.specs.WalkedSegments.{Follows, LiesIn, seen_in}
-use Rattle.segment_walk.proofs.Following.{few_seen, follows_all, lies_all}
+use Rattle.segment_records.specs.WalkedSegments.{Follows, LiesIn, seen_in}
+use Rattle.segment_records.proofs.Following.{few_seen, follows_all, lies_all}
 use Rattle.kept_text.proofs.Readings.{body_within, segments_are, stretches}
 use Rattle.kept_text.proofs.kept.KeptText.segments.Goals as goal
 

@@ -1,7 +1,7 @@
 use Rattle.std.proofs.Common.{◌≡◌, ◌≤◌, length, ap, ◌∙◌, arith}
 use Rattle.segment_records.specs.Messages.{mode_after}
 use Rattle.segment_records.specs.Segments.{segments_of_text}
-use Rattle.segment_walk.specs.Count.{segment_count_of}
+use Rattle.segment_records.specs.Count.{segment_count_of}
 use Rattle.kept_text.specs.Reading.{Reading}
 use Rattle.kept_text.proofs.Readings.{count_is, mode_is}
 use Rattle.kept_text.proofs.kept.KeptText.state_after.Goals as goal

@@ -1,2 +1,0 @@
-//! The laws of acknowledgements: why the segments of one have no error.
-#![tactic(auto)]

@@ -1,2 +1,0 @@
-pub mod Guide
-pub mod Narrows

@@ -1,2 +1,0 @@
-pub mod Stricter
-pub mod Narrowed

@@ -1,5 +1,6 @@
 pub mod LedBack
 pub mod Match
+pub mod Passes
 pub mod Premises
 pub mod Printing
 pub mod Reported

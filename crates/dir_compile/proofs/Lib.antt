@@ -8,7 +8,7 @@ pub mod Lawful
 pub mod Making
 pub mod Members
 pub mod NameSets
-pub mod Named
+pub mod FoundByName
 pub mod Orders
 pub mod TableNames
 pub mod Twice

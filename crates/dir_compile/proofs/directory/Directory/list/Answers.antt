@@ -1,7 +1,7 @@
 use Rattle.std.proofs.Common.{◌∙◌, ap, sym, slice_get}
 use Rattle.std.specs.Option.{option_copied}
 use Rattle.dir_compile.specs.Compile.{list_name, named_in}
-use Rattle.dir_compile.proofs.Named.{named-get, named-none, copied-get}
+use Rattle.dir_compile.proofs.FoundByName.{named-get, named-none, copied-get}
 use Rattle.dir_compile.proofs.directory.Directory.list.Goals as goal
 
 pub returns-in_err-place : goal.returns-in_err-place

@@ -3,7 +3,7 @@ use Rattle.dir_compile.specs.declared.stop.CompileKind.TheVariants.{UnknownEleme
 use Rattle.dir_compile.specs.Stop.{fault_with}
 use Rattle.dir_compile.specs.Compile.{element_name}
 use Rattle.dir_compile.proofs.Faults.{first-when, when-held, not-at}
-use Rattle.dir_compile.proofs.Named.{contains-named}
+use Rattle.dir_compile.proofs.FoundByName.{contains-named}
 use Rattle.dir_compile.proofs.judge.CodeListJudged.judge.Goals as goal
 
 pub returns-then-not-contains : goal.returns-then-not-contains

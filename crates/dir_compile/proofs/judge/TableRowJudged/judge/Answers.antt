@@ -4,7 +4,7 @@ use Rattle.dir_compile.specs.Compile.{segment_name, tag_faults, is_service_tag}
 use Rattle.dir_compile.specs.Stop.{fault_with}
 use Rattle.dir_compile.specs.Judges.{IsFirstFault}
 use Rattle.dir_compile.proofs.Faults.{first-when, when-held, not-at}
-use Rattle.dir_compile.proofs.Named.{contains-named}
+use Rattle.dir_compile.proofs.FoundByName.{contains-named}
 use Rattle.dir_compile.proofs.judge.TableRowJudged.judge.Goals as goal
 
 pub returns-then-contains : goal.returns-then-contains

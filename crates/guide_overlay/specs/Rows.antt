@@ -39,7 +39,7 @@ unfoldable pub narrowed_rows : TableChange → List TableRow → List TableRow
 narrowed_rows lines rows =
     map (changed_row lines) (filter (λ p. is_left (nodes_of rows) lines p.0) (enumerate_from 0 rows))
 
--- a line that a guide may have: it drops an conditional node, or keeps a node with no weaker status and with a greatest
+-- a line that a guide may have: it drops a conditional node, or keeps a node with no weaker status and with a greatest
 -- count from 1 to the base's
 abbrev pub IsNarrower : List Node → ℕ × NodeChange → Type 0
 IsNarrower nodes (i, Drop) = is_must_at nodes i ≡ false

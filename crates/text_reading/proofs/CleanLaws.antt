@@ -135,7 +135,7 @@ five_none : (p q r s t : List ErrorLine) → p ≡ [] → q ≡ [] → r ≡ [] 
 five_none p q r s t one two three four five = rw (one, two, three, four, five) refl
 
 -- the table of CONTRL
-contrl_tabled : (dir : Parts) → table_for dir (components_read unh) ≡ Some 0
+pub contrl_tabled : (dir : Parts) → table_for dir (components_read unh) ≡ Some 0
 contrl_tabled dir =
     ap (λ (b : Bool). let none : Option ℕ = None in cond b (Some 0) none)
     (lt-ltb 0 (length (table_names dir)) (omega arith))

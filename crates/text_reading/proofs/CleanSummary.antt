@@ -33,7 +33,7 @@ use Rattle.text_reading.specs.Summary.{group_of, groups_in, messages_in, opening
 use Rattle.text_reading.proofs.CleanPlaces.{each-ordered, errors_placed}
 
 -- what a segment of a text is known to have
-abbrev IsRead : Segment → Type 0
+abbrev pub IsRead : Segment → Type 0
 IsRead s = IsNumbered s.components × (s.tag ≡ tag_read s.components)
 
 each-read : (ss : List Segment) → map (λ s. s.tag) ss ≡ map (λ s. tag_read s.components) ss → Each (λ (s : Segment). IsNumbered s.components) ss → Each IsRead ss
@@ -42,10 +42,11 @@ each-read (s ∷ ss) same all =
     let parts = cons_parts s.tag (tag_read s.components) (map (λ x. x.tag) ss) (map (λ x. tag_read x.components) ss) same in
     ((all.0, parts.0), each-read ss parts.1 all.1)
 
-text-read : (text : List ℕ) → Each IsRead (segments_of_text text)
+pub text-read : (text : List ℕ) → Each IsRead (segments_of_text text)
 text-read text = each-read (segments_of_text text) (tags-read text) (text-numbered text)
 
-tagged : (name : List ℕ) (s : Segment) → IsRead s → has_name name s.tag ≡ true → tag_of s.components ≡ Some name
+-- its tag by its components
+pub tagged : (name : List ℕ) (s : Segment) → IsRead s → has_name name s.tag ≡ true → tag_of s.components ≡ Some name
 tagged name s read is = tag-named name s.components (sym (ap (has_name name) read.1) ∙ is)
 
 -- a good opening has good values, by the level of its context
@@ -69,7 +70,7 @@ opened_in dir context (Some s) read = elim (cases_Bool (has_name (codes "UNB") s
 ]
 
 -- an extent is opened by a segment of its name
-first_is : (closing : List ℕ) (tags : List (Option Tag)) (i : ℕ) (stop : Option ℕ) → (extent_to closing tags i stop).first ≡ i + 1
+pub first_is : (closing : List ℕ) (tags : List (Option Tag)) (i : ℕ) (stop : Option ℕ) → (extent_to closing tags i stop).first ≡ i + 1
 first_is closing tags i None = refl
 first_is closing tags i (Some j) = elim (cases_Bool (has_name closing (tag_in tags j))) [
   | inl is ↦

@@ -1,9 +1,9 @@
 -- What is known of the values of a segment that has no local error.
-use Rattle.std.proofs.Common.{◌≡◌, ◌≢◌, ℕ, zero, suc, ◌+◌, Bool, true, false, cond, Option, Some, None, List, [], ◌∷◌, ◌++◌, map, get_or, refl, sym, ap, ◌∙◌, inl, inr, subst}
+use Rattle.std.proofs.Common.{◌≡◌, ◌≢◌, ℕ, zero, suc, ◌+◌, Bool, true, false, ◌||◌, cond, Option, Some, None, List, [], ◌∷◌, ◌++◌, map, get_or, refl, sym, ap, ◌∙◌, inl, inr, subst}
 use Rattle.std.specs.Prelude.{slice_get, unwrap_or}
 use Rattle.std.specs.List.{enumerate_from, flat_map, list_any, zip}
 use Rattle.std.specs.Option.{ForSome, option_map}
-use Rattle.std.proofs.lemmas.Bool.{cases_Bool, false≢true}
+use Rattle.std.proofs.lemmas.Bool.{cases_Bool, false≢true, or_right}
 use Rattle.std.proofs.lemmas.Slice.Eq.{bytes_eq-Decides}
 use Rattle.edi_tables.specs.Rows.{has_name, when}
 use Rattle.edi_tables.specs.declared.element.Code.{Code}
@@ -111,6 +111,12 @@ later-get [] zero = refl
 later-get [] (suc j) = refl
 later-get (v ∷ vs) j = refl
 
+some-filled : (vs : List (List ℕ)) (j : ℕ) → has_octet (get_or vs j []) ≡ true → list_any has_octet vs ≡ true
+some-filled [] zero is = absurd (false≢true is)
+some-filled [] (suc j) is = absurd (false≢true is)
+some-filled (v ∷ vs) zero is = ap (λ (b : Bool). b || list_any has_octet vs) is
+some-filled (v ∷ vs) (suc j) is = or_right (has_octet v) (list_any has_octet vs) (some-filled vs j is)
+
 first-get : (vs : List (List ℕ)) → first_value vs ≡ get_or vs 0 []
 first-get [] = refl
 first-get (v ∷ vs) = refl
@@ -154,6 +160,9 @@ module _ (context : Context) (items : List ItemDef) where
         let never : error_at e 0 Missing ∷ [] ≡ [] = sym (ap (λ (b : Bool). cond b (parts_errors (part_rules rules (is_list_named parts vs)) e 1 parts vs) (when true (error_at e 0 Missing))) empty) ∙ none in
         absurd (let no_error : ⊥ = cc in no_error)
   ]
+
+  composite-filled : (e : ℕ) (parts : List PartDef) (vs : List (List ℕ)) → list_any has_octet vs ≡ true → composite_errors rules e false parts vs ≡ [] → parts_errors (part_rules rules (is_list_named parts vs)) e 1 parts vs ≡ []
+  composite-filled e parts vs some none = sym (ap (λ (b : Bool). cond b (parts_errors (part_rules rules (is_list_named parts vs)) e 1 parts vs) []) some) ∙ none
 
   -- elements one after the other
   abbrev later_lists : List (List (List ℕ)) → List (List (List ℕ))
@@ -224,3 +233,17 @@ module _ (dir : Parts) (context : Context) (components : List Component) (number
       sym (ap (λ (o : Option (List PartDef)). composite_errors (rules_for context items) found.0 true (unwrap_or o []) vs) defined) ∙ found.1 in
       subst (IsGoodValue context part.must part.repr) (value-at (suc i) c i j refl same)
       (parts-told context items found.0 1 (is_list_named parts vs) parts vs j part (composite-told context items found.0 parts vs whole) there)
+
+  -- a conditional composite has such values where this one is filled
+  pub part-filled : (i j c : ℕ) (code : Code) (parts : List PartDef) (part : PartDef) → slice_get items i ≡ Some (Composite code false 1) → service_parts_of context.version code.octets ≡ Some parts → slice_get parts j ≡ Some part → c ≡ 1 + j
+      → has_octet (value_in components (suc i) c) ≡ true → IsGoodValue context part.must part.repr (value_in components (suc i) c)
+  unfolding parts_of
+  part-filled i j c code parts part at defined there same some =
+      let found = at-lists numbered.lists numbered.is i (Composite code false 1) at in
+      let vs : List (List ℕ) = get_or numbered.lists (suc i) [] in
+      let value : get_or vs j [] ≡ value_in components (suc i) c = value-at (suc i) c i j refl same in
+      let whole : composite_errors (rules_for context items) found.0 false parts vs ≡ [] =
+      sym (ap (λ (o : Option (List PartDef)). composite_errors (rules_for context items) found.0 false (unwrap_or o []) vs) defined) ∙ found.1 in
+      subst (IsGoodValue context part.must part.repr) value
+      (parts-told context items found.0 1 (is_list_named parts vs) parts vs j part
+      (composite-filled context items found.0 parts vs (some-filled vs j (ap has_octet value ∙ some)) whole) there)

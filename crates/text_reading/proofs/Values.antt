@@ -135,7 +135,7 @@ pub record IsNumber (most : ℕ) (v : List ℕ) : Type 0 where
   pub some : 1 ≤ length v
   pub few : length v ≤ most
 
-digits_list : (v : List ℕ) → all_ascii_digits v ≡ true → list_all is_digit v ≡ true
+pub digits_list : (v : List ℕ) → all_ascii_digits v ≡ true → list_all is_digit v ≡ true
 digits_list [] all = refl
 digits_list (x ∷ xs) all =
     let parts = and_parts (is_digit x) (all_ascii_digits xs) all in
@@ -190,7 +190,8 @@ number_decimal s (x ∷ xs) all some =
     let b = digit_bounds x (and_parts (is_digit x) (list_all is_digit xs) all).0 in
     ap (λ (c : Bool). is_unsigned s (cond c xs (x ∷ xs))) (ne_eqb x 45 (λ same. omega (arith, b.0))) ∙ number_unsigned s x xs all
 
-counted_n : (s : Service) (v : List ℕ) → list_all is_digit v ≡ true → counted_length s N v ≡ length v
+-- the length of a number is that of its octets
+pub counted_n : (s : Service) (v : List ℕ) → list_all is_digit v ≡ true → counted_length s N v ≡ length v
 counted_n s v all = ap length (filter_all (is_counted s N) is_digit (λ x is. ap not (no_sign s x is)) v all)
 
 -- a number is good at a numeric place

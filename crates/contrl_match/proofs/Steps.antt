@@ -1,9 +1,9 @@
 -- What a segment tells by looking back is what it tells where a walk comes to it.
-use Rattle.std.proofs.Common.{◌≡◌, ℕ, zero, suc, ◌+◌, Bool, true, false, cond, not, Option, Some, None, List, [], ◌∷◌, ◌++◌, drop, map, is_some, refl, sym, ap, subst, ◌∙◌, inl, inr, arith, append_assoc, append-nil, add-one}
-use Rattle.std.specs.Prelude.{codes, find, slice_get, unwrap_or}
+use Rattle.std.proofs.Common.{◌≡◌, ℕ, zero, suc, ◌+◌, Bool, true, false, cond, not, Option, Some, None, List, [], ◌∷◌, ◌++◌, drop, map, is_some, refl, sym, ap, subst, ◌∙◌, arith, append_assoc, append-nil}
+use Rattle.std.specs.Prelude.{codes, find, slice_get}
 use Rattle.std.specs.List.{enumerate_from}
 use Rattle.std.specs.Option.{option_and_then, option_map}
-use Rattle.std.proofs.lemmas.Bool.{cases_Bool, false≢true, true≢false}
+use Rattle.std.proofs.lemmas.Bool.{false≢true, true≢false}
 use Rattle.std.proofs.lemmas.Slice.Eq.{bytes_eq-Decides}
 use Rattle.edi_octets.proofs.PlaceLemmas.{drop_here}
 use Rattle.edi_tables.proofs.Finding.{last_more}
@@ -16,7 +16,7 @@ use Rattle.contrl_segments.specs.declared.summary.MessageHead.{MessageHead}
 use Rattle.contrl_segments.specs.declared.summary.Summary.{Summary}
 use Rattle.segment_records.specs.Segments.{Segment, tags_in, value_in}
 use Rattle.contrl_match.specs.Passes.{first_spot, spot_after, told_from}
-use Rattle.contrl_match.specs.Spots.{Spot, components_in, group_before, group_named, last_before, message_before, message_named, name_in, segment_before, segment_placed, spot_at}
+use Rattle.contrl_match.specs.Spots.{Spot, group_before, group_named, last_before, message_before, message_named, name_in, segment_before, segment_placed, spot_at}
 use Rattle.contrl_match.specs.Telling.{all_told, first_lost, told_at, told_of, told_with}
 use Rattle.contrl_match.specs.declared.finding.Finding.{Finding}
 

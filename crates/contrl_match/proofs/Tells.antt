@@ -5,7 +5,6 @@ use Rattle.std.specs.Option.{option_and_then, option_map}
 use Rattle.std.proofs.lemmas.Bool.{and_parts, cases_Bool, le-leb, leb-false, leb-true, ne_eqb}
 use Rattle.edi_tables.specs.Octets.{Octets}
 use Rattle.edi_tables.specs.declared.tag.Tag.{Tag}
-use Rattle.edi_octets.specs.Decimal.{decimal_in}
 use Rattle.error_ledger.specs.declared.error.ErrorLine.{ErrorLine}
 use Rattle.contrl_segments.specs.Details.{code_told, component_told, details_told, element_told, has_position, is_near}
 use Rattle.contrl_segments.specs.ReadBack.{components_read}
@@ -26,7 +25,7 @@ use Rattle.text_reading.proofs.Values.{decimal_back, decimal_number}
 use Rattle.contrl_match.specs.Passes.{spot_after}
 use Rattle.contrl_match.specs.Reported.{first_finding, site_of}
 use Rattle.contrl_match.specs.Spots.{Spot, group_named, message_named, number_named, segment_placed, segment_with}
-use Rattle.contrl_match.specs.Telling.{Site, Values, answer_told, detail_told, finding_at, number_or_none, position_told, site_in, told_with, when_filled}
+use Rattle.contrl_match.specs.Telling.{Site, Values, answer_told, detail_told, finding_at, number_or_none, position_told, told_with, when_filled}
 use Rattle.contrl_match.specs.declared.finding.Finding.{Finding}
 use Rattle.contrl_match.specs.declared.finding.Where.{Where}
 use Rattle.contrl_match.specs.declared.finding.Where.TheVariants as level

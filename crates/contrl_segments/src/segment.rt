@@ -1,6 +1,7 @@
 //! Segments as they are written.
 ghost use Rattle.std.specs.Prelude.{◌≡◌, ◌++◌, OnOk, map};
 ghost use Rattle.std.specs.Option.{option_copied};
+ghost use Rattle.edi_tables.specs.Growing.{HasGrown};
 ghost use Rattle.contrl_segments.specs.Written.{element_text, elements_text, is_empty_element, is_empty_value, segment_text, trimmed, value_text};
 ghost use Rattle.contrl_segments.specs.Lent.{answer_lent, element_lent, segment_lent, value_lent};
 
@@ -32,29 +33,35 @@ impl WrittenValue<'_> {
     }
 }
 
-/// Puts a segment at the end: its tag, its elements without the empty ones at the end, and a terminator.
+/// Puts a segment at the end: its tag, its elements without the empty ones at the end, and a terminator. Where memory is
+/// refused, a part of it may be put.
+#[tactic(auto, using(edi_tables::proofs::GrowingLaws::grown_then))]
 pub fn put_segment(
     out: &mut Chunk,
     tag: Tag,
     elements: &[Element<'_, '_>],
 ) -> Result<(), AllocError>
-    ensures { OnOk result (out.new ≡ out.old ++ segment_text (segment_lent tag elements.now)) }
+    ensures ok { OnOk result (out.new ≡ out.old ++ segment_text (segment_lent tag elements.now)) }
+    ensures grown { HasGrown out.old out.new }
 {
     out.add(&tag.octets)?;
     put_elements(out, kept_elements(elements))?;
     out.add(b"'")
 }
 
-/// Puts the answer to what these elements say, with the error that it is rejected for, where one is told.
+/// Puts the answer to what these elements say, with the error that it is rejected for, where one is told. Where memory is
+/// refused, a part of it may be put.
+#[tactic(auto, using(edi_tables::proofs::GrowingLaws::grown_then))]
 pub fn put_answer(
     out: &mut Chunk,
     tag: Tag,
     subject: &[Element<'_, '_>],
     error: Option<&ErrorLine>,
 ) -> Result<(), AllocError>
-    ensures { OnOk result
+    ensures ok { OnOk result
         (out.new ≡ out.old
         ++ segment_text (answer_lent tag subject.now (option_copied error.entry))) }
+    ensures grown { HasGrown out.old out.new }
 {
     let Some(error) = error else {
         return put_segment(out, tag, subject);
@@ -69,8 +76,10 @@ pub fn put_answer(
 }
 
 // Puts each element after a separator.
+#[tactic(auto, using(edi_tables::proofs::GrowingLaws::grown_then, edi_tables::proofs::GrowingLaws::grown_same))]
 fn put_elements(out: &mut Chunk, elements: &[Element<'_, '_>]) -> Result<(), AllocError>
-    ensures { OnOk result (out.new ≡ out.old ++ elements_text (map element_lent elements.now)) }
+    ensures ok { OnOk result (out.new ≡ out.old ++ elements_text (map element_lent elements.now)) }
+    ensures grown { HasGrown out.old out.new }
 {
     for element in elements {
         out.add(b"+")?;
@@ -101,8 +110,10 @@ fn is_empty(element: &[WrittenValue<'_>]) -> bool
 }
 
 // Puts the values of an element, without the empty ones at the end.
+#[tactic(auto, using(edi_tables::proofs::GrowingLaws::grown_then, edi_tables::proofs::GrowingLaws::grown_same))]
 fn put_element(out: &mut Chunk, element: &[WrittenValue<'_>]) -> Result<(), AllocError>
-    ensures { OnOk result (out.new ≡ out.old ++ element_text (map value_lent element.now)) }
+    ensures ok { OnOk result (out.new ≡ out.old ++ element_text (map value_lent element.now)) }
+    ensures grown { HasGrown out.old out.new }
 {
     let Some((first, later)) = kept_values(element).split_first() else {
         return Ok(());
@@ -129,7 +140,8 @@ fn kept_values<'a, 'b>(values: &'a [WrittenValue<'b>]) -> &'a [WrittenValue<'b>]
 }
 
 fn put_value(out: &mut Chunk, value: WrittenValue<'_>) -> Result<(), AllocError>
-    ensures { OnOk result (out.new ≡ out.old ++ value_text (value_lent value.entry)) }
+    ensures ok { OnOk result (out.new ≡ out.old ++ value_text (value_lent value.entry)) }
+    ensures grown { HasGrown out.old out.new }
 {
     match value {
         WrittenValue::Octets(octets) => put_octets(out, octets),
@@ -138,8 +150,10 @@ fn put_value(out: &mut Chunk, value: WrittenValue<'_>) -> Result<(), AllocError>
 }
 
 // Puts octets, with a release character before each that is a service character.
+#[tactic(auto, using(edi_tables::proofs::GrowingLaws::grown_then, edi_tables::proofs::GrowingLaws::grown_same))]
 fn put_octets(out: &mut Chunk, octets: &[u8]) -> Result<(), AllocError>
-    ensures { OnOk result (out.new ≡ out.old ++ value_text octets.now) }
+    ensures ok { OnOk result (out.new ≡ out.old ++ value_text octets.now) }
+    ensures grown { HasGrown out.old out.new }
 {
     for octet in octets {
         if matches!(octet, b'\'' | b'+' | b':' | b'?') {

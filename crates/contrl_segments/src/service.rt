@@ -4,6 +4,7 @@ ghost use Rattle.contrl_segments.specs.Written.{segment_text};
 ghost use Rattle.contrl_segments.specs.Service.{group_party as group_party_of, interchange_party as interchange_party_of, level_word as level_word_of, syntax_identifier, uci, unb, unh, unt, unz};
 ghost use Rattle.contrl_segments.specs.Lent.{action_for, value_lent};
 ghost use Rattle.std.specs.Option.{option_copied};
+ghost use Rattle.edi_tables.specs.Growing.{HasGrown};
 
 use crate::segment::WrittenValue::{self, Number, Octets};
 use crate::segment::{put_answer, put_segment};
@@ -26,14 +27,16 @@ const UNZ: Tag = Tag { octets: *b"UNZ" };
 
 /// UNT: the number of segments of the message.
 pub fn put_unt(out: &mut Chunk, count: u32) -> Result<(), AllocError>
-    ensures { OnOk result (out.new ≡ out.old ++ segment_text (unt count)) }
+    ensures ok { OnOk result (out.new ≡ out.old ++ segment_text (unt count)) }
+    ensures grown { HasGrown out.old out.new }
 {
     put_segment(out, UNT, &[&[Number(count)], &[Octets(b"1")]])
 }
 
 /// UNH: message 1 of its interchange, a CONTRL message of version D, release 3.
 pub fn put_unh(out: &mut Chunk) -> Result<(), AllocError>
-    ensures { OnOk result (out.new ≡ out.old ++ segment_text unh) }
+    ensures ok { OnOk result (out.new ≡ out.old ++ segment_text unh) }
+    ensures grown { HasGrown out.old out.new }
 {
     put_segment(
         out,
@@ -55,9 +58,10 @@ pub fn put_unb<'a>(
     stamp: &'a Stamp,
     reference: &'a [u8],
 ) -> Result<(), AllocError>
-    ensures { OnOk result
+    ensures ok { OnOk result
         (out.new ≡ out.old ++ segment_text
         (unb (syntax_identifier level version) sender.now recipient.now stamp.now reference.now)) }
+    ensures grown { HasGrown out.old out.new }
 {
     let syntax = [Octets(level_word(level)), Number(u32::from(version))];
     let from = interchange_party(recipient);
@@ -108,9 +112,10 @@ pub fn put_uci<'a>(
     reference: &'a [u8],
     error: Option<&'a ErrorLine>,
 ) -> Result<(), AllocError>
-    ensures { OnOk result
+    ensures ok { OnOk result
         (out.new ≡ out.old ++ segment_text (uci sender.now recipient.now reference.now
         (action_for (option_copied error.entry)) (option_copied error.entry))) }
+    ensures grown { HasGrown out.old out.new }
 {
     let reference = [Octets(reference)];
     let from = interchange_party(sender);
@@ -121,7 +126,8 @@ pub fn put_uci<'a>(
 
 /// UNZ: one message, and the reference of the interchange.
 pub fn put_unz<'a>(out: &mut Chunk, reference: &'a [u8]) -> Result<(), AllocError>
-    ensures { OnOk result (out.new ≡ out.old ++ segment_text (unz reference.now)) }
+    ensures ok { OnOk result (out.new ≡ out.old ++ segment_text (unz reference.now)) }
+    ensures grown { HasGrown out.old out.new }
 {
     let messages = [Octets(b"1")];
     let reference = [Octets(reference)];

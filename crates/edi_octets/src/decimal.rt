@@ -2,6 +2,7 @@
 ghost use Rattle.std.specs.Prelude.{◌≡◌, ◌++◌, OnOk, OnErr, decimal};
 ghost use Rattle.std.specs.Str.{all_ascii_digits};
 ghost use Rattle.edi_octets.specs.Decimal.{count_line, decimal_in};
+ghost use Rattle.edi_tables.specs.Growing.{HasGrown};
 
 use edi_tables::Chunk;
 use itoa::Buffer;
@@ -35,14 +36,18 @@ pub fn are_digits(part: &[u8]) -> bool
 pub fn put_decimal(out: &mut Chunk, n: u64) -> Result<(), AllocError>
     ensures ok { OnOk result (out.new ≡ out.old ++ decimal n) }
     ensures err { OnErr result (out.new ≡ out.old) }
+    ensures grown { HasGrown out.old out.new }
 {
     let mut buffer = Buffer::new();
     out.add(buffer.format(n).as_bytes())
 }
 
-/// Puts the line of a word and a number, with a space between them and LF after them.
+/// Puts the line of a word and a number, with a space between them and LF after them. Where memory is refused, a part
+/// of it may be put.
+#[tactic(auto, using(edi_tables::proofs::GrowingLaws::grown_then))]
 pub fn put_count(out: &mut Chunk, word: &[u8], n: usize) -> Result<(), AllocError>
-    ensures { OnOk result (out.new ≡ out.old ++ count_line word.now n) }
+    ensures ok { OnOk result (out.new ≡ out.old ++ count_line word.now n) }
+    ensures grown { HasGrown out.old out.new }
 {
     out.add(word)?;
     out.add(b" ")?;

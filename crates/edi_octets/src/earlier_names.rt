@@ -86,7 +86,8 @@ impl<'a> EarlierNames<'a> {
     }
 
     /// Judges the head of an entry after others, whose codes are seen, with the code that its first field is,
-    /// if it is one: a code and a name, else `bad-code`, and none of those seen, else `twice`. It joins them.
+    /// if it is one: a code and a name, else `bad-code`, and none of those seen, else `twice`. It joins them
+    /// unless that is an error.
     pub fn read_head<C: Copy>(&mut self, head: &LineText<'a>, code: Option<C>) -> Result<C, DirStop>
         ensures judged { (is_code : List ℕ → Bool) (coded : C) (earlier : List (List Line))
             → code ≡ (if is_code (first_field (fields_of head.now.octets.now)) then Some coded
@@ -96,6 +97,7 @@ impl<'a> EarlierNames<'a> {
             (unless_faulty (head_faults is_code earlier (line_shown head.now)) coded) }
         ensures joins { OnOk result
             (self.new ≡ self.old ++ first_field (fields_of head.now.octets.now) ∷ []) }
+        ensures err { OnErr result (self.new ≡ self.old) }
     {
         let Some(code) = code else {
             return Err(head.breaks(DirKind::BadCode));

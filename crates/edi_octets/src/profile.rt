@@ -1,8 +1,9 @@
 //! The words of the directory text profile.
-ghost use Rattle.std.specs.Prelude.{◌≡◌, ◌==◌, ◌++◌, ◌<◌, ◌≤◌, OnOk, Some, None, drop, slice_index, if◌then◌else◌};
+ghost use Rattle.std.specs.Prelude.{◌≡◌, ◌==◌, ◌++◌, ◌<◌, ◌≤◌, OnOk, OnErr, Some, None, drop, slice_index, if◌then◌else◌};
 ghost use Rattle.edi_tables.specs.Forms as forms;
 ghost use Rattle.edi_octets.specs.Profile as profile;
 ghost use Rattle.edi_octets.specs.Left.{cells_left, line_shown};
+ghost use Rattle.edi_tables.specs.Growing.{HasGrown};
 
 use crate::cells::Cells;
 use crate::decimal::{are_digits, read_decimal};
@@ -143,9 +144,11 @@ pub fn read_status(field: &[u8]) -> Option<bool>
     }
 }
 
-/// Puts a status: `M` where it is mandatory, else `C`.
+/// Puts a status: `M` where it is mandatory, else `C`. Where memory is refused, nothing is put.
 pub fn put_status(out: &mut Chunk, must: bool) -> Result<(), AllocError>
-    ensures { OnOk result (out.new ≡ out.old ++ profile.status_text must) }
+    ensures ok { OnOk result (out.new ≡ out.old ++ profile.status_text must) }
+    ensures err { OnErr result (out.new ≡ out.old) }
+    ensures grown { HasGrown out.old out.new }
 {
     if must { out.add(b"M") } else { out.add(b"C") }
 }

@@ -1,15 +1,18 @@
 //! Octets of a text, as they are shown in printed lines.
-ghost use Rattle.std.specs.Prelude.{false, ◌≡◌, ◌++◌, ◌<◌, OnOk};
+ghost use Rattle.std.specs.Prelude.{false, ◌≡◌, ◌++◌, ◌<◌, OnOk, OnErr};
 ghost use Rattle.std.specs.Fmt.{digit_glyph};
 ghost use Rattle.edi_octets.specs.Shown.{octet_shown};
+ghost use Rattle.edi_tables.specs.Growing.{HasGrown};
 
 use edi_tables::Chunk;
 use std::alloc::AllocError;
 
 /// Puts an octet as it is shown: itself from 32 to 126 except the backslash, any other as a backslash and two lower-case
-/// hexadecimal digits.
+/// hexadecimal digits. Where memory is refused, nothing is put.
 pub fn put_shown(out: &mut Chunk, octet: u8) -> Result<(), AllocError>
-    ensures { OnOk result (out.new ≡ out.old ++ octet_shown octet) }
+    ensures ok { OnOk result (out.new ≡ out.old ++ octet_shown octet) }
+    ensures err { OnErr result (out.new ≡ out.old) }
+    ensures grown { HasGrown out.old out.new }
 {
     if (32..=126).contains(&octet) && octet != b'\\' {
         out.add(&[octet])

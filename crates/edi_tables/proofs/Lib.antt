@@ -7,6 +7,7 @@ pub mod Distinct
 pub mod Faults
 pub mod Finding
 pub mod GroupLaws
+pub mod GrowingLaws
 pub mod Lawful
 pub mod Made
 pub mod MissingLaws

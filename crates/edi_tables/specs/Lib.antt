@@ -4,6 +4,7 @@ pub mod Extents
 pub mod Filled
 pub mod First
 pub mod Forms
+pub mod Growing
 pub mod Octets
 pub mod Pairs
 pub mod Placement

@@ -1,5 +1,6 @@
 //! Owned octets.
 ghost use Rattle.std.specs.Prelude.{[], ◌≡◌, ◌++◌, IfOk, OnOk, OnErr};
+ghost use Rattle.edi_tables.specs.Growing.{HasGrown};
 
 use std::alloc::{AllocError, Global};
 use std::marker::Model;
@@ -54,9 +55,12 @@ impl Chunk {
     }
 
     /// Puts these octets at the end. Where memory is refused, nothing is put.
+    #[tactic(auto, using(crate::proofs::GrowingLaws::grown_same, crate::proofs::GrowingLaws::grown_more))]
     pub fn add(&mut self, part: &[u8]) -> Result<(), AllocError>
         ensures ok { OnOk result (self.new ≡ self.old ++ part.now) }
         ensures err { OnErr result (self.new ≡ self.old) }
+        // So what was there is there in any case.
+        ensures grown { HasGrown self.old self.new }
     {
         self.items.extend_from_slice(part)
     }

@@ -3,6 +3,7 @@ ghost use Rattle.std.specs.Prelude.{◌≡◌, ◌+◌, ◌-◌, ◌*◌, ◌<�
 ghost use Rattle.std.specs.List.{flat_map};
 ghost use Rattle.error_ledger.specs.Printing.{tree_text, tree_lines, ended_lines, group_line, opening_lines, placed_line, numbered, indentation, IsWellPlaced};
 ghost use Rattle.edi_octets.specs.Decimal.{count_line};
+ghost use Rattle.edi_tables.specs.Growing.{HasGrown};
 ghost use Rattle.error_ledger.specs.TreeCount.{opens_group as opens_in_tree};
 
 use crate::line::Line;
@@ -34,20 +35,23 @@ pub fn print_tree(alloc: Global, list: &[TreeLine]) -> Result<Chunk, AllocError>
     Ok(out)
 }
 
-/// Puts the head of a printed tree that has so many lines.
+/// Puts the head of a printed tree that has so many lines. Where memory is refused, a part of it may be put.
 pub fn put_tree_head(out: &mut Chunk, lines: usize) -> Result<(), AllocError>
-    ensures { OnOk result (out.new ≡ out.old ++ count_line (codes "tree") lines) }
+    ensures ok { OnOk result (out.new ≡ out.old ++ count_line (codes "tree") lines) }
+    ensures grown { HasGrown out.old out.new }
 {
     put_count(out, b"tree", lines)
 }
 
 /// Puts the lines of a segment in a printed tree, that of the group that it opens, if it opens one, and its own, and
-/// answers how many these are. A segment that opens a group lies in it, so that its depth is at least 1.
+/// answers how many these are. A segment that opens a group lies in it, so that its depth is at least 1. Where memory is
+/// refused, a part of them may be put.
 #[tactic(auto, using(crate::proofs::PrintLemmas::lines_of_segment))]
 pub fn put_tree_line(out: &mut Chunk, line: &TreeLine) -> Result<usize, AllocError>
     requires { IsWellPlaced line.now }
     ensures printed { OnOk result (out.new ≡ out.old ++ ended_lines (tree_lines line.now)) }
     ensures count { IfOk result (λ n. n ≡ length (tree_lines line.now)) }
+    ensures grown { HasGrown out.old out.new }
 {
     put_segment(out, line)?;
     Ok(1 + usize::from(opens_group(line)))
@@ -75,10 +79,11 @@ fn opens_group(line: &TreeLine) -> bool
 }
 
 // The lines of a segment.
-#[tactic(auto, unfolding(crate::specs::Printing::lines_at))]
+#[tactic(auto, using(edi_tables::proofs::GrowingLaws::grown_then), unfolding(crate::specs::Printing::lines_at))]
 fn put_segment(out: &mut Chunk, line: &TreeLine) -> Result<(), AllocError>
     requires { IsWellPlaced line.now }
-    ensures { OnOk result (out.new ≡ out.old ++ ended_lines (tree_lines line.now)) }
+    ensures ok { OnOk result (out.new ≡ out.old ++ ended_lines (tree_lines line.now)) }
+    ensures grown { HasGrown out.old out.new }
 {
     match line.place {
         TreePlace::Outside => put_marked(out, b"- ", line.segment, line.tag),
@@ -99,7 +104,8 @@ fn put_segment(out: &mut Chunk, line: &TreeLine) -> Result<(), AllocError>
 #[inline]
 fn put_marked(out: &mut Chunk, mark: &[u8], number: u32, tag: Option<Tag>) -> Result<(), AllocError>
     requires { length mark.now ≤ 2 }
-    ensures { OnOk result (out.new ≡ out.old ++ (mark.now ++ numbered number tag ++ 10 ∷ [])) }
+    ensures ok { OnOk result (out.new ≡ out.old ++ (mark.now ++ numbered number tag ++ 10 ∷ [])) }
+    ensures grown { HasGrown out.old out.new }
 {
     let mut line = Line::empty();
     line.put(&tag_octets(tag, b'\n'));
@@ -117,7 +123,8 @@ fn put_placed(
     entry: u16,
     depth: u8,
 ) -> Result<(), AllocError>
-    ensures { OnOk result (out.new ≡ out.old ++ (placed_line number tag entry depth ++ 10 ∷ [])) }
+    ensures ok { OnOk result (out.new ≡ out.old ++ (placed_line number tag entry depth ++ 10 ∷ [])) }
+    ensures grown { HasGrown out.old out.new }
 {
     let mut line = Line::empty();
     line.put(b"\n");
@@ -129,9 +136,11 @@ fn put_placed(
 }
 
 // The line of the group that an entry opens, if it opens one.
+#[tactic(auto, using(edi_tables::proofs::GrowingLaws::grown_same))]
 fn put_opening(out: &mut Chunk, depth: u8, opens: Option<GroupMark>) -> Result<(), AllocError>
     requires { IfSome opens (λ _. 1 ≤ depth) }
-    ensures { OnOk result (out.new ≡ out.old ++ ended_lines (opening_lines depth opens)) }
+    ensures ok { OnOk result (out.new ≡ out.old ++ ended_lines (opening_lines depth opens)) }
+    ensures grown { HasGrown out.old out.new }
 {
     match opens {
         Some(mark) => put_group(out, mark, depth - 1),
@@ -142,7 +151,8 @@ fn put_opening(out: &mut Chunk, depth: u8, opens: Option<GroupMark>) -> Result<(
 // The line of a group that is opened.
 #[tactic(auto, unfolding(crate::specs::Printing::group_line))]
 fn put_group(out: &mut Chunk, mark: GroupMark, depth: u8) -> Result<(), AllocError>
-    ensures { OnOk result (out.new ≡ out.old ++ (group_line mark depth ++ 10 ∷ [])) }
+    ensures ok { OnOk result (out.new ≡ out.old ++ (group_line mark depth ++ 10 ∷ [])) }
+    ensures grown { HasGrown out.old out.new }
 {
     let mut line = Line::empty();
     line.put(b"\n");
@@ -154,10 +164,12 @@ fn put_group(out: &mut Chunk, mark: GroupMark, depth: u8) -> Result<(), AllocErr
 }
 
 // A line, after two spaces for each group round it. It is short enough for those of `MOST_GROUPS` groups.
+#[tactic(auto, using(edi_tables::proofs::GrowingLaws::grown_then))]
 #[inline]
 fn put_indented(out: &mut Chunk, line: &mut Line, groups: u8) -> Result<(), AllocError>
     requires { length line.old ≤ 32 }
-    ensures { OnOk result (out.new ≡ out.old ++ (indentation groups ++ line.old)) }
+    ensures ok { OnOk result (out.new ≡ out.old ++ (indentation groups ++ line.old)) }
+    ensures grown { HasGrown out.old out.new }
 {
     if groups > MOST_GROUPS {
         put_deep_indentation(out, groups)?;
@@ -168,9 +180,10 @@ fn put_indented(out: &mut Chunk, line: &mut Line, groups: u8) -> Result<(), Allo
 }
 
 // Two spaces for each group, of which there may be any number.
-#[tactic(auto, using(crate::proofs::PrintLemmas::indentation_more))]
+#[tactic(auto, using(crate::proofs::PrintLemmas::indentation_more, edi_tables::proofs::GrowingLaws::grown_then, edi_tables::proofs::GrowingLaws::grown_same))]
 fn put_deep_indentation(out: &mut Chunk, groups: u8) -> Result<(), AllocError>
-    ensures { OnOk result (out.new ≡ out.old ++ indentation groups) }
+    ensures ok { OnOk result (out.new ≡ out.old ++ indentation groups) }
+    ensures grown { HasGrown out.old out.new }
 {
     for _group in 0..groups {
         out.add(b"  ")?;

@@ -87,3 +87,9 @@ pub tables_all : (directory : Parts) (i : ℕ) (printed : List ℕ) → length d
 unfolding tables_text
 tables_all directory i printed past is =
     is ∙ ap (λ (ms : List MessageDef). labels_line directory ++ flat_map message_text ms) (take_all i directory.messages past)
+
+-- the line of a node, put part by part
+pub node_put : (k depth name status most space last out one two three four five six seven eight nine ten : List ℕ) → one ≡ out ++ k → two ≡ one ++ space → three ≡ two ++ depth → four ≡ three ++ space → five ≡ four ++ name → six ≡ five ++ space → seven ≡ six ++ status → eight ≡ seven ++ space → nine ≡ eight ++ most → ten ≡ nine ++ last
+    → ten ≡ out ++ (k ++ space ++ depth ++ space ++ name ++ space ++ status ++ space ++ most ++ last)
+node_put k depth name status most space last out one two three four five six seven eight nine ten is_one is_two is_three is_four is_five is_six is_seven is_eight is_nine is_ten =
+    rw (is_ten, is_nine, is_eight, is_seven, is_six, is_five, is_four, is_three, is_two, is_one) (simp append_assoc)

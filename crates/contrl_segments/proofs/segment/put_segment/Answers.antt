@@ -3,6 +3,6 @@ use Rattle.std.proofs.lemmas.List.{append_assoc}
 use Rattle.contrl_segments.specs.Written.{segment_text}
 use Rattle.contrl_segments.proofs.segment.put_segment.Goals as goal
 
-pub returns : goal.returns
+pub returns-clause-ok : goal.returns-clause-ok
 unfolding segment_text
-returns c = search (rules, append_assoc)
+returns-clause-ok c = search (rules, append_assoc)

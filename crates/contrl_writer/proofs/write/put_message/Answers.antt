@@ -19,9 +19,9 @@ returns c =
     let es = c.in_ok-errors.errors in
     let lower = lower_segments es s.messages s.groups in
     let put = message-text c.args.text c.put_unh.new.out c.put_uci.new.out c.put_unt.new.out c.put_below.new.out told first lower c.count-count.result
-    c.in_ok-put_unh.ensures c.in_ok-put_uci.ensures
+    c.in_ok-put_unh.ensures.ok c.in_ok-put_uci.ensures.ok
     (c.in_ok-put_below.ensures ∙ ap (λ (w : Lower). with_segments w (segments_below first lower)) c.after-lower.ensures)
-    c.count-count.ensures (c.in_ok-put_unt.ensures ∙ ap (λ zs. zs ++ segment_text (unt (c.count-count.result + 3))) c.into_text-text.ensures) in
+    c.count-count.ensures (c.in_ok-put_unt.ensures.ok ∙ ap (λ zs. zs ++ segment_text (unt (c.count-count.result + 3))) c.into_text-text.ensures) in
     put
     ∙ (ap (λ (e : Option ErrorLine). c.args.text ++ contrl_text (message_of (interchange_answer told e lower)))
     (c.first_told-error.ensures ∙ ap (λ (xs : List Levelled). first_error (interchange_errors xs)) (c.items.ensures ∙ c.in_ok-errors.ensures))

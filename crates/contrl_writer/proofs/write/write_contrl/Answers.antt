@@ -15,10 +15,10 @@ put c =
     let first = first_error (interchange_errors (levelled s)) in
     let lower = lower_segments (levelled s) s.messages s.groups in
     contrl-text s c.args.stamp.now c.args.reference.now c.in-Good.level c.in-Good.version c.in-Good.sender c.in-Good.recipient c.in-Good.answered c.in-Good.is
-    c.empty-out.result c.put_unb.new.out c.in_ok-out-in-Good.out c.put_unz.new.out c.empty-out.ensures c.in_ok-put_unb-in-Good.ensures
+    c.empty-out.result c.put_unb.new.out c.in_ok-out-in-Good.out c.put_unz.new.out c.empty-out.ensures c.in_ok-put_unb-in-Good.ensures.ok
     (c.in_ok-out-in-Good.ensures
     ∙ ap (λ (r : List ℕ). c.put_unb.new.out ++ contrl_text (message_of (interchange_answer (uci c.in-Good.sender c.in-Good.recipient r) first lower))) c.octets.ensures)
-    c.in_ok-put_unz-in-Good.ensures
+    c.in_ok-put_unz-in-Good.ensures.ok
 
 pub returns-in_ok-put_unz-in-Good-clause-answer : goal.returns-in_ok-put_unz-in-Good-clause-answer
 returns-in_ok-put_unz-in-Good-clause-answer c =

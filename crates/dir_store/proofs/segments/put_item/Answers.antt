@@ -8,5 +8,5 @@ pub returns : goal.returns
 returns c =
     on_ok_weaker c.add-4.result
     (put-three c.args.code.octets (status_text c.args.must) (decimal c.args.reps) c.args.out.now c.add.new.self c.add-2.new.self c.put_status.new.out c.add-3.new.self c.put_decimal.new.out c.add-4.new.self
-    c.in_ok-add.ensures.ok c.in_ok-add-2.ensures.ok c.in_ok-put_status.ensures c.in_ok-add-3.ensures.ok (rw c.from.ensures at c.in_ok-put_decimal.ensures.ok))
+    c.in_ok-add.ensures.ok c.in_ok-add-2.ensures.ok c.in_ok-put_status.ensures.ok c.in_ok-add-3.ensures.ok (rw c.from.ensures at c.in_ok-put_decimal.ensures.ok))
     c.add-4.ensures.ok

@@ -18,7 +18,7 @@ returns c =
     (five_parts (codes "table ") (count_line c.args.message.now.name (length c.args.message.now.rows)) (node_lines_from 0 c.args.message.now.rows) (count_line (codes "collisions") (length seen)) (flat_map collision_line seen)
     c.args.out.now c.add.new.self c.put_count.new.out c.put_nodes.new.out c.put_count-2.new.out c.put_collisions.new.out
     c.in_ok-add.ensures.ok
-    (c.in_ok-put_count.ensures ∙ ap (λ (name : List ℕ). c.add.new.self ++ count_line name (length c.items-rows.result.now)) c.octets.ensures ∙ ap (λ (rows : List TableRow). c.add.new.self ++ count_line c.args.message.now.name (length rows)) c.items-rows.ensures)
+    (c.in_ok-put_count.ensures.ok ∙ ap (λ (name : List ℕ). c.add.new.self ++ count_line name (length c.items-rows.result.now)) c.octets.ensures ∙ ap (λ (rows : List TableRow). c.add.new.self ++ count_line c.args.message.now.name (length rows)) c.items-rows.ensures)
     (c.in_ok-put_nodes.ensures ∙ ap (λ (rows : List TableRow). c.put_count.new.out ++ node_lines_from 0 rows) c.items-rows.ensures)
-    (c.in_ok-put_count-2.ensures ∙ ap (λ (n : ℕ). c.put_nodes.new.out ++ count_line (codes "collisions") n) (sym (length-map c.args.collisions.now collision_seen))))
+    (c.in_ok-put_count-2.ensures.ok ∙ ap (λ (n : ℕ). c.put_nodes.new.out ++ count_line (codes "collisions") n) (sym (length-map c.args.collisions.now collision_seen))))
     c.put_collisions.ensures

@@ -81,8 +81,3 @@ not-filled (x ∷ xs) e = cc
 pub tables-free : (parts : Parts) → message_faults parts ≡ [] → All (λ m. table_faults m.rows ≡ []) parts.messages
 tables-free parts none k d lt =
     not-filled _ (when-nil _ _ (nil-right _ _ (none-place (message_fault parts) parts.messages k d lt none)))
-
--- what is built where nothing is at fault
-pub built : {F A : Type 0} (faults : List F) (value found : A) → faults ≡ [] → unless_faulty faults value ≡ Ok found → found ≡ value
-built [] value found none e = cc
-built (fault ∷ faults) value found none e = cc

@@ -19,9 +19,7 @@ ghost use Rattle.dir_compile.specs.Directory.{
 use crate::names::{Names, octets_of};
 use crate::parts::Parts;
 use collision_check::{Collision, list_collisions};
-use edi_tables::{
-    Code, CodeList, CompositeDef, List, MessageDef, SegmentDef, Table, TableRow, Tag,
-};
+use edi_tables::{Code, CodeList, CompositeDef, List, MessageDef, SegmentDef, Table, Tag};
 use service_tables::contrl_rows;
 use std::alloc::{AllocError, Global};
 use std::marker::Model;
@@ -198,9 +196,9 @@ fn build_tables(alloc: Global, messages: &[MessageDef]) -> Result<Vec<Table>, Al
         ≡ nodes_of contrl_table_rows ∷ map (λ m. nodes_of m.rows) messages.now) }
 {
     let mut tables = Vec::with_capacity(alloc, messages.len() + 1)?;
-    tables.push(build_table(alloc, contrl_rows())?)?;
+    tables.push(Table::of(alloc, contrl_rows())?)?;
     for message in messages {
-        tables.push(build_table(alloc, message.rows.items())?)?;
+        tables.push(Table::of(alloc, message.rows.items())?)?;
     }
     Ok(tables)
 }
@@ -215,14 +213,4 @@ fn find_collisions(alloc: Global, tables: &[Table]) -> Result<Vec<List<Collision
         collisions.push(List::of(list_collisions(alloc, table)?))?;
     }
     Ok(collisions)
-}
-
-fn build_table(alloc: Global, rows: &[TableRow]) -> Result<Table, AllocError>
-    requires { table_faults rows.now ≡ [] }
-    ensures { IfOk result (λ table. table ≡ nodes_of rows.now) }
-{
-    match Table::build(alloc, rows) {
-        Ok(table) => Ok(table),
-        Err(_) => Err(AllocError),
-    }
 }

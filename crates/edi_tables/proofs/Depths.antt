@@ -1,17 +1,17 @@
 -- Where a row's parent and its end stand, by the depths of the rows between.
-use Rattle.std.proofs.Common.{◌≡◌, ℕ, ◌+◌, ◌-◌, ◌<◌, ◌≤◌, Bool, false, List, ◌++◌, Option, Some, None, length, get_or, take, drop, replicate, refl, sym, ap, ◌∙◌, ◌⊎◌, inl, inr, cond, ⊎_elim, arith}
-use Rattle.std.specs.Prelude.{reverse, find, MatchOption, nat_lt, nat_le}
-use Rattle.std.specs.List.{range_with_len, prefix_len}
+use Rattle.std.proofs.Common.{◌≡◌, ℕ, ◌+◌, ◌-◌, ◌<◌, ◌≤◌, Bool, false, List, Option, Some, None, length, get_or, take, drop, refl, sym, ap, ◌∙◌, ◌⊎◌, inl, inr, ⊎_elim, arith}
+use Rattle.std.specs.Prelude.{MatchOption, nat_lt, nat_le}
+use Rattle.std.specs.List.{prefix_len}
 use Rattle.std.proofs.lemmas.Bool.{ltb-true, ltb-false, leb-true, leb-false, lt-ltb, le-ltb, le-leb, lt-leb, cases_lt, cases_eq, cases_order}
 use Rattle.std.proofs.lemmas.Option.{slice_get-get_or, slice_get_past, MatchOption-at_some, MatchOption-at_none}
-use Rattle.std.proofs.lemmas.List.{get_or-drop, length-drop, take_rest, get_or-replicate, get_or-take, get_or_append_left, get_or-append_right, length-append, length-replicate, length-take-le}
+use Rattle.std.proofs.lemmas.List.{get_or-drop, length-drop, take_rest}
 use Rattle.std.proofs.lemmas.List.Sums.{prefix_len_passes, prefix_len_stops, prefix_len-le-length}
 use Rattle.edi_tables.specs.declared.segment.TableRow.{TableRow}
 use Rattle.edi_tables.specs.Rows.{depth_at, parent_of, end_of}
-use Rattle.edi_tables.proofs.Finding.{IsFirstFrom, IsLastBelow, first_found, first_once, last_found, last_more, last_once}
+use Rattle.edi_tables.proofs.Finding.{IsFirstFrom, IsLastBelow, first_found, first_once, last_found, last_once}
 
 -- what is read past the rows
-pub blank_row : TableRow
+abbrev pub blank_row : TableRow
 blank_row = record { tag = None; must = false; max = 0; depth = 0 }
 
 pub depth_at-get_or : (rows : List TableRow) (j : ℕ) (d : TableRow) → j < length rows → depth_at rows j ≡ (get_or rows j d).depth
@@ -207,49 +207,3 @@ sibling_after rows i g m e one parent inner end below =
       shallower = deeper;
       between = λ k past before. sibling_between rows i g m k one parent inner stops past before;
     }
-
--- the last row before i that is less deep than this
-abbrev pub last_shallower : List TableRow → ℕ → ℕ → Option ℕ
-last_shallower rows i depth = find (λ j. nat_lt (depth_at rows j) depth) (reverse (range_with_len 0 i))
-
--- for each depth, the group that would hold a row of that depth at i
-pub record HasParents (rows : List TableRow) (i : ℕ) (parents : List (Option ℕ)) : Type 0 where
-  pub long : length parents ≡ 17
-  pub each : (depth : ℕ) → depth < 17 → get_or parents depth None ≡ last_shallower rows i depth
-
-pub no_parents : (rows : List TableRow) → HasParents rows 0 (replicate 17 None)
-no_parents rows = record { long = refl; each = λ depth below. get_or-replicate 17 depth None None below }
-
-parent_of-last_shallower : (rows : List TableRow) (i depth : ℕ) → depth ≡ depth_at rows i → parent_of rows i ≡ last_shallower rows i depth
-unfolding parent_of
-parent_of-last_shallower rows i depth is = ap (last_shallower rows i) (sym is)
-
-pub parent_read : (rows : List TableRow) (i depth : ℕ) (parents : List (Option ℕ)) → depth ≡ depth_at rows i → depth ≤ 16 → HasParents rows i parents → get_or parents depth None ≡ parent_of rows i
-parent_read rows i depth parents is small has = has.each depth (omega arith) ∙ sym (parent_of-last_shallower rows i depth is)
-
-more_at : (rows : List TableRow) (i depth : ℕ) → last_shallower rows (i + 1) depth ≡ cond (nat_lt (depth_at rows i) depth) (Some i) (last_shallower rows i depth)
-more_at rows i depth = last_more (λ j. nat_lt (depth_at rows j) depth) i
-
-module _ (rows : List TableRow) (i at : ℕ) (parents : List (Option ℕ)) (is : at ≡ depth_at rows i) (small : at ≤ 16) (has : HasParents rows i parents) where
-  abbrev held : List (Option ℕ)
-  held = take (at + 1) parents ++ replicate (length parents - (at + 1)) (Some i)
-
-  front_long : length (take (at + 1) parents) ≡ at + 1
-  front_long = length-take-le (at + 1) parents (omega (arith, has.long))
-
-  held_long : length held ≡ 17
-  held_long = omega (arith, length-append (take (at + 1) parents) (replicate (length parents - (at + 1)) (Some i)), front_long, length-replicate (length parents - (at + 1)) (Some i), has.long)
-
-  stays : (depth : ℕ) → depth ≤ at → get_or held depth None ≡ last_shallower rows (i + 1) depth
-  stays depth low =
-      get_or_append_left (take (at + 1) parents) _ None depth (omega (arith, front_long)) ∙ get_or-take (at + 1) parents depth None (omega arith)
-      ∙ has.each depth (omega arith) ∙ sym (rw (more_at rows i depth, le-ltb (depth_at rows i) depth (omega arith)) refl)
-
-  changes : (depth : ℕ) → at < depth → depth < 17 → get_or held depth None ≡ last_shallower rows (i + 1) depth
-  changes depth high below =
-      get_or-append_right (take (at + 1) parents) (replicate (length parents - (at + 1)) (Some i)) (at + 1) depth None front_long (omega arith)
-      ∙ get_or-replicate (length parents - (at + 1)) (depth - (at + 1)) (Some i) None (omega (arith, has.long))
-      ∙ sym (rw (more_at rows i depth, lt-ltb (depth_at rows i) depth (omega arith)) refl)
-
-  pub more_parents : HasParents rows (i + 1) held
-  more_parents = record { long = held_long; each = λ depth below. ⊎_elim (λ low. stays depth (omega arith)) (λ high. changes depth (omega arith) below) (cases_lt depth (at + 1)) }

@@ -8,6 +8,7 @@ pub mod Faults
 pub mod Finding
 pub mod GroupLaws
 pub mod GrowingLaws
+pub mod Holding
 pub mod Lawful
 pub mod Made
 pub mod MissingLaws

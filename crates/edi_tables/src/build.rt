@@ -1,7 +1,7 @@
 //! Which rows are a segment table, and the nodes that they stand for.
-ghost use Rattle.std.specs.Prelude.{◌≡◌, ◌+◌, ◌-◌, ◌<◌, ◌≤◌, [], ◌++◌, Some, length, take, replicate, IfOk, nat_lt, slice_get};
+ghost use Rattle.std.specs.Prelude.{◌≡◌, ◌+◌, ◌-◌, ◌<◌, ◌≤◌, [], ◌++◌, Some, length, take, replicate, IfOk, nat_lt, slice_get, if◌then◌else◌};
 ghost use Rattle.std.specs.List.{prefix_len};
-ghost use Rattle.edi_tables.specs.Rows.{has_name, is_frame_row, breaks_frame, breaks_envelope, breaks_depth, breaks_trigger, depth_behind, is_trigger_row, row_faults, table_faults, end_of, nodes_of};
+ghost use Rattle.edi_tables.specs.Rows.{has_name, is_group_row, is_frame_row, breaks_frame, breaks_envelope, breaks_depth, breaks_trigger, depth_behind, is_trigger_row, row_faults, table_faults, end_of, nodes_of};
 
 use crate::{Node, RowFault, TableKind, TableRow, Tag};
 use std::alloc::{AllocError, Global};
@@ -155,7 +155,7 @@ pub fn nodes_of(alloc: Global, rows: &[TableRow]) -> Result<Vec<Node>, AllocErro
     ensures { IfOk result (λ nodes. nodes.items ≡ nodes_of rows.now) }
 {
     let mut nodes = Vec::with_capacity(alloc, rows.len())?;
-    // The group that holds a row of each depth: the last row that is less deep.
+    // The group that holds a row of each depth that comes next: the last row that is less deep.
     let mut parents = [None; DEPTHS];
     for (i, row) in rows.iter().enumerate() {
         let depth = usize::from(row.depth);
@@ -166,18 +166,22 @@ pub fn nodes_of(alloc: Global, rows: &[TableRow]) -> Result<Vec<Node>, AllocErro
             parent: parents[depth],
             end: end_of(rows, i),
         })?;
-        hold_deeper(&mut parents, depth, i as u16);
+        hold_deeper(&mut parents, row, i as u16);
     }
     Ok(nodes)
 }
 
-/// Lets this row hold each row of a greater depth that comes next.
-fn hold_deeper(parents: &mut [Option<u16>], depth: usize, row: u16)
-    requires { depth < length parents.old }
-    ensures { parents.new ≡ take (depth + 1) parents.old
-        ++ replicate (length parents.old - (depth + 1)) (Some row) }
+/// Lets a group hold each row of a greater depth that comes next. No other row holds any.
+fn hold_deeper(parents: &mut [Option<u16>], row: &TableRow, place: u16)
+    requires { row.now.depth < length parents.old }
+    ensures { parents.new ≡ (if is_group_row row.now
+        then take (row.now.depth + 1) parents.old
+        ++ replicate (length parents.old - (row.now.depth + 1)) (Some place)
+        else parents.old) }
 {
-    parents[depth + 1..].fill(Some(row));
+    if row.tag.is_none() {
+        parents[usize::from(row.depth) + 1..].fill(Some(place));
+    }
 }
 
 /// One past the last row that the row at this place holds: the first row after it that is no

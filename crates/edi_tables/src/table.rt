@@ -80,7 +80,8 @@ impl Model for Table {
 
 impl Table {
     ghost use Rattle.edi_tables.specs.First.{IsVerdict};
-    ghost use Rattle.edi_tables.specs.Rows.{IsTable, fault_in, table_faults, table_of};
+    ghost use Rattle.edi_tables.specs.Rows.{IsTable, fault_in, nodes_of, table_faults, table_of};
+    ghost use Rattle.std.specs.Prelude.{[], IfOk};
 
     /// The first fault of these rows, if they are no segment table. It takes no memory.
     pub fn first_fault(rows: &[TableRow]) -> Option<RowFault>
@@ -96,6 +97,16 @@ impl Table {
         if let Some(RowFault { at, kind }) = build::first_fault(rows) {
             return Err(TableStop::Fault { at, kind });
         }
+        Ok(Table {
+            nodes: build::nodes_of(alloc, rows)?,
+        })
+    }
+
+    /// The table of rows that are known to break no rule, and so aren't judged.
+    pub fn of(alloc: Global, rows: &[TableRow]) -> Result<Table, AllocError>
+        requires { table_faults rows.now ≡ [] }
+        ensures { IfOk result (λ table. table ≡ nodes_of rows.now) }
+    {
         Ok(Table {
             nodes: build::nodes_of(alloc, rows)?,
         })

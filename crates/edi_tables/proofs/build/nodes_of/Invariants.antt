@@ -1,6 +1,6 @@
 use Rattle.std.proofs.Common.{◌≡◌, take}
 use Rattle.edi_tables.specs.Rows.{nodes_from}
-use Rattle.edi_tables.proofs.Depths.{HasParents}
+use Rattle.edi_tables.proofs.Holding.{HasParents}
 use Rattle.edi_tables.proofs.build.nodes_of.Given as goal
 
 abbrev pub invariant-loop-i : goal.invariant-loop-i

@@ -1,5 +1,5 @@
 -- Names in order, found by halving.
-use Rattle.std.proofs.Common.{◌≡◌, ◌<◌, ◌≤◌, ℕ, Bool, true, false, List, [], ◌∷◌, length, get_or, Option, Some, None, Result, Ok, Err, is_some, Bor, refl, sym, ap, ◌∙◌, subst, arith, inl, inr, Ordering}
+use Rattle.std.proofs.Common.{◌≡◌, ◌<◌, ◌≤◌, ◌+◌, ◌*◌, ℕ, Bool, true, false, List, [], ◌∷◌, length, get_or, Option, Some, None, Result, Ok, Err, is_some, Bor, refl, sym, ap, ◌∙◌, subst, arith, inl, inr, Ordering}
 use Rattle.std.specs.Prelude.{slice_get, is_ok}
 use Rattle.std.specs.List.{position_or_len}
 use Rattle.std.specs.List.Sorted.{IsBinarySearchResult, IsNonDecreasingBy, IsSearchInRange}
@@ -10,7 +10,8 @@ use Rattle.std.specs.Option.{option_copied}
 use Rattle.std.specs.Result.{result_ok}
 use Rattle.std.specs.Slice.{IsItemAt}
 use Rattle.std.specs.Str.{bytes_eq}
-use Rattle.std.proofs.lemmas.Bool.{cases_lt}
+use Rattle.std.specs.Cmp.{nat_cmp_is}
+use Rattle.std.proofs.lemmas.Bool.{cases_lt, cases_order}
 use Rattle.std.proofs.lemmas.Cmp.{nat_list_cmp_total}
 use Rattle.std.proofs.lemmas.List.Folds.{find_at}
 use Rattle.std.proofs.lemmas.List.Sums.{position_or_len_is}
@@ -133,9 +134,35 @@ other_compared x y z (a ∷ b ∷ []) long = absurd (omega arith)
 other_compared x y z (a ∷ b ∷ d ∷ []) long = ap (λ o. ordering_then (nat_cmp x a) (ordering_then (nat_cmp y b) o)) (then_equal (nat_cmp z d))
 other_compared x y z (a ∷ b ∷ d ∷ e ∷ more) long = absurd (omega arith)
 
-pub tags_compared : (a b : List ℕ) → length a ≡ 3 → length b ≡ 3 → slice_cmp nat_cmp a b ≡ by_octets a b
+-- an order by two numbers, the second asked where the first are equal, is that of two other numbers
+then_order : (x a : ℕ) (rest : Ordering) (n m : ℕ) → (x < a → n < m) → (a < x → m < n) → (x ≡ a → rest ≡ nat_cmp n m) → ordering_then (nat_cmp x a) rest ≡ nat_cmp n m
+then_order x a rest n m less more same = elim (cases_order x a) [
+  | inl equal ↦ ap (λ o. ordering_then o rest) (sym (nat_cmp_is x a Equal equal)) ∙ same equal
+  | inr differ ↦ elim differ [
+    | inl below ↦ ap (λ o. ordering_then o rest) (sym (nat_cmp_is x a Less below)) ∙ nat_cmp_is n m Less (less below)
+    | inr above ↦ ap (λ o. ordering_then o rest) (sym (nat_cmp_is x a Greater above)) ∙ nat_cmp_is n m Greater (more above)
+  ]
+]
+
+-- three octets as one number: the first counts most
+abbrev pub number_of : List ℕ → ℕ
+number_of a = get_or a 0 0 * 65536 + get_or a 1 0 * 256 + get_or a 2 0
+
+by_number : (x y z a b d : ℕ) → y < 256 → z < 256 → b < 256 → d < 256 → ordering_then (nat_cmp x a) (ordering_then (nat_cmp y b) (nat_cmp z d)) ≡ nat_cmp (x * 65536 + y * 256 + z) (a * 65536 + b * 256 + d)
+by_number x y z a b d y_small z_small b_small d_small =
+    then_order x a (ordering_then (nat_cmp y b) (nat_cmp z d)) (x * 65536 + y * 256 + z) (a * 65536 + b * 256 + d) (λ h. omega arith) (λ h. omega arith)
+    (λ first. then_order y b (nat_cmp z d) (x * 65536 + y * 256 + z) (a * 65536 + b * 256 + d) (λ h. omega arith) (λ h. omega arith)
+    (λ second. then_equal (nat_cmp z d)
+    ∙ then_order z d Equal (x * 65536 + y * 256 + z) (a * 65536 + b * 256 + d) (λ h. omega arith) (λ h. omega arith) (λ third. nat_cmp_is (x * 65536 + y * 256 + z) (a * 65536 + b * 256 + d) Equal (omega arith))))
+
+tags_compared : (a b : List ℕ) → length a ≡ 3 → length b ≡ 3 → slice_cmp nat_cmp a b ≡ by_octets a b
 tags_compared [] b long other = absurd (omega arith)
 tags_compared (x ∷ []) b long other = absurd (omega arith)
 tags_compared (x ∷ y ∷ []) b long other = absurd (omega arith)
 tags_compared (x ∷ y ∷ z ∷ []) b long other = sym (other_compared x y z b other)
 tags_compared (x ∷ y ∷ z ∷ w ∷ more) b long other = absurd (omega arith)
+
+-- tags are ordered as their numbers are
+pub tags_numbered : (a b : List ℕ) → length a ≡ 3 → length b ≡ 3 → get_or a 1 0 < 256 → get_or a 2 0 < 256 → get_or b 1 0 < 256 → get_or b 2 0 < 256 → nat_cmp (number_of a) (number_of b) ≡ slice_cmp nat_cmp a b
+tags_numbered a b long other second third b_second b_third =
+    sym (tags_compared a b long other ∙ by_number (get_or a 0 0) (get_or a 1 0) (get_or a 2 0) (get_or b 0 0) (get_or b 1 0) (get_or b 2 0) second third b_second b_third)

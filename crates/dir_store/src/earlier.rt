@@ -1,5 +1,5 @@
 //! The version of a store, and the definitions that its lines may name.
-ghost use Rattle.std.specs.Prelude.{◌≡◌};
+ghost use Rattle.std.specs.Prelude.{◌≡◌, ◌+◌, ◌*◌, ◌<◌, length, slice_index};
 ghost use Rattle.std.specs.Cmp.Lexicographic.{slice_cmp};
 ghost use Rattle.std.specs.Option.{option_copied};
 ghost use Rattle.std.specs.Ordering.{nat_cmp};
@@ -63,19 +63,26 @@ impl<'a> EarlierDefinitions<'a> {
     }
 }
 
-// The order of two tags. Each row of a message looks its tag up, so no call compares slices of any length here.
+// The order of two tags. Each row of a message looks its tag up, so their numbers are compared, and no slices of any
+// length.
 #[inline]
-#[tactic(auto, using(crate::proofs::SearchLemmas::tags_compared))]
+#[tactic(auto, using(crate::proofs::SearchLemmas::tags_numbered))]
 fn compare_tags(tag: Tag, other: Tag) -> Ordering
     ensures { result ≡ slice_cmp nat_cmp tag.octets other.octets }
 {
-    match tag.octets[0].cmp(&other.octets[0]) {
-        Ordering::Equal => match tag.octets[1].cmp(&other.octets[1]) {
-            Ordering::Equal => tag.octets[2].cmp(&other.octets[2]),
-            Ordering::Less => Ordering::Less,
-            Ordering::Greater => Ordering::Greater,
-        },
-        Ordering::Less => Ordering::Less,
-        Ordering::Greater => Ordering::Greater,
-    }
+    tag_number(tag).cmp(&tag_number(other))
+}
+
+// The octets of a tag as one number, the first of them highest.
+#[inline]
+fn tag_number(tag: Tag) -> u32
+    ensures value { result
+        ≡ slice_index tag.octets 0 * 65536 + slice_index tag.octets 1 * 256
+        + slice_index tag.octets 2 }
+    ensures second { slice_index tag.octets 1 < 256 }
+    ensures third { slice_index tag.octets 2 < 256 }
+    ensures three { length tag.octets ≡ 3 }
+{
+    let [first, second, third] = tag.octets;
+    u32::from(first) * 65536 + u32::from(second) * 256 + u32::from(third)
 }

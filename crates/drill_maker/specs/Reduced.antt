@@ -10,6 +10,8 @@ use Rattle.edi_tables.specs.declared.segment.SegmentDef.{SegmentDef}
 use Rattle.edi_tables.specs.declared.segment.TableRow.{TableRow}
 use Rattle.edi_tables.specs.declared.segment.MessageDef.{MessageDef}
 use Rattle.dir_compile.specs.declared.parts.Parts.{Parts}
+use Rattle.dir_compile.specs.Directory.{Directory}
+use Rattle.dir_compile.specs.InOrder.{ordered_parts}
 use Rattle.service_tables.specs.ServiceTables.{M, C, up_to, repr_of, part, alone, composite, composite_of, segment_of, segment_row, group_row}
 
 -- an element with values of up to so many octets
@@ -155,3 +157,7 @@ reduced = record {
   segments = segments;
   messages = order_messages;
 }
+
+-- the reduced directory
+abbrev pub drill_directory : Directory
+drill_directory = ordered_parts reduced

@@ -8,4 +8,4 @@ mod tables;
 
 pub use edit::{DrillEdit, make_edit};
 pub use interchange::make_interchange;
-pub use reduced::reduced_parts;
+pub use reduced::{reduced_directory, reduced_parts};

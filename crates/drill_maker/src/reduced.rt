@@ -2,15 +2,25 @@
 ghost use Rattle.std.specs.Prelude.{[], ◌≡◌, ◌<◌, IfOk, length, map};
 ghost use Rattle.dir_compile.specs.Compile.{compile_faults};
 ghost use Rattle.dir_compile.specs.Forms.{HasForms};
-ghost use Rattle.drill_maker.specs.Reduced.{order_messages, reduced};
+ghost use Rattle.drill_maker.specs.Reduced.{drill_directory, order_messages, reduced};
 ghost use Rattle.drill_maker.specs.Rows.{composite_given, list_given, segment_given};
 
 use crate::tables::{
     COMPOSITES, CompositeRow, ELEMENTS, LISTS, ListRow, ORDER_ROWS, SEGMENTS, SegmentRow,
 };
-use dir_compile::Parts;
+use dir_compile::{Directory, Parts, compile};
 use edi_tables::{Chunk, CodeList, CompositeDef, List, MessageDef, SegmentDef};
 use std::alloc::{AllocError, Global};
+
+/// The reduced directory. Only want of memory is an error.
+pub fn reduced_directory(alloc: Global) -> Result<Directory, AllocError>
+    ensures { IfOk result (λ directory. directory ≡ drill_directory) }
+{
+    match compile(alloc, reduced_parts(alloc)?) {
+        Ok(directory) => Ok(directory),
+        Err(_) => Err(AllocError),
+    }
+}
 
 /// The parts of the reduced directory, which give a directory. Only want of memory is an error.
 #[tactic(auto, unfolding(crate::specs::Reduced::reduced))]

@@ -1,22 +1,11 @@
 -- A text that is edited, and the directory that it is checked by.
 use Rattle.std.proofs.Common.{◌≡◌, ◌+◌, ◌-◌, ◌≤◌, ℕ, zero, suc, List, length, Result, Ok, refl, sym, ap, ◌∙◌, arith, add-one}
 use Rattle.std.proofs.lemmas.List.FromFn.{sum_by-map-range_with_len_more}
-use Rattle.dir_compile.specs.declared.parts.Parts.{Parts}
-use Rattle.dir_compile.specs.Directory.{directory_of}
-use Rattle.dir_compile.specs.Stop.{PartsFault}
 use Rattle.drill_maker.specs.Edit.{cut_of, edit_place_of, put_of}
-use Rattle.drill_maker.specs.Reduced.{reduced}
+use Rattle.drill_maker.specs.Reduced.{drill_directory}
 use Rattle.drill_maker.proofs.EditLemmas.{place_within, put_cut}
-use Rattle.drill_maker.proofs.ReducedLemmas.{directory_of-reduced}
 use Rattle.kept_text.proofs.Edits.{length_with}
-use Rattle.drill_printer.specs.Drill.{drill_directory, error_count, error_sum, text_drilled, text_edited}
-
-ok_same : (one other : Parts) → (let a : Result Parts PartsFault = Ok one in a ≡ Ok other) → one ≡ other
-ok_same one other same = cc
-
--- what the definitions of the reduced directory give
-pub compiled : (parts directory : Parts) → parts ≡ reduced → directory_of parts ≡ Ok directory → directory ≡ drill_directory
-compiled parts directory is given = ok_same directory drill_directory (sym given ∙ directory_of-reduced parts is)
+use Rattle.drill_printer.specs.Drill.{error_count, error_sum, text_drilled, text_edited}
 
 -- an edit leaves so many octets more as it puts, and so many fewer as it cuts
 length_edited : (number j : ℕ) (text : List ℕ) → cut_of j ≤ length text → length (text_edited number j text) + cut_of j ≡ length text + length (put_of j)

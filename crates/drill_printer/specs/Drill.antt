@@ -1,19 +1,13 @@
 -- The drill: an interchange that is made from numbers and edited, and what is printed of it.
 use Rattle.std.specs.Prelude.{ℕ, zero, suc, [], ◌∷◌, ◌++◌, length, map, codes, decimal}
 use Rattle.std.specs.List.{range_with_len, sum_by}
-use Rattle.dir_compile.specs.Directory.{Directory}
 use Rattle.edi_tables.specs.Octets.{Octets}
-use Rattle.dir_compile.specs.InOrder.{ordered_parts}
 use Rattle.drill_maker.specs.Edit.{edit_of}
 use Rattle.drill_maker.specs.Interchange.{interchange_text}
-use Rattle.drill_maker.specs.Reduced.{reduced}
+use Rattle.drill_maker.specs.Reduced.{drill_directory}
 use Rattle.kept_text.specs.Edit.{text_with}
 use Rattle.text_reading.specs.Errors.{errors_of}
 use Rattle.segment_records.specs.Count.{segment_count_of}
-
--- the directory that a drill is checked by
-abbrev pub drill_directory : Directory
-drill_directory = ordered_parts reduced
 
 -- a text after edit j, which is made for its length
 abbrev pub text_edited : ℕ → ℕ → Octets → Octets

@@ -1,11 +1,12 @@
 //! The drill: an interchange that is made from numbers and edited, to measure with.
 ghost use Rattle.std.specs.Prelude.{◌≡◌, ◌++◌, ◌<◌, ◌≤◌, IfOk, OnOk, length};
 ghost use Rattle.drill_maker.specs.Edit.{cut_of};
-ghost use Rattle.drill_printer.specs.Drill.{counts_line, drill_directory, drill_text, edited_text, edits_line, error_count, error_sum, numbers_line, spaced, text_drilled, text_edited};
+ghost use Rattle.drill_printer.specs.Drill.{counts_line, drill_text, edited_text, edits_line, error_count, error_sum, numbers_line, spaced, text_drilled, text_edited};
 ghost use Rattle.drill_maker.specs.Numbers.{IsDrill};
+ghost use Rattle.drill_maker.specs.Reduced.{drill_directory};
 
-use dir_compile::{Directory, compile};
-use drill_maker::{make_edit, make_interchange, reduced_parts};
+use dir_compile::Directory;
+use drill_maker::{make_edit, make_interchange, reduced_directory};
 use edi_engine::Engine;
 use edi_octets::put_decimal;
 use edi_tables::Chunk;
@@ -93,16 +94,6 @@ fn put_drilled(
         Blank::new(1),
         Blank::new(1),
     )
-}
-
-// The directory that a drill is checked by.
-fn reduced_directory(alloc: Global) -> Result<Directory, AllocError>
-    ensures { IfOk result (λ directory. directory ≡ drill_directory) }
-{
-    match compile(alloc, reduced_parts(alloc)?) {
-        Ok(directory) => Ok(directory),
-        Err(_) => Err(AllocError),
-    }
 }
 
 fn put_edited<L: Ledger, M: Ledger>(

@@ -1,8 +1,8 @@
 //! Edits, batches, undo and redo of an order of seven segments, which has no error: each answer as it was worked out by hand.
 ghost use Rattle.std.specs.Prelude.{◌≡◌, ◌<◌};
 
-use dir_compile::{Directory, compile};
-use drill_maker::reduced_parts;
+use dir_compile::Directory;
+use drill_maker::reduced_directory;
 use edi_history::{Back, BatchStop, History};
 use edi_tables::Chunk;
 use edit_script::EditSpec;
@@ -16,11 +16,6 @@ use step_counter::Steps;
 // It has 125 octets. A release character at 101 is before the terminator of DTM.
 const ORDER: &[u8] =
     b"UNB+UNOA:3+BUYER:14+SELLER:14+960105:0930+R1'UNH+1+TSTORD:D:96A:UN'BGM+220+PO7+9'DTM+137:19960105:102'UNS+S'UNT+5+1'UNZ+1+R1'";
-
-// A function of its own: what is known of its definitions is long, and no test needs it.
-fn example_directory(alloc: Global) -> Result<Directory, Fail> {
-    Ok(compile(alloc, reduced_parts(alloc)?)?)
-}
 
 fn done(length: u64) -> Back {
     Back::Done { length }
@@ -146,6 +141,6 @@ fn answer_all<L: Ledger, M: Ledger>(
 #[test]
 fn a_history_answers_as_worked_out_by_hand(rt: HostRuntime) -> Result<(), Fail> {
     let alloc = rt.alloc();
-    let directory = example_directory(alloc)?;
+    let directory = reduced_directory(alloc)?;
     answer_all::<Brand, Brand>(&rt, alloc, &directory, Blank::new(1), Blank::new(1))
 }

@@ -1,5 +1,6 @@
 use Rattle.std.proofs.Common.{◌≡◌, ◌*◌, ◌^◌, ◌≤◌}
-use Rattle.drill_printer.specs.Drill.{drill_directory, error_sum, text_drilled}
+use Rattle.drill_maker.specs.Reduced.{drill_directory}
+use Rattle.drill_printer.specs.Drill.{error_sum, text_drilled}
 use Rattle.drill_printer.proofs.drill.apply_edits.Given as goal
 
 abbrev pub invariant-loop-j : goal.invariant-loop-j

@@ -1,7 +1,9 @@
-//! Tests of public calls of the engine.
+//! Tests of public calls of the engine, and of those that lead a reply back to a text or narrow a directory.
 //!
 //! They stand in a crate of their own, over the proved libraries: a crate with tests in it is proved twice.
 #![tactic(auto)]
 
 #[cfg(test)]
 mod edi_engine_calls;
+#[cfg(test)]
+mod guide_overlay_calls;

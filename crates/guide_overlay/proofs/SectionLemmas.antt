@@ -129,7 +129,7 @@ topic_told OfComposite OfSegment name one other = absurd (omega (arith, named_lo
 topic_told OfCodes OfTable name one other = absurd (omega (arith, named_long OfCodes name one, named_long OfTable name other))
 topic_told OfCodes OfSegment name one other = absurd (omega (arith, named_long OfCodes name one, named_long OfSegment name other))
 
-section_by : (topic : Topic) (name : List ℕ) (s : Section) (same : Bool) → is_named topic name ≡ true → is_named s.topic s.name ≡ true → bytes_eq s.name name ≡ same → bytes_eq name s.name ≡ is_section_of topic name s
+pub section_by : (topic : Topic) (name : List ℕ) (s : Section) (same : Bool) → is_named topic name ≡ true → is_named s.topic s.name ≡ true → bytes_eq s.name name ≡ same → bytes_eq name s.name ≡ is_section_of topic name s
 section_by topic name s true named formed is =
     let here = (bytes_eq-Decides s.name name).0 is in
     let told = topic_told topic s.topic name named (subst (λ n. is_named s.topic n ≡ true) here formed) in

@@ -2,6 +2,8 @@ pub mod Rows
 pub mod Narrows
 pub mod Guide
 pub mod Kept
+pub mod Narrowing
 pub mod Stop
 pub mod Stricter
 pub mod Narrowed
+pub mod Fitting

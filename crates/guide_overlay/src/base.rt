@@ -5,12 +5,9 @@ ghost use Rattle.edi_tables.specs.Ascending.{IsAscendingBy};
 ghost use Rattle.edi_tables.specs.Rows.{when};
 ghost use Rattle.dir_compile.specs.Compile.{
   composite_name,
-  element_name,
-  list_name,
   message_name,
   named_in,
   segment_name,
-  value_name,
 };
 ghost use Rattle.dir_compile.specs.Ordered.{IsInOrder};
 ghost use Rattle.guide_overlay.specs.Guide.{base_kinds, is_item_must as is_item_must_of, is_known as is_known_of, is_no_greater as is_no_greater_of, is_no_weaker as is_no_weaker_of, member_of};
@@ -19,69 +16,8 @@ ghost use Rattle.guide_overlay.specs.declared.stop.GuideKind.TheVariants.{NotNar
 
 use crate::line::{DetailText, Topic};
 use crate::stop::GuideKind;
-use dir_compile::Parts;
-use edi_tables::{
-    Chunk, CodeList, CompositeDef, ElementDef, ItemDef, MessageDef, PartDef, SegmentDef, TableRow,
-};
-
-/// Something that is found by its name: a definition, or a value of a list, which is its own name.
-pub(crate) trait Named {
-    ghost use Rattle.std.specs.Prelude.{◌≡◌, List, ℕ};
-
-    ghost name_of: { Self → List ℕ };
-
-    /// The octets of its name.
-    fn name(&self) -> &[u8]
-        ensures { result.now ≡ name_of self.now };
-}
-
-impl Named for ElementDef {
-    ghost name_of = { element_name };
-
-    fn name(&self) -> &[u8] {
-        &self.code.octets
-    }
-}
-
-impl Named for CodeList {
-    ghost name_of = { list_name };
-
-    fn name(&self) -> &[u8] {
-        &self.element.octets
-    }
-}
-
-impl Named for CompositeDef {
-    ghost name_of = { composite_name };
-
-    fn name(&self) -> &[u8] {
-        &self.code.octets
-    }
-}
-
-impl Named for SegmentDef {
-    ghost name_of = { segment_name };
-
-    fn name(&self) -> &[u8] {
-        &self.tag.octets
-    }
-}
-
-impl Named for MessageDef {
-    ghost name_of = { message_name };
-
-    fn name(&self) -> &[u8] {
-        self.name.octets()
-    }
-}
-
-impl Named for Chunk {
-    ghost name_of = { value_name };
-
-    fn name(&self) -> &[u8] {
-        self.octets()
-    }
-}
+use dir_compile::{Named, Parts};
+use edi_tables::{ItemDef, PartDef, TableRow};
 
 /// The one of that name, if there is one. Names ascend, so it is found by halving.
 pub(crate) fn find_named<'a, T: Named>(items: &'a [T], name: &[u8]) -> Option<&'a T>

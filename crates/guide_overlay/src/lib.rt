@@ -4,7 +4,12 @@
 mod base;
 mod judge;
 mod line;
+mod lists;
+mod members;
+mod overlay;
 mod sections;
 mod stop;
+mod tables;
 
+pub use overlay::narrow;
 pub use stop::{GuideKind, GuideStop};

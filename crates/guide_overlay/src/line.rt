@@ -4,6 +4,7 @@ ghost use Rattle.std.specs.Option.{option_map};
 ghost use Rattle.edi_tables.specs.Forms.{is_code_value as is_code_value_of};
 ghost use Rattle.std.specs.List.{list_all};
 ghost use Rattle.edi_octets.specs.Lines.{cells_of};
+ghost use Rattle.guide_overlay.specs.Fitting.{node_in};
 ghost use Rattle.guide_overlay.specs.Guide.{is_named, is_same_topic, line_in, line_of_four, line_of_three, line_of_two, topic_named, topic_of};
 ghost use Rattle.guide_overlay.specs.Kept.{detail_seen, is_line_named, line_seen};
 
@@ -157,6 +158,16 @@ impl DetailText<'_> {
             Topic::OfSegment => matches!(self, DetailText::Item { .. }),
             Topic::OfComposite => matches!(self, DetailText::Part { .. }),
             Topic::OfCodes => matches!(self, DetailText::Value { .. }),
+        }
+    }
+
+    /// The node that it is of, if it is of one.
+    pub(crate) fn node(self) -> Option<u64>
+        ensures { result ≡ node_in (detail_seen self.entry) }
+    {
+        match self {
+            DetailText::Dropped { node } | DetailText::Kept { node, .. } => Some(node),
+            _ => None,
         }
     }
 }

@@ -1,8 +1,10 @@
 //! The sections of a guide, as its lines are read.
-ghost use Rattle.std.specs.Prelude.{◌≡◌, ◌++◌, ◌∷◌, [], true, not, map, IfOk, is_some, if◌then◌else◌};
+ghost use Rattle.std.specs.Prelude.{◌≡◌, ◌++◌, ◌∷◌, [], true, not, find, map, IfOk, is_some, if◌then◌else◌};
+ghost use Rattle.std.specs.Option.{option_copied, option_map};
 ghost use Rattle.std.specs.List.{list_any};
 ghost use Rattle.std.specs.Str.{bytes_eq};
-ghost use Rattle.guide_overlay.specs.Guide.{is_named, is_same_detail, is_section_of, values_in};
+ghost use Rattle.guide_overlay.specs.Guide.{details_for, is_named, is_same_detail, is_section_of, values_in};
+ghost use Rattle.guide_overlay.specs.declared.line.Topic.{Topic};
 ghost use Rattle.guide_overlay.specs.Kept.{IsReading, detail_seen, sections_seen, with_detail, words_seen};
 
 use crate::line::{DetailText, Topic};
@@ -90,6 +92,32 @@ impl<'a> Reading<'a> {
         }
         self.details.push(detail)?;
         Ok(true)
+    }
+
+    /// The details under the head of that name, if there is one. A name tells its topic by its form.
+    pub fn details_under(&self, name: &[u8]) -> Option<&[DetailText<'a>]>
+        requires { IsReading self.now }
+        ensures { (topic : Topic) → is_named topic name.now ≡ true
+            → option_map (map detail_seen) (option_copied result) ≡ option_map (λ section. section.details)
+            (find (is_section_of topic name.now) (sections_seen self.now)) }
+    {
+        let place = self.names.get_index_of(name)?;
+        match self.finished.get(place) {
+            Some(section) => Some(&section.details),
+            None => Some(&self.details),
+        }
+    }
+
+    /// The details that a guide has for what is of that name.
+    pub fn details_for(&self, name: &[u8]) -> &[DetailText<'a>]
+        requires { IsReading self.now }
+        ensures { (topic : Topic) → is_named topic name.now ≡ true
+            → map detail_seen result.now ≡ details_for (sections_seen self.now) topic name.now }
+    {
+        let Some(details) = self.details_under(name) else {
+            return &self.details[..0];
+        };
+        details
     }
 }
 

@@ -1,3 +1,4 @@
+pub mod Index
 pub mod LedBack
 pub mod Match
 pub mod Passes
@@ -6,3 +7,4 @@ pub mod Printing
 pub mod Reported
 pub mod Spots
 pub mod Telling
+pub mod Walked

@@ -13,8 +13,8 @@ use Rattle.contrl_match.specs.declared.finding.Finding.{Finding}
 abbrev pub first_spot : Spot
 first_spot = record { group = None; message = None; segment = None }
 
--- what the next segment is about, after one with this tag and these values: a UCF takes the group anew, a UCM the message,
--- a UCS the segment, each by what it is about itself
+-- what the next segment is about, after one with this tag and these values: a UCF takes the group anew, a UCM the
+-- message, a UCS the segment, each by what it is about itself
 abbrev pub spot_after : Summary → Spot → Option Tag → Values → Spot
 spot_after s spot tag values =
     if has_name (codes "UCF") tag

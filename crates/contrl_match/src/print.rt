@@ -1,5 +1,5 @@
 //! The printed form of findings.
-ghost use Rattle.std.specs.Prelude.{◌≡◌, ◌++◌, IfOk, OnOk};
+ghost use Rattle.std.specs.Prelude.{◌≡◌, ◌++◌, ◌∷◌, [], IfOk, OnOk, codes, decimal};
 ghost use Rattle.std.specs.List.{flat_map};
 ghost use Rattle.edi_octets.specs.Shown.{octet_shown};
 ghost use Rattle.contrl_match.specs.Printing.{finding_line, findings_text, level_word, tag_shown};
@@ -25,17 +25,38 @@ pub fn print_findings(alloc: Global, list: &[Finding]) -> Result<Chunk, AllocErr
 fn put_finding(text: &mut Chunk, finding: &Finding) -> Result<(), AllocError>
     ensures { OnOk result (text.new ≡ text.old ++ finding_line finding.now) }
 {
+    put_about(text, finding)?;
+    put_spaced(text, finding.element)?;
+    put_spaced(text, finding.component)?;
+    put_code(text, finding.code.octets())
+}
+
+// What a finding is about: its level, its segment and its tag.
+fn put_about(text: &mut Chunk, finding: &Finding) -> Result<(), AllocError>
+    ensures { OnOk result (text.new ≡ text.old ++ (level_word finding.now.level
+        ++ codes " " ++ decimal finding.now.segment ++ codes " " ++ tag_shown finding.now.tag)) }
+{
     text.add(word_of(finding.level))?;
+    put_spaced(text, finding.segment)?;
     text.add(b" ")?;
-    put_decimal(text, u64::from(finding.segment))?;
+    put_tag(text, finding.tag.octets())
+}
+
+// A number after a space.
+fn put_spaced(text: &mut Chunk, n: u32) -> Result<(), AllocError>
+    ensures { OnOk result (text.new ≡ text.old ++ (codes " " ++ decimal n)) }
+{
     text.add(b" ")?;
-    put_tag(text, finding.tag.octets())?;
+    put_decimal(text, u64::from(n))
+}
+
+// A code after a space, and the end of the line.
+fn put_code(text: &mut Chunk, code: &[u8]) -> Result<(), AllocError>
+    ensures { OnOk result
+        (text.new ≡ text.old ++ (codes " " ++ flat_map octet_shown code.now ++ 10 ∷ [])) }
+{
     text.add(b" ")?;
-    put_decimal(text, u64::from(finding.element))?;
-    text.add(b" ")?;
-    put_decimal(text, u64::from(finding.component))?;
-    text.add(b" ")?;
-    put_octets(text, finding.code.octets())?;
+    put_octets(text, code)?;
     text.add(b"\n")
 }
 

@@ -4,6 +4,8 @@
 #![tactic(auto)]
 
 #[cfg(test)]
+mod contrl_match_calls;
+#[cfg(test)]
 mod edi_engine_calls;
 #[cfg(test)]
 mod guide_overlay_calls;

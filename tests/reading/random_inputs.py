@@ -1,11 +1,12 @@
 """Random inputs for the program: its words, the files that it finds, and what it is given to read."""
 import random
-from typing import NamedTuple
+from typing import NamedTuple, Optional
 
-from . import random_directories, random_texts
+from . import random_directories, random_guides, random_replies, random_texts
 from .acknowledgement import acknowledgement_of
 from .directory import Directory, load
 from .interchange import Reading
+from .matching import print_due
 from .random_scripts import script, session, stamp_words
 from .store import spelling_of
 
@@ -15,9 +16,11 @@ WORDS = [b"segments", b"values", b"tables", b"check", b"edit", b"session", b"con
 
 
 class Input(NamedTuple):
+    """Words, files by their names, and octets on the input; and what must be printed, where another rule tells it too."""
     words: list
     files: dict
     given: bytes
+    due: Optional[bytes] = None
 
 
 class Hand(random.Random):
@@ -36,8 +39,8 @@ def input_of(seed, examples):
     rng = Hand(seed)
     make = rng.choices([reading_input, checking_input, script_input, table_input, broken_files_input,
                         item_lines_input, broken_parts_input, store_input, session_input, limits_input, drill_input,
-                        odd_words_input],
-                       [4, 12, 12, 6, 10, 6, 4, 10, 10, 0.3, 0.2, 0.5])[0]
+                        odd_words_input, matching_input, guided_input],
+                       [4, 12, 12, 6, 10, 6, 4, 10, 10, 0.3, 0.2, 0.5, 12, 12])[0]
     return make(rng, examples)
 
 
@@ -73,6 +76,37 @@ def checking_input(rng, examples):
     files[b"t"] = text_for(rng, directory)
     words = rng.choice([[b"check", b"m", b"t"]] + 2 * [[b"contrl", b"m", b"t"] + stamp_words(rng)])
     return Input(words, files, b"")
+
+
+def matching_input(rng, examples):
+    """A reply to a text: its own acknowledgement, changed or not, or any text."""
+    files, directory = some_directory(rng, examples)
+    files[b"t"] = text_for(rng, directory)
+    reading = Reading(directory, files[b"t"])
+    stamp, reference = stamp_words(rng)
+    files[b"r"], due = acknowledgement_of(reading, tuple(stamp.split(b":")), reference)[0], None
+    if files[b"r"] is None:
+        files[b"r"] = text_for(rng, directory)
+    elif rng.random() < 0.5:
+        due = print_due(reading)
+    else:
+        files[b"r"] = random_replies.changed(rng, files[b"r"])
+    if rng.random() < 0.03:
+        files[b"r"] = rng.choice([files[b"t"], text_for(rng, directory)])
+        due = None
+    return Input([b"match", b"m", b"t", b"r"], files, b"", due)
+
+
+def guided_input(rng, examples):
+    """A text that is checked by a guide, most of which are lawful."""
+    files, directory = some_directory(rng, examples)
+    files[b"g"] = random_guides.guide(rng, directory)
+    files[b"t"] = text_for(rng, directory)
+    for _ in range(rng.choice([1, 2]) if rng.slips(0.1) else 0):
+        files[b"g"] = rng.choice([changed_lines, changed_words, changed_octets])(rng, files[b"g"])
+    if rng.random() < 0.02:
+        del files[rng.choice([b"g", b"t", b"m"])]
+    return Input([b"guide", b"m", b"g", b"t"], files, b"")
 
 
 def limits_input(rng, examples):

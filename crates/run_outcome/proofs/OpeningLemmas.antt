@@ -7,7 +7,7 @@ use Rattle.dir_compile.specs.declared.parts.Parts.{Parts}
 use Rattle.dir_load.specs.declared.stop.Refusal.{Refusal}
 use Rattle.run_outcome.specs.Outcome.{Outcome, memory_refused}
 use Rattle.run_outcome.specs.declared.opening.OpenedText.{OpenedText}
-use Rattle.run_outcome.specs.Begun.{IsLoaded, IsText, IsUnloaded, IsUnreadText}
+use Rattle.run_outcome.specs.Begun.{IsLoaded, IsFileRead, IsUnloaded, IsFileUnread}
 use Rattle.run_outcome.specs.Opening.{IsOpening, IsUnopened, opened}
 use Rattle.run_outcome.specs.Refusal.{refusal}
 
@@ -19,22 +19,22 @@ unloaded manifest files why Failed due loads (inr refused) = inr (inr refused)
 
 -- a directory and a text were read
 pub opened_both : (manifest name : List ℕ) (files between : Option (List ShelfFile)) (directory : Parts) (text : List ℕ)
-    → IsLoaded manifest files (Ok directory) → between ≡ files → IsText name between (Ok text)
+    → IsLoaded manifest files (Ok directory) → between ≡ files → IsFileRead name between (Ok text)
     → IsOpening manifest name files (Ok (record { directory = directory; text = text }))
 opened_both manifest name None between directory text loads same read = ((Ok directory, Ok text, refl), tt)
 opened_both manifest name (Some told) between directory text loads same read =
-    let reads = subst (λ (files : Option (List ShelfFile)). IsText name files (Ok text)) same read in
+    let reads = subst (λ (files : Option (List ShelfFile)). IsFileRead name files (Ok text)) same read in
     let is_loaded = loads told refl in
     ((Ok directory, Ok text, refl), sym (ap (λ l. opened name l (octets_named 4194304 told name)) is_loaded ∙ ap (opened name (Ok directory)) reads))
 
 -- a directory was read, and no text
 pub opened_no_text : (manifest name : List ℕ) (files between : Option (List ShelfFile)) (directory : Parts) (Failed Later : Type 0) (due : Outcome)
-    → IsLoaded manifest files (Ok directory) → between ≡ files → (Later → Failed) → IsUnreadText name between Later due
+    → IsLoaded manifest files (Ok directory) → between ≡ files → (Later → Failed) → IsFileUnread name between Later due
     → IsUnopened manifest name files Failed due
 opened_no_text manifest name None between directory Failed Later due loads same later (inl why) =
     inl ((Ok directory, Err why.0, ap Err why.2), tt)
 opened_no_text manifest name (Some told) between directory Failed Later due loads same later (inl why) =
-    let reads = subst (λ (files : Option (List ShelfFile)). IsText name files (Err why.0)) same why.1 in
+    let reads = subst (λ (files : Option (List ShelfFile)). IsFileRead name files (Err why.0)) same why.1 in
     let is_loaded = loads told refl in
     inl (
       (Ok directory, Err why.0, ap Err why.2),
@@ -47,7 +47,7 @@ opened_no_text manifest name files between directory Failed Later due loads same
 pub opening_met : (manifest name : List ℕ) (files between : Option (List ShelfFile)) (directory : Parts) (Failed Later : Type 0) (result : Result OpenedText Outcome)
     → IsLoaded manifest files (Ok directory) → between ≡ files → (Later → Failed)
     → IfOk result (λ opening. opening.directory ≡ directory)
-    → MatchResult result (λ opening. IsText name between (Ok opening.text.items)) (λ due. IsUnreadText name between Later due)
+    → MatchResult result (λ opening. IsFileRead name between (Ok opening.text.items)) (λ due. IsFileUnread name between Later due)
     → MatchResult result (λ opening. IsOpening manifest name files (Ok (record { directory = opening.directory; text = opening.text.items })))
     (λ due. IsUnopened manifest name files Failed due)
 opening_met manifest name files between directory Failed Later (Ok opening) loads same later is read =

@@ -21,12 +21,12 @@ IsUnloaded manifest files Failed due =
     ((why : Refusal) × IsLoaded manifest files (Err why) × (due ≡ refusal why))
     ⊎ ((due ≡ read_failed) × Failed) ⊎ (due ≡ memory_refused)
 
--- what is read under the name of a text, where the files are told
-abbrev pub IsText : Octets → Option (List ShelfFile) → Result Octets Unread → Type 0
-IsText name files read = IfSome files (λ told. octets_named LONGEST_TEXT told name ≡ read)
+-- what is read under a name, where the files are told
+abbrev pub IsFileRead : Octets → Option (List ShelfFile) → Result Octets Unread → Type 0
+IsFileRead name files read = IfSome files (λ told. octets_named LONGEST_TEXT told name ≡ read)
 
--- what comes in place of a text: why there is none; or a read fault, where the shelf failed; or want of memory
-abbrev pub IsUnreadText : Octets → Option (List ShelfFile) → Type 0 → Outcome → Type 0
-IsUnreadText name files Failed due =
-    ((why : Unread) × IsText name files (Err why) × (due ≡ unread name why))
+-- what comes in place of a file: why there is none; or a read fault, where the shelf failed; or want of memory
+abbrev pub IsFileUnread : Octets → Option (List ShelfFile) → Type 0 → Outcome → Type 0
+IsFileUnread name files Failed due =
+    ((why : Unread) × IsFileRead name files (Err why) × (due ≡ unread name why))
     ⊎ ((due ≡ read_failed) × Failed) ⊎ (due ≡ memory_refused)

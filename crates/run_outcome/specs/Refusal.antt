@@ -19,11 +19,14 @@ abbrev pub unread : Octets → Unread → Outcome
 unread name Absent = refused status.Absent (codes "fault absent " ++ name)
 unread name TooLarge = too_large name
 
--- the named file breaks a rule of its grammar at a line
+-- the named file breaks a rule at a line: after these words its name, the line and the rule's word
+abbrev pub rule_broken : Octets → Octets → ℕ → Octets → Outcome
+rule_broken words name line rule =
+    refused status.BadDirectory (words ++ name ++ codes " " ++ decimal line ++ codes " " ++ rule)
+
+-- the named file of a directory breaks a rule of its grammar at a line
 abbrev pub broken : Octets → DirFault → Outcome
-broken name found =
-    refused status.BadDirectory
-    (codes "fault directory " ++ name ++ codes " " ++ decimal found.line ++ codes " " ++ file.word_of found.kind)
+broken name found = rule_broken (codes "fault directory ") name found.line (file.word_of found.kind)
 
 -- the named file gives no definitions
 abbrev pub file_refused : Octets → FileFault → Outcome

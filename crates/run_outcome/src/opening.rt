@@ -1,16 +1,16 @@
 //! What a run on a named text begins with.
 ghost use Rattle.std.specs.Prelude.{◌≡◌, ◌≤◌, Ok, length, IfOk, IsErrAnd, MatchResult};
 ghost use Rattle.edi_ports.specs.Faults.{HasRisen, IsFair};
-ghost use Rattle.run_outcome.specs.Begun.{IsText, IsUnreadText};
+ghost use Rattle.edi_octets.specs.declared.octets.TheConstants.{LONGEST_TEXT};
+ghost use Rattle.run_outcome.specs.Begun.{IsFileRead, IsFileUnread};
 ghost use Rattle.run_outcome.specs.Opening.{IsOpening, IsUnopened};
 
 use crate::directory::load_directory;
+use crate::file::load_file;
 use crate::outcome::Made;
-use crate::refusal::refuse_unread;
 use crate::status::Status;
 use dir_compile::Directory;
-use edi_octets::LONGEST_TEXT;
-use edi_ports::{NamedStop, Shelf, read_named};
+use edi_ports::Shelf;
 use std::alloc::Global;
 
 /// A directory, and the octets of a text.
@@ -52,35 +52,16 @@ fn open_text<S: Shelf>(
 ) -> Result<OpenedText, Made>
     ensures directory { IfOk result (λ opening. opening.directory ≡ directory) }
     ensures text { MatchResult result
-        (λ opening. IsText text.now (S.files shelf.old) (Ok opening.text.items))
-        (λ due. IsUnreadText text.now (S.files shelf.old)
+        (λ opening. IsFileRead text.now (S.files shelf.old) (Ok opening.text.items))
+        (λ due. IsFileUnread text.now (S.files shelf.old)
         (HasRisen (S.faults shelf.old) (S.faults shelf.new)) due) }
     ensures short { IfOk result (λ opening. length opening.text.items ≤ LONGEST_TEXT) }
     ensures files { S.files shelf.new ≡ S.files shelf.old }
     ensures fair { IsFair S.faults S.is_steady shelf.old shelf.new
         (IsErrAnd result (λ due. due.status ≡ Status.ReadFault)) }
 {
-    match read_text(alloc, text, shelf) {
+    match load_file(alloc, text, shelf) {
         Ok(text) => Ok(OpenedText { directory, text }),
         Err(made) => Err(made),
-    }
-}
-
-// The text of that name; or what a run comes to without it.
-fn read_text<S: Shelf>(alloc: Global, text: &[u8], shelf: &mut S) -> Result<Vec<u8>, Made>
-    ensures text { MatchResult result
-        (λ octets. IsText text.now (S.files shelf.old) (Ok octets.items))
-        (λ due. IsUnreadText text.now (S.files shelf.old)
-        (HasRisen (S.faults shelf.old) (S.faults shelf.new)) due) }
-    ensures short { IfOk result (λ octets. length octets.items ≤ LONGEST_TEXT) }
-    ensures files { S.files shelf.new ≡ S.files shelf.old }
-    ensures fair { IsFair S.faults S.is_steady shelf.old shelf.new
-        (IsErrAnd result (λ due. due.status ≡ Status.ReadFault)) }
-{
-    match read_named(alloc, shelf, text, LONGEST_TEXT) {
-        Ok(octets) => Ok(octets),
-        Err(NamedStop::Unread(why)) => Err(refuse_unread(alloc, text, why)),
-        Err(NamedStop::Fault) => Err(Made::read_failed()),
-        Err(NamedStop::Memory) => Err(Made::memory_refused()),
     }
 }

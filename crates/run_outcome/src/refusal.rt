@@ -1,15 +1,14 @@
 //! Files that give no directory, as outcomes.
 ghost use Rattle.std.specs.Prelude.{◌≡◌, ◌⊎◌, ◌++◌, [], ◌∷◌, IfOk, codes, decimal};
-ghost use Rattle.edi_octets.specs.DirKind.{word_of as rule_word};
 ghost use Rattle.dir_compile.specs.CompileKind.{word_of as parts_word};
 ghost use Rattle.run_outcome.specs.Outcome.{memory_refused};
-ghost use Rattle.run_outcome.specs.Refusal.{file_refused, refusal, unread};
+ghost use Rattle.run_outcome.specs.Refusal.{file_refused, refusal, rule_broken, unread};
 
 use crate::outcome::Made;
 use crate::status::Status;
 use dir_compile::CompileKind;
 use dir_load::{FileFault, Refusal};
-use edi_octets::{DirFault, put_decimal};
+use edi_octets::put_decimal;
 use edi_ports::Unread;
 use edi_tables::Chunk;
 use std::alloc::{AllocError, Global};
@@ -45,6 +44,16 @@ pub fn refuse_unread(alloc: Global, name: &[u8], why: Unread) -> Made
     }
 }
 
+/// That the named file breaks a rule at a line, told after these words, unless memory was refused for the line that tells it.
+pub fn refuse_rule(alloc: Global, words: &[u8], name: &[u8], line: u32, rule: &[u8]) -> Made
+    ensures { (result ≡ rule_broken words.now name.now line rule.now) ⊎ (result ≡ memory_refused) }
+{
+    Made::lines(
+        Status::BadDirectory,
+        print_broken(alloc, words, name, line, rule),
+    )
+}
+
 // The named file gives no definitions.
 fn refuse_file(alloc: Global, name: &[u8], fault: FileFault) -> Made
     ensures { (result ≡ file_refused name.now fault) ⊎ (result ≡ memory_refused) }
@@ -52,7 +61,13 @@ fn refuse_file(alloc: Global, name: &[u8], fault: FileFault) -> Made
     match fault {
         FileFault::Unread(why) => refuse_unread(alloc, name, why),
         FileFault::Grammar(fault) => {
-            Made::lines(Status::BadDirectory, print_broken(alloc, name, fault))
+            refuse_rule(
+                alloc,
+                b"fault directory ",
+                name,
+                fault.line,
+                fault.kind.word(),
+            )
         }
     }
 }
@@ -93,18 +108,23 @@ fn print_misspelled(alloc: Global, name: &[u8], at: usize) -> Result<Chunk, Allo
     Ok(line)
 }
 
-// The line of a named file that breaks a rule of its grammar.
-fn print_broken(alloc: Global, name: &[u8], fault: DirFault) -> Result<Chunk, AllocError>
-    ensures { IfOk result (λ line. line
-        ≡ codes "fault directory " ++ name.now ++ codes " " ++ decimal fault.line ++ codes " "
-        ++ rule_word fault.kind ++ 10 ∷ []) }
+// The line of a named file that breaks a rule.
+fn print_broken(
+    alloc: Global,
+    words: &[u8],
+    name: &[u8],
+    line: u32,
+    rule: &[u8],
+) -> Result<Chunk, AllocError>
+    ensures { IfOk result (λ text. text
+        ≡ words.now ++ name.now ++ codes " " ++ decimal line ++ codes " " ++ rule.now ++ 10 ∷ []) }
 {
-    let mut line = Chunk::of(alloc, b"fault directory ")?;
-    line.add(name)?;
-    line.add(b" ")?;
-    put_decimal(&mut line, u64::from(fault.line))?;
-    line.add(b" ")?;
-    line.add(fault.kind.word())?;
-    line.add(b"\n")?;
-    Ok(line)
+    let mut text = Chunk::of(alloc, words)?;
+    text.add(name)?;
+    text.add(b" ")?;
+    put_decimal(&mut text, u64::from(line))?;
+    text.add(b" ")?;
+    text.add(rule)?;
+    text.add(b"\n")?;
+    Ok(text)
 }

@@ -1,6 +1,7 @@
 pub mod Rows
 pub mod Narrows
 pub mod Guide
+pub mod GuideKind
 pub mod Kept
 pub mod Narrowing
 pub mod Stop

@@ -1,4 +1,7 @@
 //! What can be wrong in a guide.
+ghost use Rattle.std.specs.Prelude.{◌≡◌};
+ghost use Rattle.guide_overlay.specs.GuideKind.{word_of};
+
 use std::alloc::{AllocError, AllocFailed};
 use thiserror::Error;
 
@@ -10,6 +13,21 @@ pub enum GuideKind {
     Twice,
     BadIndex,
     NotNarrower,
+}
+
+impl GuideKind {
+    /// The word that is printed for it, as `bad-line`.
+    pub fn word(self) -> &'static [u8]
+        ensures { result.now ≡ word_of self }
+    {
+        match self {
+            GuideKind::BadLine => b"bad-line",
+            GuideKind::UnknownName => b"unknown-name",
+            GuideKind::Twice => b"twice",
+            GuideKind::BadIndex => b"bad-index",
+            GuideKind::NotNarrower => b"not-narrower",
+        }
+    }
 }
 
 /// Why a guide narrows no directory.

@@ -18,7 +18,6 @@ ghost use Rattle.edi_octets.specs.declared.octets.TheConstants.{LONGEST_TEXT};
 use crate::words::ScriptKind;
 use dir_compile::Directory;
 use edi_engine::Engine;
-use edi_history::History;
 use edi_ports::{Shelf, Sink, Source};
 use run_outcome::{Made, Status, finish, open_both};
 use script_answers::{Editor, Session, answer_script};
@@ -204,13 +203,12 @@ fn session_counted<L: Ledger, M: Ledger, I: Source, O: Sink>(
         → IsAnsweredInRoom Sessions directory.now octets.now
         (I.rest input.old) (O.has_room out.old) result }
 {
-    let mut lexed = Steps::<L>::start(lexing);
-    let mut placed = Steps::<M>::start(placing);
-    match History::open(alloc, directory, octets, &mut lexed, &mut placed) {
-        Ok(history) => {
+    let lexed = Steps::<L>::start(lexing);
+    let placed = Steps::<M>::start(placing);
+    match Session::open(alloc, directory, octets, lexed, placed) {
+        Ok(mut session) => {
             // Its directory places the segments of messages in the trees of every text.
-            let _directory = history.engine().directory();
-            let mut session = Session::new(history, lexed, placed);
+            let _directory = session.directory();
             answer_script(alloc, &mut session, input, out)
         }
         Err(_) => finish(out, &Made::memory_refused()),

@@ -1,20 +1,24 @@
 //! The answers to the commands of a session.
-ghost use Rattle.std.specs.Prelude.{◌≡◌, ◌≤◌, length};
+ghost use Rattle.std.specs.Prelude.{◌≡◌, ◌≤◌, ℕ, List, length, IfOk};
+ghost use Rattle.edi_history.specs.Past.{begun};
 ghost use Rattle.edit_script.specs.Command.{IsCommand};
 ghost use Rattle.edit_script.specs.declared.command.Command.TheVariants as command;
 ghost use Rattle.edit_script.specs.declared.grammar.Grammar.TheVariants as grammar;
 ghost use Rattle.script_answers.specs.Replied.{octets_of};
 ghost use Rattle.script_answers.specs.SessionReply.{IsSessionStep};
+ghost use Rattle.text_reading.specs.Placed.{AreMessagesPlaced};
 
 use crate::Answering;
 use crate::reply::{
     Reply, acknowledge, copy_text, list_errors, list_tree, or_no_memory, put_reply,
 };
+use dir_compile::Directory;
 use edi_engine::EditStop;
 use edi_history::{Back, BatchStop, History};
+use edi_octets::LONGEST_TEXT;
 use edi_ports::Sink;
 use edit_script::{Command, EditSpec, Grammar};
-use std::alloc::Global;
+use std::alloc::{AllocError, Global};
 use std::marker::Model;
 use std::sync::ledger::Ledger;
 use step_counter::Steps;
@@ -37,15 +41,33 @@ impl<'d, L: Ledger, M: Ledger> Model for Session<'d, L, M> {
 }
 
 impl<'d, L: Ledger, M: Ledger> Session<'d, L, M> {
-    /// A session on this history.
-    pub fn new(history: History<'d>, lexed: Steps<L>, placed: Steps<M>) -> Session<'d, L, M>
-        ensures { result ≡ history.entry }
+    /// A session on a text, which has no other text before it. Only want of memory is an error.
+    pub fn open(
+        alloc: Global,
+        directory: &'d Directory,
+        octets: &[u8],
+        mut lexed: Steps<L>,
+        mut placed: Steps<M>,
+    ) -> Result<Session<'d, L, M>, AllocError>
+        requires { length octets.now ≤ LONGEST_TEXT }
+        ensures { IfOk result
+            (λ s. s ≡ record { directory = directory.now; past = begun octets.now }) }
     {
-        Session {
+        let history = History::open(alloc, directory, octets, &mut lexed, &mut placed)?;
+        Ok(Session {
             history,
             lexed,
             placed,
-        }
+        })
+    }
+
+    /// The directory that its texts are checked by.
+    pub fn directory(&self) -> &'d Directory
+        ensures directory { result.now ≡ self.now.directory }
+        // The tree of any text by it places the segments of each message as the reading of the message does.
+        ensures lawful_trees { (text : List ℕ) → AreMessagesPlaced self.now.directory text }
+    {
+        self.history.engine().directory()
     }
 
     // The reply to a command, which is made.

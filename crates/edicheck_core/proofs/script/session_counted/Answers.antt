@@ -1,9 +1,6 @@
-use Rattle.std.proofs.Common.{ap, ◌∙◌}
 use Rattle.run_outcome.specs.Held.{held_of}
 use Rattle.script_answers.specs.Ran.{Ran, left_of}
-use Rattle.script_answers.proofs.SessionLemmas.{session_answered, session_in_room}
-use Rattle.kept_text.specs.Reading.{Reading}
-use Rattle.edi_history.specs.Reading.{PastReading}
+use Rattle.script_answers.proofs.SessionLemmas.{session_answered, session_directory, session_in_room}
 use Rattle.edicheck_core.specs.declared.words.ScriptKind.TheVariants.{Sessions}
 use Rattle.edicheck_core.proofs.AnsweredLemmas.{refused_in_room}
 use Rattle.edicheck_core.proofs.ScriptLemmas.{script_begun}
@@ -18,13 +15,13 @@ returns-in-Ok-clause-run g c =
       sink_after = held_of g.O.Sink c.answer_script.new.out;
       status = c.answer_script.result;
     } in
-    script_begun Sessions c.engine.result.now.directory c.args.directory.now c.args.octets.now ran (ap (λ (r : Reading). r.directory) c.engine.ensures ∙ ap (λ (r : PastReading). r.directory) c.in-Ok.ensures.opened) c.directory-directory.ensures.lawful_trees
-    (session_answered c.in-Ok.history c.new-session.result c.args.directory.now c.args.octets.now ran c.in-Ok.ensures.opened c.new-session.ensures c.answer_script.ensures.run)
+    script_begun Sessions c.in-Ok.session.directory c.args.directory.now c.args.octets.now ran (session_directory c.in-Ok.session c.args.directory.now c.args.octets.now c.in-Ok.ensures) c.directory-directory.ensures.lawful_trees
+    (session_answered c.in-Ok.session c.args.directory.now c.args.octets.now ran c.in-Ok.ensures c.answer_script.ensures.run)
 
 pub returns-in-Ok-clause-room : goal.returns-in-Ok-clause-room
 returns-in-Ok-clause-room g c = λ sound.
-    session_in_room c.in-Ok.history c.new-session.result c.args.directory.now c.args.octets.now (g.I.Source.rest c.args.input.now) (g.O.Sink.has_room c.args.out.now) c.answer_script.result
-    c.in-Ok.ensures.opened c.new-session.ensures (c.answer_script.ensures.room sound)
+    session_in_room c.in-Ok.session c.args.directory.now c.args.octets.now (g.I.Source.rest c.args.input.now) (g.O.Sink.has_room c.args.out.now) c.answer_script.result
+    c.in-Ok.ensures (c.answer_script.ensures.room sound)
 
 pub returns-in-Err-clause-room : goal.returns-in-Err-clause-room
 returns-in-Err-clause-room g c = λ sound.

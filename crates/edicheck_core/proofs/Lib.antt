@@ -1,5 +1,8 @@
 mod AnswerLemmas
 mod AnsweredLemmas
+mod GuideLemmas
+mod MatchLemmas
 mod OpeningLemmas
 mod ScriptLemmas
+mod StepLemmas
 pub mod SteadyLemmas

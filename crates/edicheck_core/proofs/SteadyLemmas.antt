@@ -17,7 +17,7 @@ done_fails is = cc
 pub memory_fails : Memory ≡ ReadFault → ⊥
 memory_fails is = cc
 
-found_fails : Found ≡ ReadFault → ⊥
+pub found_fails : Found ≡ ReadFault → ⊥
 found_fails is = cc
 
 found_if-steady : (errors : List ErrorLine) (output : List ℕ) → (found_if errors output).status ≡ ReadFault → ⊥

@@ -22,8 +22,8 @@ pub data Question : Type 0 where
   Answer : (stamp : Stamp) → (reference : Octets) → Question
 
 -- what words ask for: help, the version, a text in some detail, the tables of the directory of a manifest, its store,
--- something of a text by that directory, the answers to a script on one, or a drill of so many messages and edits for a
--- number
+-- something of a text by that directory, the findings of a reply to a text, the errors of a text by the directory that
+-- a guide narrows, the answers to a script on a text, or a drill of so many messages and edits for a number
 pub data Asked : Type 0 where
   Help : Asked
   Version : Asked
@@ -31,6 +31,8 @@ pub data Asked : Type 0 where
   Tables : (manifest : Octets) → Asked
   Compile : (manifest : Octets) → Asked
   About : (question : Question) → (manifest : Octets) → (text : Octets) → Asked
+  Match : (manifest : Octets) → (text : Octets) → (reply : Octets) → Asked
+  Guide : (manifest : Octets) → (guide : Octets) → (text : Octets) → Asked
   Script : (kind : ScriptKind) → (manifest : Octets) → (text : Octets) → Asked
   Drill : (messages : ℕ) → (edits : ℕ) → (number : ℕ) → Asked
 
@@ -53,6 +55,8 @@ form_shown (form.Text detail) = Text detail
 form_shown (form.Tables manifest) = Tables manifest.now
 form_shown (form.Compile manifest) = Compile manifest.now
 form_shown (form.About question manifest text) = About (question_shown question) manifest.now text.now
+form_shown (form.Match manifest text reply) = Match manifest.now text.now reply.now
+form_shown (form.Guide manifest guide text) = Guide manifest.now guide.now text.now
 form_shown (form.Script kind manifest text) = Script kind manifest.now text.now
 form_shown (form.Drill messages edits number) = Drill messages edits number
 
@@ -89,13 +93,25 @@ abbrev pub number_in : ℕ → ℕ → Octets → Option ℕ
 number_in least most word =
     option_and_then (λ n. if nat_le least n && nat_le n most then Some n else None) (decimal_in word)
 
--- `drill`, how many messages and how many edits, and the number that these are made from
-abbrev pub with_numbers : Octets → Octets → Octets → Octets → Option Asked
-with_numbers word messages edits number =
-    if bytes_eq word (codes "drill")
-    then option_and_then (λ n. option_and_then (λ k. option_map (Drill n k)
+-- how many messages and how many edits a drill has, and the number that these are made from
+abbrev pub with_numbers : Octets → Octets → Octets → Option Asked
+with_numbers messages edits number =
+    option_and_then (λ n. option_and_then (λ k. option_map (Drill n k)
     (number_in 0 999999999 number)) (number_in 0 1000 edits)) (number_in 1 1000 messages)
+
+-- `match`, and the names of a manifest, a text and a reply; or `guide`, and those of a manifest, a guide and a text
+abbrev pub with_two_files : Octets → Octets → Octets → Octets → Option Asked
+with_two_files word manifest first second =
+    if is_name_of manifest && is_name_of first && is_name_of second
+    then (if bytes_eq word (codes "match") then Some (Match manifest first second)
+    else (if bytes_eq word (codes "guide") then Some (Guide manifest first second) else None))
     else None
+
+-- `drill` and its numbers, or a word that asks for something of two files
+abbrev pub with_three_words : Octets → Octets → Octets → Octets → Option Asked
+with_three_words word first second third =
+    if bytes_eq word (codes "drill") then with_numbers first second third
+    else with_two_files word first second third
 
 -- `contrl`, the names of a manifest and of a text, a stamp and a reference
 abbrev pub with_stamp : Octets → Octets → Octets → Octets → Octets → Option Asked
@@ -109,7 +125,7 @@ abbrev pub form_of : List Octets → Option Asked
 form_of (word ∷ []) = lone_word word
 form_of (word ∷ manifest ∷ []) = with_manifest word manifest
 form_of (word ∷ manifest ∷ text ∷ []) = with_text word manifest text
-form_of (word ∷ messages ∷ edits ∷ number ∷ []) = with_numbers word messages edits number
+form_of (word ∷ first ∷ second ∷ third ∷ []) = with_three_words word first second third
 form_of (word ∷ manifest ∷ text ∷ stamp ∷ reference ∷ []) = with_stamp word manifest text stamp reference
 form_of words = None
 
@@ -127,5 +143,7 @@ needs_of (Some (Text detail)) = record { input = true; shelf = false; memory = t
 needs_of (Some (Tables manifest)) = record { input = false; shelf = true; memory = true }
 needs_of (Some (Compile manifest)) = record { input = false; shelf = true; memory = true }
 needs_of (Some (About question manifest text)) = record { input = false; shelf = true; memory = true }
+needs_of (Some (Match manifest text reply)) = record { input = false; shelf = true; memory = true }
+needs_of (Some (Guide manifest guide text)) = record { input = false; shelf = true; memory = true }
 needs_of (Some (Script kind manifest text)) = record { input = true; shelf = true; memory = true }
 needs_of (Some (Drill messages edits number)) = record { input = false; shelf = false; memory = true }

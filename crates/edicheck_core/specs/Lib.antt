@@ -3,9 +3,11 @@ pub mod Answer
 pub mod Begun
 pub mod Due
 pub mod Form
+pub mod Guided
 pub mod Inputs
 pub mod Lawful
 pub mod Made
+pub mod Matched
 pub mod OneOf
 pub mod Plain
 pub mod ProgramRun

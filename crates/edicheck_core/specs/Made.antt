@@ -14,8 +14,10 @@ use Rattle.edi_ports.specs.declared.named.Unread.{Unread}
 use Rattle.edi_ports.specs.Named.{octets_named}
 use Rattle.run_outcome.specs.Outcome.{Outcome, done, no_form, too_large}
 use Rattle.run_outcome.specs.Opening.{Opened, opened, opened_by}
-use Rattle.edicheck_core.specs.Form.{Asked, Help, Version, Text, Tables, Compile, About, Script, Drill}
+use Rattle.edicheck_core.specs.Form.{Asked, Help, Version, Text, Tables, Compile, About, Match, Guide, Script, Drill}
 use Rattle.edicheck_core.specs.About.{after_loading, asked_about}
+use Rattle.edicheck_core.specs.Guided.{guided}
+use Rattle.edicheck_core.specs.Matched.{matched}
 use Rattle.edicheck_core.specs.declared.help.TheConstants.{HELP, VERSION}
 use Rattle.edicheck_core.specs.Inputs.{Inputs}
 use Rattle.edi_octets.specs.declared.octets.TheConstants.{LONGEST_TEXT}
@@ -49,6 +51,12 @@ made_by (Some (Compile name)) before = option_map (λ files. compiled (load_of f
 made_by (Some (About question name text)) before =
     option_map (λ files. asked_about question text (load_of files name) (octets_named LONGEST_TEXT files text))
     before.files
+made_by (Some (Match name text reply)) before =
+    option_map (λ files. matched text reply (load_of files name)
+    (octets_named LONGEST_TEXT files text) (octets_named LONGEST_TEXT files reply)) before.files
+made_by (Some (Guide name guide text)) before =
+    option_map (λ files. guided guide text (load_of files name)
+    (octets_named LONGEST_TEXT files guide) (octets_named LONGEST_TEXT files text)) before.files
 made_by (Some (Script kind name text)) before =
     option_and_then (λ files. refused_opening (opened_by name text files)) before.files
 made_by (Some (Drill messages edits number)) before = Some (done (drill_text messages edits number))
@@ -63,6 +71,12 @@ IsPossible (Some (Tables name)) due = (loaded : Result Directory Refusal) × (du
 IsPossible (Some (Compile name)) due = (loaded : Result Directory Refusal) × (due ≡ compiled loaded)
 IsPossible (Some (About question name text)) due =
     (loaded : Result Directory Refusal) × (read : Result Octets Unread) × (due ≡ asked_about question text loaded read)
+IsPossible (Some (Match name text reply)) due =
+    (loaded : Result Directory Refusal) × (read : Result Octets Unread) × (answer : Result Octets Unread)
+    × (due ≡ matched text reply loaded read answer)
+IsPossible (Some (Guide name guide text)) due =
+    (loaded : Result Directory Refusal) × (lines : Result Octets Unread) × (read : Result Octets Unread)
+    × (due ≡ guided guide text loaded lines read)
 IsPossible (Some (Script kind name text)) due =
     (loaded : Result Directory Refusal) × (read : Result Octets Unread) × (opened text loaded read ≡ Err due)
 IsPossible (Some (Drill messages edits number)) due = due ≡ done (drill_text messages edits number)

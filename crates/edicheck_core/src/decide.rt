@@ -9,8 +9,10 @@ ghost use Rattle.edicheck_core.specs.Plain.{IsPlain};
 
 use crate::about::tell_about;
 use crate::drill::tell_drill;
+use crate::guided::tell_guided;
 use crate::help::{HELP, VERSION};
 use crate::listing::list_text;
+use crate::matched::tell_match;
 use crate::tables::{tell_store, tell_tables};
 use crate::words::Form;
 use edi_ports::{Shelf, Source};
@@ -55,6 +57,20 @@ pub(crate) fn decide<S: Shelf, I: Source>(
                 text,
             },
         ) => tell_about(alloc, question, manifest, text, shelf),
+        Some(
+            Form::Match {
+                manifest,
+                text,
+                reply,
+            },
+        ) => tell_match(alloc, manifest, text, reply, shelf),
+        Some(
+            Form::Guide {
+                manifest,
+                guide,
+                text,
+            },
+        ) => tell_guided(alloc, manifest, guide, text, shelf),
         Some(
             Form::Drill {
                 messages,

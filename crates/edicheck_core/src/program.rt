@@ -30,7 +30,9 @@ use std::alloc::Global;
 /// `segments` and `values` read the text on the input and print its segments, or these with their values.
 /// `tables MANIFEST` loads the directory of that manifest from the shelf and prints its segment tables with their
 /// collisions, `compile MANIFEST` its store. `check MANIFEST TEXT` loads that directory, reads the file TEXT, and
-/// prints its errors and its tree; `contrl MANIFEST TEXT STAMP REF` prints its acknowledgement in their place.
+/// prints its errors and its tree; `contrl MANIFEST TEXT STAMP REF` prints its acknowledgement in their place, and
+/// `match MANIFEST TEXT REPLY` what the file REPLY, an acknowledgement of it, finds in it. `guide MANIFEST GUIDE TEXT`
+/// prints what `check` prints by the directory that the file GUIDE makes of the manifest's.
 /// `edit MANIFEST TEXT` answers the script on the input, command by command, on that text; `session MANIFEST TEXT` does
 /// too, by a grammar with `undo`, `redo` and `batch`. `drill N K X` prints what becomes of an interchange that is made from
 /// numbers when it is edited. `--help` and `--version` print a text for people.
@@ -38,7 +40,8 @@ use std::alloc::Global;
 /// Except for the replies to a script, each of which is made before its first octet is put, so is the whole output, or the
 /// line of a refusal. Of several refusals the first comes: words of no form; then for a text on the input a fault of
 /// that or over 4,194,304 octets, for a directory the manifest, each of its files in order, and their parts, then the
-/// file TEXT, and then the script; then a fault of the sink. Memory may be refused at any step of a form that needs it.
+/// files GUIDE, TEXT and REPLY, and then the script; then a fault of the sink. Memory may be refused at any step of a form
+/// that needs it.
 pub fn run<S: Shelf, I: Source, O: Sink>(
     alloc: Global,
     words: &[Chunk],

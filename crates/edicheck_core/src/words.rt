@@ -1,7 +1,7 @@
 //! The forms of words.
 ghost use Rattle.std.specs.Prelude.{◌≡◌, ◌≤◌, IfSome};
 ghost use Rattle.std.specs.Option.{option_map};
-ghost use Rattle.edicheck_core.specs.Form.{form_of, form_shown, lone_word, number_in, script_kind_of, with_manifest, with_numbers, with_stamp, with_text};
+ghost use Rattle.edicheck_core.specs.Form.{form_of, form_shown, lone_word, number_in, script_kind_of, with_manifest, with_numbers, with_stamp, with_text, with_three_words, with_two_files};
 ghost use Rattle.edicheck_core.specs.Lawful.{IsLawful};
 
 use contrl_segments::{Stamp, is_reference, read_stamp};
@@ -52,6 +52,18 @@ pub(crate) enum Form<'a> {
         manifest: &'a [u8],
         text: &'a [u8],
     },
+    /// The findings of a reply to a text, by that directory.
+    Match {
+        manifest: &'a [u8],
+        text: &'a [u8],
+        reply: &'a [u8],
+    },
+    /// The errors of a text and its tree, by the directory that a guide makes of that directory.
+    Guide {
+        manifest: &'a [u8],
+        guide: &'a [u8],
+        text: &'a [u8],
+    },
     /// The answers to a script on the input, on the text of this name, by the directory of the manifest of this name.
     Script {
         kind: ScriptKind,
@@ -75,11 +87,11 @@ pub(crate) fn read_form(words: &[Chunk]) -> Option<Form<'_>>
         [word] => read_lone_word(word.octets()),
         [word, manifest] => read_with_manifest(word.octets(), manifest.octets()),
         [word, manifest, text] => read_with_text(word.octets(), manifest.octets(), text.octets()),
-        [word, messages, edits, number] => read_with_numbers(
+        [word, first, second, third] => read_with_three_words(
             word.octets(),
-            messages.octets(),
-            edits.octets(),
-            number.octets(),
+            first.octets(),
+            second.octets(),
+            third.octets(),
         ),
         [word, manifest, text, stamp, reference] => read_with_stamp(
             word.octets(),
@@ -183,19 +195,57 @@ fn read_with_stamp<'a>(
     })
 }
 
-fn read_with_numbers(
+fn read_with_three_words<'a>(
     word: &[u8],
-    messages: &[u8],
-    edits: &[u8],
-    number: &[u8],
-) -> Option<Form<'static>>
+    first: &'a [u8],
+    second: &'a [u8],
+    third: &'a [u8],
+) -> Option<Form<'a>>
     ensures form { option_map form_shown result
-        ≡ with_numbers word.now messages.now edits.now number.now }
+        ≡ with_three_words word.now first.now second.now third.now }
     ensures lawful { IfSome result (λ form. IsLawful (form_shown form)) }
 {
-    if word != b"drill".as_slice() {
-        return None;
+    if word == b"drill".as_slice() {
+        read_with_numbers(first, second, third)
+    } else {
+        read_with_two_files(word, first, second, third)
     }
+}
+
+fn read_with_two_files<'a>(
+    word: &[u8],
+    manifest: &'a [u8],
+    first: &'a [u8],
+    second: &'a [u8],
+) -> Option<Form<'a>>
+    ensures form { option_map form_shown result
+        ≡ with_two_files word.now manifest.now first.now second.now }
+    ensures lawful { IfSome result (λ form. IsLawful (form_shown form)) }
+{
+    if !is_name(manifest) || !is_name(first) || !is_name(second) {
+        None
+    } else if word == b"match".as_slice() {
+        Some(Form::Match {
+            manifest,
+            text: first,
+            reply: second,
+        })
+    } else if word == b"guide".as_slice() {
+        Some(Form::Guide {
+            manifest,
+            guide: first,
+            text: second,
+        })
+    } else {
+        None
+    }
+}
+
+fn read_with_numbers(messages: &[u8], edits: &[u8], number: &[u8]) -> Option<Form<'static>>
+    ensures form { option_map form_shown result
+        ≡ with_numbers messages.now edits.now number.now }
+    ensures lawful { IfSome result (λ form. IsLawful (form_shown form)) }
+{
     let messages = read_number(messages, 1, MOST_MESSAGES)?;
     let edits = read_number(edits, 0, MOST_EDITS)?;
     let number = read_number(number, 0, MOST_NUMBER)?;

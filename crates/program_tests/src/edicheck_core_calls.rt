@@ -41,3 +41,21 @@ fn a_directory_is_read_up_to_a_fault(rt: HostRuntime) -> Result<(), Fail> {
     assert!(rt; held.as_slice() == b"fault read\n".as_slice());
     Ok(())
 }
+
+#[test]
+fn a_guide_is_read_up_to_a_fault(rt: HostRuntime) -> Result<(), Fail> {
+    let outside = outside(b"", [NEVER, 5, NEVER]);
+    let (status, held) = run_by_octets(rt.alloc(), &[b"guide", b"m", b"t", b"t"], &outside)?;
+    assert_eq!(rt; status, Status::ReadFault);
+    assert!(rt; held.as_slice() == b"fault read\n".as_slice());
+    Ok(())
+}
+
+#[test]
+fn a_reply_is_read_up_to_a_fault(rt: HostRuntime) -> Result<(), Fail> {
+    let outside = outside(b"", [NEVER, 8, NEVER]);
+    let (status, held) = run_by_octets(rt.alloc(), &[b"match", b"m", b"t", b"t"], &outside)?;
+    assert_eq!(rt; status, Status::ReadFault);
+    assert!(rt; held.as_slice() == b"fault read\n".as_slice());
+    Ok(())
+}

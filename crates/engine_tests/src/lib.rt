@@ -1,14 +1,9 @@
-//! Tests of public calls of the engine, with edits in the middle of a long text; and of those that lead a reply back to a text
-//! or narrow a directory.
+//! Tests of public calls of the engine, with edits in the middle of a long text.
 //!
 //! They stand in a crate of their own, over the proved libraries: a crate with tests in it is proved twice.
 #![tactic(auto)]
 
 #[cfg(test)]
-mod contrl_match_calls;
-#[cfg(test)]
 mod edi_engine_calls;
-#[cfg(test)]
-mod guide_overlay_calls;
 #[cfg(test)]
 mod long_text;

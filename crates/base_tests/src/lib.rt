@@ -1,7 +1,7 @@
 //! Tests of public calls at the bottom: octets; segment tables and their collisions; and the outside, in memory and over the
 //! standard library.
 //!
-//! They stand in a crate of their own, over the proved libraries: a crate with tests in it is proved twice.
+//! They are in a crate of their own, over the proved libraries: a crate with tests in it is proved twice.
 #![tactic(auto)]
 
 #[cfg(test)]

@@ -1,6 +1,6 @@
 //! Tests of public calls that check: a segment by itself, envelopes, the walk, printed errors, and the acknowledgement.
 //!
-//! They stand in a crate of their own, over the proved libraries: a crate with tests in it is proved twice.
+//! They are in a crate of their own, over the proved libraries: a crate with tests in it is proved twice.
 #![tactic(auto)]
 
 #[cfg(test)]

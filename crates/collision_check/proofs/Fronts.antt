@@ -60,7 +60,7 @@ module _ (nodes : List Node) (table : IsTable nodes) (f : ℕ) where
       (λ must. all_at is_way (groups_round nodes x) (and_parts (is_must_at nodes x) (list_all is_way (groups_round nodes x)) must).1)
       (or_cases (x == f) (is_must_at nodes x && list_all is_way (groups_round nodes x)) (and_parts (not (is_group_at nodes x)) _ in_it).1)
 
-  -- a mandatory entry on the way stands in the front
+  -- a mandatory entry on the way is in the front
   pub in_front : (x : ℕ) → is_group_at nodes x ≡ false → is_must_at nodes x ≡ true → OnWay x → fronted x ≡ true
   in_front x entry must way =
       and_from (not (is_group_at nodes x)) _ (not_from_false (is_group_at nodes x) entry)
@@ -72,7 +72,7 @@ module _ (nodes : List Node) (table : IsTable nodes) (f : ℕ) where
       and_from (not (is_group_at nodes f)) _ (not_from_false (is_group_at nodes f) entry)
       (or_left (f == f) (is_must_at nodes f && list_all is_way (groups_round nodes f)) (eq-eqb f f refl))
 
-  -- the trigger of a group on the way stands in the front
+  -- the trigger of a group on the way is in the front
   trigger_in_front : (g : ℕ) → is_group_at nodes g ≡ true → is_way g ≡ true → OnWay g → fronted (g + 1) ≡ true
   trigger_in_front g group here way =
       in_front (g + 1) (laws.trigger_is_entry g group) (laws.trigger_must g group)
@@ -94,13 +94,13 @@ module _ (nodes : List Node) (table : IsTable nodes) (f : ℕ) where
     not_itself : (next == e) ≡ false
     not_itself = ne_eqb next e (λ same. omega (arith, sides.less))
 
-    -- an entry of the front before the later one stands no later than the earlier one
+    -- an entry of the front before the later one comes no later than the earlier one
     not_between : (x : ℕ) → fronted x ≡ true → x < next → x ≤ e
     not_between x in_it below = ⊎_elim
         (λ past. absurd (false≢true (sym (sides.between x past below) ∙ in_it))) (λ low. low) (cases_lt e x)
 
     module _ (n : ℕ) (place : StandsFor nodes table n next) where
-      -- the group that holds the node of the later one stands round the earlier one
+      -- the group that holds the node of the later one is round the earlier one
       holder_round : (h : ℕ) → parent_at nodes n ≡ Some h → is_round nodes e h ≡ true
       holder_round h up =
           let way : OnWay next = front_way next sides.other in

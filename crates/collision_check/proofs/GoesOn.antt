@@ -12,7 +12,7 @@ use Rattle.edi_tables.specs.Filled.{is_filled}
 use Rattle.edi_tables.specs.Places.{IsPlace, IsNextSibling, musts_left}
 use Rattle.edi_tables.specs.Rows.{IsTable}
 use Rattle.edi_tables.specs.Walk.{tag_at, parent_at, is_must_at, max_at, end_at, is_group_at, are_siblings, later_siblings, level_end, groups_round, is_trigger_at, outward, itself, candidates_of, later_nodes, is_repeat, reached_node, missing_between}
-use Rattle.edi_tables.specs.Collisions.{are_same_tag, have_same_tag, may_stand_again, is_follower, followers_of, pair_with, pair_at, shared_pairs}
+use Rattle.edi_tables.specs.Collisions.{are_same_tag, have_same_tag, may_come_again, is_follower, followers_of, pair_with, pair_at, shared_pairs}
 use Rattle.edi_tables.proofs.Ahead.{Goes, goes, round_group}
 use Rattle.edi_tables.proofs.Distinct.{apart_take, followers_apart}
 use Rattle.edi_tables.proofs.MissingLaws.{musts_between}
@@ -154,7 +154,7 @@ module _ (nodes : List Node) (table : IsTable nodes) (f e : ℕ) (next : e ≡ f
   repeats : (c : ℕ) → is_repeat nodes f c ≡ is_repeat nodes e c
   repeats c = ap (λ (gs : List ℕ). is_trigger_at nodes c && list_any (λ g. g + 1 == c) gs) (sym groups)
 
-  follows_by : (c : ℕ) (missing : List ℕ) (again : Bool) → missing_between nodes f c ≡ missing → may_stand_again nodes f c ≡ again → (not (is_filled missing) && again) ≡ true → is_follower nodes f c ≡ true
+  follows_by : (c : ℕ) (missing : List ℕ) (again : Bool) → missing_between nodes f c ≡ missing → may_come_again nodes f c ≡ again → (not (is_filled missing) && again) ≡ true → is_follower nodes f c ≡ true
   follows_by c missing again one two pass = (λ i. not (is_filled (one i)) && two i) ∙ pass
 
   missing_at : (c n : ℕ) → reached_node nodes f c ≡ n → missing_between nodes f c ≡ musts_left nodes n e
@@ -164,7 +164,7 @@ module _ (nodes : List Node) (table : IsTable nodes) (f e : ℕ) (next : e ≡ f
   reached_by : (x c : ℕ) → is_repeat nodes x c ≡ true → reached_node nodes x c ≡ end_at nodes (c - 1)
   reached_by x c is = ap (λ b. if b then end_at nodes (c - 1) else (if c == x then 0 else (if is_trigger_at nodes c then c - 1 else c))) is
 
-  again_by : (x c : ℕ) → is_repeat nodes x c ≡ true → may_stand_again nodes x c ≡ nat_le 2 (max_at nodes (c - 1))
+  again_by : (x c : ℕ) → is_repeat nodes x c ≡ true → may_come_again nodes x c ≡ nat_le 2 (max_at nodes (c - 1))
   again_by x c is = ap (λ b. if b then nat_le 2 (max_at nodes (c - 1)) else (if c == x then nat_le 2 (max_at nodes x) else true)) is
 
   repeated : (c : ℕ) → is_repeat nodes e c ≡ true → is_follower nodes e c ≡ true → is_follower nodes f c ≡ true
@@ -172,7 +172,7 @@ module _ (nodes : List Node) (table : IsTable nodes) (f e : ℕ) (next : e ≡ f
       let is_f : is_repeat nodes f c ≡ true = repeats c ∙ is in
       let here : missing_between nodes f c ≡ missing_between nodes e c =
       missing_at c (reached_node nodes e c) (reached_by f c is_f ∙ sym (reached_by e c is)) ∙ musts_between nodes (reached_node nodes e c) e c refl in
-      follows_by c (missing_between nodes e c) (may_stand_again nodes e c) here (again_by f c is_f ∙ sym (again_by e c is)) pass
+      follows_by c (missing_between nodes e c) (may_come_again nodes e c) here (again_by f c is_f ∙ sym (again_by e c is)) pass
 
   -- where none is, the candidate comes after f
   reached_once : (x c : ℕ) → is_repeat nodes x c ≡ false → (c ≡ x → ⊥) → reached_node nodes x c ≡ (if is_trigger_at nodes c then c - 1 else c)
@@ -180,7 +180,7 @@ module _ (nodes : List Node) (table : IsTable nodes) (f e : ℕ) (next : e ≡ f
       ap (λ b. if b then end_at nodes (c - 1) else (if c == x then 0 else (if is_trigger_at nodes c then c - 1 else c))) once
       ∙ ap (λ b. if b then 0 else (if is_trigger_at nodes c then c - 1 else c)) (ne_eqb c x other)
 
-  again_once : (x c : ℕ) → is_repeat nodes x c ≡ false → (c ≡ x → ⊥) → may_stand_again nodes x c ≡ true
+  again_once : (x c : ℕ) → is_repeat nodes x c ≡ false → (c ≡ x → ⊥) → may_come_again nodes x c ≡ true
   again_once x c once other =
       ap (λ b. if b then nat_le 2 (max_at nodes (c - 1)) else (if c == x then nat_le 2 (max_at nodes x) else true)) once
       ∙ ap (λ b. if b then nat_le 2 (max_at nodes x) else true) (ne_eqb c x other)
@@ -204,7 +204,7 @@ module _ (nodes : List Node) (table : IsTable nodes) (f e : ℕ) (next : e ≡ f
       let here : missing_between nodes f c ≡ missing_between nodes e c =
       missing_at c (reached_node nodes e c) (reached_once f c once_f other_f ∙ sym (reached_once e c once other_e)) ∙ musts_between nodes (reached_node nodes e c) e c refl in
       follows_by c (missing_between nodes e c) true here (again_once f c once_f other_f)
-      (both (not (is_filled (missing_between nodes e c))) true (and_parts (not (is_filled (missing_between nodes e c))) (may_stand_again nodes e c) pass).0 refl)
+      (both (not (is_filled (missing_between nodes e c))) true (and_parts (not (is_filled (missing_between nodes e c))) (may_come_again nodes e c) pass).0 refl)
 
   round_repeats : (c k : ℕ) → c ≡ k + 1 → is_round nodes e k ≡ true → is_repeat nodes e c ≡ true
   round_repeats c k is round =

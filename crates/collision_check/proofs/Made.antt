@@ -17,7 +17,7 @@ of_pair nodes f pair = with_followers nodes (front_of nodes f) pair.0 pair.1
 pub after_by_pairs : (nodes : List Node) (f : ℕ) → collisions_after nodes f ≡ map (of_pair nodes f) (shared_pairs nodes (followers_of nodes f))
 after_by_pairs nodes f = refl
 
--- a group stands for none, and an entry for those of its followers' pairs
+-- a group has none, and an entry has those of its followers' pairs
 pub none_at_group : (nodes : List Node) (f : ℕ) (group : Bool) (old : List Collision) → group ≡ is_group_at nodes f → group ≡ true → old ≡ old ++ collisions_at nodes f
 none_at_group nodes f group old is yes_group =
     sym (ap (λ b. old ++ (if b then [] else collisions_after nodes f)) (sym is ∙ yes_group) ∙ append-nil old)

@@ -13,7 +13,7 @@ use Rattle.edi_tables.specs.declared.tag.Tag.{Tag}
 use Rattle.edi_tables.specs.declared.table.Node.{Node}
 use Rattle.edi_tables.specs.Walk.{is_must_at, tag_at, reached_node, missing_between, later_nodes, candidates_of}
 use Rattle.edi_tables.specs.Filled.{is_filled}
-use Rattle.edi_tables.specs.Collisions.{is_follower, may_stand_again, followers_of, pair_at, shared_pairs}
+use Rattle.edi_tables.specs.Collisions.{is_follower, may_come_again, followers_of, pair_at, shared_pairs}
 use Rattle.edi_tables.proofs.MissingLaws.{passes_must}
 use Rattle.edi_tables.proofs.Rising.{IsRising, misses_on}
 use Rattle.collision_check.specs.declared.marks.Met.{Met}
@@ -22,7 +22,7 @@ use Rattle.collision_check.specs.Marks.{number_among, number_of, number_at, numb
 use Rattle.collision_check.proofs.Pairs.{Meets, IsKnown, first_pair, pair_here, known_here, flat_map_push}
 use Rattle.collision_check.proofs.Marking.{among_is, one_tag, has_number}
 
--- what the marks tell of the tag with these octets
+-- what the marks say of the tag with these octets
 abbrev pub told : Option ℕ → ℕ → List (Option Mark) → Option Met
 told None entry marks = None
 told (Some n) entry marks = met_in entry (mark_at marks n)
@@ -49,7 +49,7 @@ told_now entry met = ap (λ b. if b then Some met else None) (eq-eqb entry entry
 told_later : (entry later : ℕ) (met : Met) → entry < later → met_in later (Some (record { entry = entry; met = met })) ≡ None
 told_later entry later met before = ap (λ b. if b then Some met else None) (ne_eqb entry later (λ same. omega arith))
 
--- a follower is met whose tag has this number, or none: what is told of it, and the marks after it
+-- a follower is met whose tag has this number, or none: what is said of it, and the marks after it
 abbrev pub MeetsNumber : ℕ → ℕ → List (Option Mark) → List (Option Mark) × Option ℕ → Option ℕ → Type 0
 MeetsNumber f c old made number = (made.1 ≡ only_met f old number) × (made.0 ≡ marks_after f c old number)
 
@@ -237,7 +237,7 @@ module _ (nodes : List Node) (f : ℕ) where
   miss_each c (y ∷ more) misses rising =
       let on : is_filled (missing_between nodes f y) ≡ true =
       passes_must nodes f y ∙ misses_on (find (is_must_at nodes) (later_nodes nodes f)) (reached_node nodes f c) (reached_node nodes f y) (All-head (λ y. reached_node nodes f c ≤ reached_node nodes f y) y more rising) (sym (passes_must nodes f c) ∙ misses) in
-      ap (λ b. cond b (y ∷ filter (is_follower nodes f) more) (filter (is_follower nodes f) more)) (ap (λ b. not b && may_stand_again nodes f y) on)
+      ap (λ b. cond b (y ∷ filter (is_follower nodes f) more) (filter (is_follower nodes f) more)) (ap (λ b. not b && may_come_again nodes f y) on)
       ∙ miss_each c more misses (All-tail (λ y. reached_node nodes f c ≤ reached_node nodes f y) y more rising)
 
   pub met_stop : (c : ℕ) (left more : List ℕ) (pairs : List (ℕ × ℕ)) (marks : List (Option Mark)) → left ≡ c ∷ more → is_filled (missing_between nodes f c) ≡ true → IsMet nodes f left pairs marks → pairs ≡ shared_pairs nodes (followers_of nodes f)
@@ -245,5 +245,5 @@ module _ (nodes : List Node) (f : ℕ) where
       let rising = subst (IsRising (reached_node nodes f)) is met.rising in
       met_all left pairs marks
       (ap (filter (is_follower nodes f)) is
-      ∙ ap (λ b. cond b (c ∷ filter (is_follower nodes f) more) (filter (is_follower nodes f) more)) (ap (λ b. not b && may_stand_again nodes f c) misses)
+      ∙ ap (λ b. cond b (c ∷ filter (is_follower nodes f) more) (filter (is_follower nodes f) more)) (ap (λ b. not b && may_come_again nodes f c) misses)
       ∙ miss_each c more misses rising.0) met

@@ -23,7 +23,7 @@ use Rattle.edi_tables.proofs.Placements.{last_of, tagged, first_outside}
 use Rattle.edi_tables.proofs.Places.{Passes, passing_each, AreNeighbours, neighbours, starts_with, count_once, count_drop}
 use Rattle.collision_check.proofs.Fronts.{front_entry, in_front, front_itself, IsNextCandidate, next_is}
 
--- where each entry has a tag, their tags stand in the same places
+-- where each entry has a tag, their tags are in the same places
 module _ (tag : ℕ → Option Tag) where
   -- an entry with a tag
   abbrev pub HasTag : ℕ → Type 0
@@ -91,7 +91,7 @@ module _ (nodes : List Node) (placed : List (Option ℕ)) (e c : ℕ) (last : la
       ∙ and_left (c == last_placed placed) (nat_le (max_at nodes c) (entry_count nodes placed c)) (ap (λ (x : ℕ). c == x) last ∙ differs))
       (ap is_filled missing)
 
-  -- nor is a follower after entries that stand once each
+  -- nor is a follower after entries that occur once each
   rank_of_follower : is_follower nodes e c ≡ true → group_count nodes placed (c - 1) ≤ 1 → entry_count nodes placed c ≤ 1 → rank_of nodes placed c ≡ 0
   unfolding is_over
   rank_of_follower follows group entry =
@@ -139,18 +139,18 @@ module _ (nodes : List Node) (table : IsTable nodes) where
   ]
 
   module _ (f : ℕ) (within : f < length nodes) (entry : is_group_at nodes f ≡ false) where
-    -- UNH stands in each front
+    -- UNH is in each front
     first_in_front : is_in_front nodes f 0 ≡ true
     first_in_front =
         in_front nodes table f 0 (tagged nodes table 0 _ (slice_get nodes 0) refl laws.first_tag).0 laws.first_must
         (λ g round. absurd (false≢true (sym (round_none nodes table 0 g (first_outside nodes table (parent_at nodes 0) refl)) ∙ round)))
 
-    -- it stands first
+    -- it comes first
     front_first : (rest : List ℕ) × (front_of nodes f ≡ 0 ∷ rest)
     unfolding front_of
     front_first = starts_with (is_in_front nodes f) (f + 1) (omega arith) first_in_front
 
-    -- the entry itself stands last
+    -- the entry itself comes last
     front_last : (before : List ℕ) × (front_of nodes f ≡ before ++ f ∷ [])
     unfolding front_of
     front_last = (
@@ -159,17 +159,17 @@ module _ (nodes : List Node) (table : IsTable nodes) where
           ∙ ap (λ (b : Bool). filter (is_in_front nodes f) (range_with_len 0 f) ++ cond b (f ∷ []) []) (front_itself nodes table f entry),
     )
 
-    -- each member of the front passes, and stands no later than the entry
+    -- each member of the front passes, and comes no later than the entry
     front_each : All (Passes (is_in_front nodes f) 0 (f + 1)) (front_of nodes f)
     unfolding front_of
     front_each = passing_each (is_in_front nodes f) (f + 1) 0 (f + 1) (omega arith)
 
-    -- none stands twice
+    -- none occurs twice
     front_once : (x : ℕ) → count_by (is_at x) (map Some (front_of nodes f)) ≤ 1
     unfolding front_of
     front_once x = count_once (is_in_front nodes f) x (f + 1) 0
 
-    -- two that stand side by side are neighbours
+    -- two that are side by side are neighbours
     front_sides : (k : ℕ) → suc k < length (front_of nodes f) → AreNeighbours (is_in_front nodes f) (get_or (front_of nodes f) k 0) (get_or (front_of nodes f) (suc k) 0)
     unfolding front_of
     front_sides k below = neighbours (is_in_front nodes f) (f + 1) 0 k below
@@ -193,7 +193,7 @@ module _ (nodes : List Node) (table : IsTable nodes) where
       entries_tagged : All (HasTag (tag_at nodes)) entries
       entries_tagged = All-push (HasTag (tag_at nodes)) (front_of nodes f) c front_tagged has
 
-      -- and it stands at its place
+      -- and it is at its place
       tag_there : (k : ℕ) → k < length entries → tag_at nodes (get_or entries k 0) ≡ slice_get (filter_map (tag_at nodes) entries) k
       tag_there k below =
           sym (slice_get-get_or (filter_map (tag_at nodes) entries) k blank (omega (arith, length_tags (tag_at nodes) entries entries_tagged))

@@ -1,4 +1,4 @@
--- A table whose date may stand before the reference or after it: what the definitions come to on it.
+-- A table whose date may come before the reference or after it: what the definitions come to on it.
 use Rattle.std.proofs.Common.{◌≡◌, ℕ, Bool, true, false, List, [], ◌∷◌, Some, None, refl}
 use Rattle.std.specs.Prelude.{codes}
 use Rattle.edi_tables.specs.declared.tag.Tag.{Tag}
@@ -25,7 +25,7 @@ followers_of_date = refl
 abbrev collision : List Tag → List ℕ → List ℕ → Collision
 collision tags first second = record { tags = tags; first = first; second = second }
 
--- both dates may stand after BGM, and both after the first date
+-- both dates may come after BGM, and both after the first date
 collisions_of_two_dates : collisions_of two_dates
     ≡ collision (tag (codes "UNH") ∷ tag (codes "BGM") ∷ tag (codes "DTM") ∷ []) (0 ∷ 1 ∷ 2 ∷ []) (0 ∷ 1 ∷ 4 ∷ [])
     ∷ collision (tag (codes "UNH") ∷ tag (codes "BGM") ∷ tag (codes "DTM") ∷ tag (codes "DTM") ∷ []) (0 ∷ 1 ∷ 2 ∷ 2 ∷ []) (0 ∷ 1 ∷ 2 ∷ 4 ∷ []) ∷ []

@@ -1,4 +1,4 @@
--- What a listed collision stands for.
+-- What a listed collision says.
 use Rattle.std.specs.Prelude.{◌≢◌, ℕ, List, [], ◌∷◌, ◌++◌, if◌then◌else◌}
 use Rattle.std.specs.List.{filter_map}
 use Rattle.edi_tables.specs.declared.table.Node.{Node}
@@ -19,7 +19,7 @@ with_followers nodes front first second = record {
   second = front ++ second ∷ [];
 }
 
--- the collisions after a node; a group stands for none
+-- the collisions after a node; a group has none
 abbrev pub collisions_at : List Node → ℕ → List definition.Collision
 collisions_at nodes f = if is_group_at nodes f then [] else definition.collisions_after nodes f
 

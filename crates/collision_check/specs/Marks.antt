@@ -21,11 +21,12 @@ has_octets octets (Some tag) = bytes_eq octets tag.octets
 abbrev pub number_among : List Node → ℕ → Octets → Option ℕ
 number_among nodes n octets = find (λ j. has_octets octets (tag_at nodes j)) (range_with_len 0 n)
 
--- the number of a node's tag; a group has none
+-- the number of a tag; where there is no tag, there is no number
 abbrev pub number_of : List Node → Option Tag → Option ℕ
 number_of nodes None = None
 number_of nodes (Some tag) = number_among nodes (length nodes) tag.octets
 
+-- the number of a node's tag; a group has none
 abbrev pub number_at : List Node → ℕ → Option ℕ
 number_at nodes i = number_of nodes (tag_at nodes i)
 
@@ -49,15 +50,16 @@ met_once None = None
 met_once (Some (Once first)) = Some first
 met_once (Some Twice) = None
 
--- what a mark tells of the followers of an entry; a mark that another entry made tells nothing
+-- what a mark says of the followers of an entry; a mark that another entry made says nothing
 abbrev pub met_in : ℕ → Option Mark → Option Met
 met_in entry None = None
 met_in entry (Some mark) = if mark.entry == entry then Some mark.met else None
 
+-- the mark of the tag of this number, if it has one
 abbrev pub mark_at : List (Option Mark) → ℕ → Option Mark
 mark_at marks n = unwrap_or (slice_get marks n) None
 
--- no mark tells of the followers of an entry from this one on
+-- no mark says anything of the followers of an entry from this one on
 abbrev pub IsFresh : ℕ → List (Option Mark) → Type 0
 IsFresh from marks = (entry n : ℕ) → from ≤ entry → met_in entry (mark_at marks n) ≡ None
 

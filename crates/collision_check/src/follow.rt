@@ -1,7 +1,7 @@
-//! The followers of an entry, where the next segment may stand with nothing missing and nothing too often, and those that share a tag.
+//! An entry's followers, where the next segment may be with nothing missing or too often, and those that share a tag.
 ghost use Rattle.std.specs.Prelude.{◌≡◌, ◌<◌, ◌+◌, None, IfOk, length, slice_index_or};
 ghost use Rattle.std.specs.Option.{ForSome};
-ghost use Rattle.edi_tables.specs.Collisions.{followers_of, may_stand_again, shared_pairs};
+ghost use Rattle.edi_tables.specs.Collisions.{followers_of, may_come_again, shared_pairs};
 ghost use Rattle.collision_check.specs.Marks.{IsFresh, marks_after, numbers_of, only_met};
 
 use crate::marks::{Mark, meet};
@@ -32,7 +32,7 @@ pub fn pairs(
         if table.misses(entry, first_must, candidate) {
             return Ok(pairs);
         }
-        if may_stand_again(table, entry, candidate) {
+        if may_come_again(table, entry, candidate) {
             if let Some(first) = first_met(numbers, marks, entry, candidate) {
                 pairs.push((first, candidate))?;
             }
@@ -63,12 +63,12 @@ fn first_met(
     }
 }
 
-/// Whether a repeated group, or the entry itself, may stand a second time; another candidate stands for the first time.
+/// Whether a repeated group, or the entry itself, may come a second time; another candidate comes for the first time.
 #[inline]
-fn may_stand_again(table: &Table, entry: u16, candidate: u16) -> bool
+fn may_come_again(table: &Table, entry: u16, candidate: u16) -> bool
     requires within { entry < length table.now }
     requires candidate { candidate < length table.now }
-    ensures { result ≡ may_stand_again table.now entry candidate }
+    ensures { result ≡ may_come_again table.now entry candidate }
 {
     if table.is_repeat(entry, candidate) {
         table.node(usize::from(candidate) - 1).max >= 2

@@ -7,7 +7,7 @@ ghost use Rattle.edi_tables.specs.Collisions.{is_in_front, front_of};
 use edi_tables::Table;
 use std::alloc::{AllocError, Global};
 
-/// The front of an entry, in table order: the entry, and before it each mandatory one in groups that are mandatory or stand round the entry.
+/// The front of an entry in table order: it, and before it each mandatory one in groups that are mandatory or round it.
 pub fn front(alloc: Global, table: &Table, entry: u16) -> Result<Vec<u16>, AllocError>
     requires { entry < length table.now }
     ensures { IfOk result (λ front. front.items ≡ front_of table.now entry) }
@@ -22,7 +22,7 @@ pub fn front(alloc: Global, table: &Table, entry: u16) -> Result<Vec<u16>, Alloc
     Ok(front)
 }
 
-/// Whether an entry stands in the front of another.
+/// Whether an entry is in the front of another.
 fn is_in_front(table: &Table, entry: u16, before: u16) -> bool
     requires within { entry < length table.now }
     requires before { before < length table.now }
@@ -32,7 +32,7 @@ fn is_in_front(table: &Table, entry: u16, before: u16) -> bool
     node.tag.is_some() && (before == entry || node.must && is_on_the_way(table, entry, before))
 }
 
-/// Whether each group round a node is mandatory or stands round the entry too.
+/// Whether each group round a node is mandatory or is round the entry too.
 fn is_on_the_way(table: &Table, entry: u16, node: u16) -> bool
     requires within { entry < length table.now }
     requires node { node < length table.now }

@@ -15,7 +15,7 @@ use crate::{follow, front};
 use edi_tables::{List, Table, Tag};
 use std::alloc::{AllocError, Global};
 
-/// A list of tags, and two lists of entries that a message with these tags may stand at.
+/// A list of tags, and two lists of entries that a message with these tags may be placed at.
 ///
 /// `front` holds the tags of the front, and after them the tag that both last entries have.
 #[derive(Debug, Drop)]
@@ -25,7 +25,7 @@ pub struct Collision {
     pub second: List<u16>,
 }
 
-/// The collisions of a table, by the entry that stands before the shared tag, in table order.
+/// The collisions of a table, by the entry that comes before the shared tag, in table order.
 #[tactic(auto, using(crate::proofs::Single::at_most_one))]
 pub fn list_collisions(alloc: Global, table: &Table) -> Result<Vec<Collision>, AllocError>
     ensures listed { IfOk result
@@ -62,14 +62,14 @@ pub fn list_collisions(alloc: Global, table: &Table) -> Result<Vec<Collision>, A
     Ok(collisions)
 }
 
-/// So many marks that tell nothing.
+/// So many marks that say nothing.
 fn unmarked(alloc: Global, count: usize) -> Result<Vec<Option<Mark>>, AllocError>
     ensures { IfOk result (λ marks. marks.items ≡ map (λ _. None) (range_with_len 0 count)) }
 {
     (0..count).map(|_| None).collect(alloc)
 }
 
-/// Appends the collisions after an entry; a group stands for none. Answers whether it is an entry without any.
+/// Appends the collisions after an entry; a group has none. Answers whether it is an entry without any.
 ///
 /// Where the node before has none and this one is optional and beside it, it has none: what follows it, follows that
 /// node too.

@@ -9,7 +9,7 @@ pub enum Met {
     Twice,
 }
 
-/// What is known of a tag after this entry. It tells nothing after another.
+/// What is known of a tag after this entry. It says nothing after another.
 #[derive(Clone, Copy)]
 pub struct Mark {
     pub entry: u16,
@@ -37,7 +37,7 @@ pub fn meet(marks: &mut [Option<Mark>], entry: u16, number: u16, follower: u16) 
     }
 }
 
-/// What a mark tells of the followers of this entry.
+/// What a mark says of the followers of this entry.
 #[inline]
 fn met_after(mark: Option<Mark>, entry: u16) -> Option<Met>
     ensures { result ≡ met_in entry mark }

@@ -147,7 +147,7 @@ flat-same : {X Y : Type 0} (f g : X → List Y) (xs : List X) → Each (λ x. f 
 flat-same f g [] all = refl
 flat-same f g (x ∷ xs) all = λ i. all.0 i ++ flat-same f g xs all.1 i
 
--- the errors of one segment, told as they are in order
+-- the errors of one segment, reported as they are in order
 site-none : (e : ErrorLine) → e.element ≡ 0 → site_of e ≡ no_site
 site-none e none = ap (λ (n : ℕ). let site : Bool → Site = λ b. cond b (record { element = e.element; component = e.component }) no_site in site (nat_le 1 n && is_near e)) none
 
@@ -203,7 +203,7 @@ positions-good m =
     (λ k both. let low = both.0 in let high = both.1 in record { some = omega arith; few = omega arith; within = omega arith }) (positions_of m)
     (each-between 1 n 1 (1 + n) (omega arith) (omega arith))
 
--- errors that are told of a message: in order, of kinds that are well placed, and all in it
+-- errors that are reported of a message: in order, of kinds that are well placed, and all in it
 pub record AreOfMessage (m : MessageHead) (es : List Levelled) : Type 0 where
   pub order : InOrder es
   pub placed : Each IsPlacedLevelled es

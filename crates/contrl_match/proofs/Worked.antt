@@ -70,7 +70,7 @@ reported-released : reported (summary (error 4 (codes "DTM") 1 3 kinds.TooLong �
 unfolding reported in_order key_of number_of code_of digits
 reported-released = refl
 
--- a closing reference that isn't the opening one: nothing else is told
+-- a closing reference that isn't the opening one: nothing else is reported
 reported-reference : reported (summary (error 7 (codes "UNZ") 2 0 kinds.Reference ∷ [])) ≡ finding level.Interchange 0 (codes "UNZ") 2 0 (codes "28") ∷ []
 unfolding reported in_order key_of number_of code_of digits
 reported-reference = refl

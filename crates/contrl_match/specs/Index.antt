@@ -13,6 +13,7 @@ use Rattle.contrl_match.specs.Spots.{group_named, message_named}
 abbrev pub group_seen : ℕ × Bor GroupHead → ℕ × GroupHead
 group_seen p = (p.0, p.1.now)
 
+-- what is seen of a message that is found
 abbrev pub message_seen : Bor MessageHead → MessageHead
 message_seen m = m.now
 

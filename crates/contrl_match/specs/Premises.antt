@@ -24,19 +24,19 @@ abbrev pub members_told : List Levelled → List MessageHead → ℕ × GroupHea
 members_told errors messages p =
     elim (first_error (group_errors p.1 errors)) [ None ↦ members_of p.0 messages | Some e ↦ [] ]
 
--- the messages whose errors are told: all of them in a text without groups, else those of groups without an error at
--- group level
+-- the messages whose errors are reported: all of them in a text without groups, else those of groups without an error
+-- at group level
 abbrev pub messages_told : List Levelled → List MessageHead → List GroupHead → List MessageHead
 messages_told errors messages [] = messages
 messages_told errors messages (g ∷ gs) = flat_map (members_told errors messages) (enumerate_from 0 (g ∷ gs))
 
 -- below an interchange no limit leaves anything out: there are at most 99,000 segments, and the report of each message
--- whose errors are told is whole
+-- whose errors are reported is whole
 pub record IsLowerWhole (errors : List Levelled) (messages : List MessageHead) (groups : List GroupHead) : Type 0 where
   pub lower : length (lower_segments errors messages groups) ≤ 99000
   pub reports : All (λ m. IsToldWhole m (message_errors m errors)) (messages_told errors messages groups)
 
--- no limit of an acknowledgement leaves out an error; where the interchange itself has one, nothing else is told
+-- no limit of an acknowledgement leaves out an error; where the interchange itself has one, nothing else is reported
 abbrev pub IsToldInFull : Summary → Type 0
 IsToldInFull s =
     first_error (interchange_errors (levelled s)) ≡ None → IsLowerWhole (levelled s) s.messages s.groups

@@ -48,11 +48,12 @@ message_findings m errors =
 abbrev pub messages_findings : List Levelled → List MessageHead → List Finding
 messages_findings errors messages = flat_map (λ m. message_findings m (message_errors m errors)) messages
 
--- of a group: its first error at group level alone, or else what is found in its messages
+-- of a group with this first error at group level: that error alone; or, where it has none, these findings
 abbrev pub group_findings : GroupHead → Option ErrorLine → List Finding → List Finding
 group_findings g (Some e) findings = whole_finding level.Group g.first e ∷ []
 group_findings g None findings = findings
 
+-- of a group: its first error at group level alone, or else what is found in its messages
 abbrev pub findings_in : List Levelled → List MessageHead → ℕ × GroupHead → List Finding
 findings_in errors messages p =
     group_findings p.1 (first_error (group_errors p.1 errors)) (messages_findings errors (members_of p.0 messages))

@@ -71,6 +71,7 @@ pub record Spot : Type 0 where
   pub message : Option MessageHead
   pub segment : Option ℕ
 
+-- what the segment at place i is about: what the last UCF, the last UCM and the last UCS before it lead to
 abbrev pub spot_at : Summary → List Segment → ℕ → Spot
 spot_at s segments i = record {
   group = group_before s segments i;

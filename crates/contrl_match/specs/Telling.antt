@@ -34,6 +34,7 @@ site_in values element =
     option_and_then (λ position. option_map (λ component. record { element = position - 1; component = component })
     (number_or_none (values element 2))) (number_or_none (values element 1))
 
+-- a finding of this level at a segment: the tag and the code that it names, and the element and the component
 abbrev pub finding_at : Where → ℕ → Octets → Octets → Site → Finding
 finding_at level segment tag code site = record {
   level = level;
@@ -78,6 +79,7 @@ told_with s spot tag values =
     else if has_name (codes "UCD") tag then option_and_then (detail_told values) spot.segment
     else Some []
 
+-- what a segment finds at its place among the others, by what those before it lead to
 abbrev pub told_at : Summary → List Segment → ℕ × Segment → Option (List Finding)
 told_at s segments p = told_with s (spot_at s segments p.0) p.1.tag (value_in p.1.components)
 

@@ -27,9 +27,11 @@ use Rattle.contrl_match.specs.declared.values.Site.{Site as ReadSite}
 abbrev pub unless_zero : Option ℕ → Option ℕ
 unless_zero number = elim number [ None ↦ None | Some n ↦ if n == 0 then None else Some n ]
 
+-- the element and the component that were read
 abbrev pub site_seen : ReadSite → Site
 site_seen site = record { element = site.element; component = site.component }
 
+-- the group, the message and the segment that a walk has come to
 abbrev pub spot_seen : ReadSpot → Spot
 spot_seen spot = record {
   group = spot.group;
@@ -65,24 +67,27 @@ abbrev pub AreSitesSmall : List Segment → Type 0
 AreSitesSmall segments =
     (k : ℕ) → ForSome (slice_get segments k) (λ x. HasSmallSites x.tag (value_in x.components))
 
--- what a segment finds, by its name
+-- what a UCF finds: by the group that it names
 abbrev pub group_told : Summary → Values → Option (List Finding)
 group_told s values =
     option_and_then (λ p. answer_told level.Group 5 p.1.first values) (group_named s.groups (values 1 1))
 
+-- what a UCM finds: by the message that it names, in the group that a walk has come to
 abbrev pub message_told : Summary → Spot → Values → Option (List Finding)
 message_told s spot values =
     option_and_then (λ m. answer_told level.Message 4 m.first values)
     (message_named s.messages spot.group (values 1 1))
 
+-- what a UCS finds: by the position that it names, in the message that a walk has come to
 abbrev pub segment_told : Spot → Values → Option (List Finding)
 segment_told spot values =
     option_map (position_told values) (option_and_then (segment_placed (values 1 1)) spot.message)
 
+-- what a UCD finds: at the segment that a walk has come to
 abbrev pub place_told : Spot → Values → Option (List Finding)
 place_told spot values = option_and_then (detail_told values) spot.segment
 
--- a segment was told so: what it finds, and the spot after it
+-- a segment was answered so: with what it finds, and the spot after it
 pub record IsTold (told : Told) (after : ReadSpot) (found : Option (List Finding)) (spot : Spot) : Type 0 where
   pub finds : told_seen told ≡ found
   pub next : spot_seen after ≡ spot

@@ -16,7 +16,7 @@ abbrev pub is_envelope_tag : Octets → Bool
 is_envelope_tag tag =
     list_any (bytes_eq tag) (codes "UNB" ∷ codes "UNG" ∷ codes "UNH" ∷ codes "UNT" ∷ codes "UNE" ∷ codes "UNZ" ∷ [])
 
--- the tag of such a segment; any other is not told
+-- the tag of such a segment; any other is not given
 abbrev pub envelope_tag : Option Tag → Octets
 envelope_tag None = []
 envelope_tag (Some tag) = if is_envelope_tag tag.octets then tag.octets else []
@@ -32,7 +32,7 @@ tag_told _ tag = envelope_tag tag
 abbrev pub is_near : ErrorLine → Bool
 is_near e = nat_le e.element 998 && nat_le e.component 999
 
--- S011 is told of an error at such a place of an element
+-- S011 is given for an error at such a place of an element
 abbrev pub has_position : ErrorLine → Bool
 has_position e = nat_le 1 e.element && is_near e
 
@@ -44,9 +44,11 @@ element_told e = if has_position e then decimal (e.element + 1) else []
 abbrev pub component_told : ErrorLine → Octets
 component_told e = if has_position e && nat_le 1 e.component then decimal e.component else []
 
+-- S011: the position of the element and the number of the component
 abbrev pub position_of : ErrorLine → Element
 position_of e = element_told e ∷ component_told e ∷ []
 
+-- 0085, the code of the error
 abbrev pub code_told : ErrorLine → Octets
 code_told e = decimal (code_of e.kind)
 

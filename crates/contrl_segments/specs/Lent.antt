@@ -15,13 +15,15 @@ abbrev pub value_lent : WrittenValue → Octets
 value_lent (Written octets) = octets.now
 value_lent (Number n) = decimal n
 
+-- the values of an element that is lent
 abbrev pub element_lent : Bor (List WrittenValue) → Element
 element_lent values = map value_lent values.now
 
+-- a segment with this tag, whose elements are lent
 abbrev pub segment_lent : Tag → List (Bor (List WrittenValue)) → Segment
 segment_lent tag elements = record { tag = tag.octets; elements = map element_lent elements }
 
--- the answer that is told of these elements
+-- the answer with these elements, and with those that tell of its error, if it has one
 abbrev pub answer_lent : Tag → List (Bor (List WrittenValue)) → Option ErrorLine → Segment
 answer_lent tag subject error = record { tag = tag.octets; elements = map element_lent subject ++ details_told error }
 

@@ -13,9 +13,11 @@ abbrev pub values_read : Element → Element
 values_read [] = [] ∷ []
 values_read (v ∷ vs) = v ∷ vs
 
+-- a component of an element as it is read back, by its number and its value
 abbrev pub component_read : ℕ → ℕ × Octets → Component
 component_read element p = record { element = element; repetition = 1; component = p.0; octets = p.1 }
 
+-- the components of an element as they are read back, by its number and its values
 abbrev pub element_read : ℕ × Element → List Component
 element_read p = map (component_read p.0) (enumerate_from 1 (values_read (trimmed is_empty_value p.1)))
 

@@ -10,14 +10,15 @@ use Rattle.contrl_segments.specs.declared.summary.Party.{Party}
 use Rattle.contrl_segments.specs.Details.{details_told}
 use Rattle.contrl_segments.specs.Written.{Element, Segment, alone}
 
--- 0083: 4 rejects what a segment answers, 7 acknowledges it
+-- 0083: 4 rejects what a segment answers
 abbrev pub rejected : Octets
 rejected = codes "4"
 
+-- 0083: 7 acknowledges what a segment answers
 abbrev pub acknowledged : Octets
 acknowledged = codes "7"
 
--- UCI, UCF and UCM: what is answered, the action, and the error that it is rejected for, where one is told
+-- UCI, UCF and UCM: what is answered, the action, and the error that it is rejected for, if one is given
 abbrev pub answer : Octets → List Element → Octets → Option ErrorLine → Segment
 answer tag subject action error = record { tag = tag; elements = subject ++ alone action ∷ details_told error }
 

@@ -25,13 +25,15 @@ is_service x = x == 39 || x == 43 || x == 58 || x == 63
 abbrev pub octet_text : ℕ → Octets
 octet_text x = if is_service x then 63 ∷ x ∷ [] else x ∷ []
 
+-- a value as it is written
 abbrev pub value_text : Octets → Octets
 value_text value = flat_map octet_text value
 
--- a value without octets, and an element without any other value
+-- a value without octets
 abbrev pub is_empty_value : Octets → Bool
 is_empty_value value = length value == 0
 
+-- an element whose values are all empty
 abbrev pub is_empty_element : Element → Bool
 is_empty_element values = list_all is_empty_value values
 

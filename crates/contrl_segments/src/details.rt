@@ -59,7 +59,7 @@ pub fn told_position(error: &ErrorLine) -> [WrittenValue<'_>; 2]
     [element, WrittenValue::Number(error.component)]
 }
 
-// Whether an error is at an element, and near enough for its position to be told.
+// Whether an error is at an element, and near enough for its position to be given.
 fn has_position(error: &ErrorLine) -> bool
     ensures { result ≡ has_position_of error.now }
 {

@@ -49,7 +49,7 @@ pub fn put_segment(
     out.add(b"'")
 }
 
-/// Puts the answer to what these elements say, with the error that it is rejected for, where one is told. Where memory is
+/// Puts the answer to what these elements say, with the error that it is rejected for, if one is given. Where memory is
 /// refused, a part of it may be put.
 #[tactic(auto, using(edi_tables::proofs::GrowingLaws::grown_then))]
 pub fn put_answer(

@@ -42,7 +42,7 @@ all-blocks (suc n) h [] details many = ap (λ bs. h ∷ (details ++ joined bs)) 
 all-blocks (suc n) h (g ∷ hs) details many = ap (λ zs. h ∷ zs) (all-blocks n g hs details (omega arith))
 
 module _ (position : ℕ) (es : List Levelled) where
-  -- the blocks of a segment by the errors that are told by UCS and by UCD
+  -- the blocks of a segment by the errors that are given by UCS and by UCD
   blocks-are : segment_blocks position (told es) ≡ blocks_of (heads_of position (filter is_head es) (filter is_detail es)) (take 99 (details_at es))
   blocks-are =
       let heads : segment_errors (told es) ≡ filter is_head es = filter-filter (λ x. is_level Message x.level) (λ x. is_of_segment x.error.kind) es in

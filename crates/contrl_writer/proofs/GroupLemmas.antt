@@ -108,7 +108,7 @@ module _ (es : List Levelled) where
   answer-none g [] some = absurd (some refl)
   answer-none g (r ∷ rs) some = refl
 
-  -- the answer to a group that is rejected, to one of which nothing is told, and to one that is acknowledged
+  -- the answer to a group that is rejected, to one for which nothing is reported, and to one that is acknowledged
   pub group-rejected : (g : GroupHead) (error : Option ErrorLine) (rs : List Segment) → is_some error ≡ true → group_answer g error rs ≡ ucf g (action_for error) error ∷ []
   group-rejected g None rs some = absurd (true≢false (sym some))
   group-rejected g (Some e) rs some = refl

@@ -83,7 +83,7 @@ module _ (m : MessageHead) where
   all-at : (q : ℕ) (es : List Levelled) → Each (λ x. m.first + q ≡ segment_of x + 1) es → errors_of_position m q es ≡ es
   all-at q es each = filter-each (λ x. eqb (x.error.segment + 1) (m.first + q)) es (each-map _ _ es (λ x same. eq-eqb (x.error.segment + 1) (m.first + q) (sym same)) each)
 
-  -- errors after the last position that is told have no blocks
+  -- errors after the last position that is reported have no blocks
   far-blocks : (es : List Levelled) → Each (λ x. m.first + 999999 ≤ segment_of x) es → message_blocks m es ≡ []
   far-blocks es each =
       let count : ℕ = min 999999 (m.last + 1 - m.first) in
@@ -136,7 +136,7 @@ module _ (m : MessageHead) where
         let high = leb-true (segment_of (get_or rest 0 x)) m.last parts.1 in
         (omega arith, omega arith)
 
-    -- the first error is after the last position that is told
+    -- the first error is after the last position that is reported
     pub far-rest : 999999 ≤ segment_of x - m.first → message_blocks m (told rest) ≡ []
     far-rest far = far-blocks (told rest) (each-filter (λ y. m.first + 999999 ≤ segment_of y) (λ y. is_level Message y.level) rest (each-read (λ y. m.first + 999999 ≤ segment_of y) rest (λ k d below.
         let low = from-first k d below in omega arith)))

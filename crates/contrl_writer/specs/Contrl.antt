@@ -26,11 +26,12 @@ report_where m (x ∷ xs) = report m (x ∷ xs)
 abbrev pub reports_of : List Levelled → List MessageHead → List Segment
 reports_of errors messages = flat_map (λ m. report_where m (message_errors m errors)) messages
 
--- the messages of group i
+-- the group that a message is in, if it is in one, is group i
 abbrev pub is_member : ℕ → Option ℕ → Bool
 is_member i None = false
 is_member i (Some j) = j == i
 
+-- the messages of group i
 abbrev pub members_of : ℕ → List MessageHead → List MessageHead
 members_of i messages = filter (λ m. is_member i m.group) messages
 
@@ -41,13 +42,13 @@ group_answer g (Some e) reports = ucf g rejected (Some e) ∷ []
 group_answer g None [] = []
 group_answer g None (r ∷ rs) = ucf g acknowledged None ∷ r ∷ rs
 
--- the answers to groups, numbered from i
+-- the answer to a group, which is given with its number, in a text with these errors and messages
 abbrev pub group_answers : List Levelled → List MessageHead → ℕ × GroupHead → List Segment
 group_answers errors messages p =
     group_answer p.1 (first_error (group_errors p.1 errors)) (reports_of errors (members_of p.0 messages))
 
--- all that can be told below an interchange that is acknowledged: in a text without groups the reports of its messages,
--- else the answers to its groups
+-- all that can be reported below an interchange that is acknowledged: in a text without groups the reports of its
+-- messages, else the answers to its groups
 abbrev pub lower_segments : List Levelled → List MessageHead → List GroupHead → List Segment
 lower_segments errors messages [] = reports_of errors messages
 lower_segments errors messages (g ∷ gs) = flat_map (group_answers errors messages) (enumerate_from 0 (g ∷ gs))
@@ -82,5 +83,6 @@ answer_by NoUnb segments = answers.NoUnb
 answer_by BadUnb segments = answers.BadUnb
 answer_by (Good level version sender recipient reference) segments = answers.Octets (contrl_text segments)
 
+-- the answer to a summary: its acknowledgement, if its UNB is neither missing nor bad
 abbrev pub answer_to : Summary → Stamp → Octets → Contrl
 answer_to s stamp own = answer_by s.opening (contrl_of s stamp own)

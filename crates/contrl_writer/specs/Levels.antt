@@ -1,4 +1,4 @@
--- At which level of an acknowledgement errors are told.
+-- At which level of an acknowledgement errors are reported.
 use Rattle.std.specs.Prelude.{ℕ, Bool, true, false, ◌&&◌, ◌||◌, ◌==◌, nat_le, List, [], ◌∷◌, map, filter, Option, Some, None, codes, if◌then◌else◌}
 use Rattle.std.specs.List.{list_any}
 use Rattle.edi_tables.specs.Rows.{has_name}

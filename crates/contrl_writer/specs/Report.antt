@@ -23,13 +23,15 @@ is_of_message Reference = true
 is_of_message Count = true
 is_of_message _ = false
 
--- the errors of a message as a whole, those of a segment as a whole, and those of an element
+-- the errors of a message as a whole
 abbrev pub whole_errors : List Levelled → List Levelled
 whole_errors errors = filter (λ x. is_of_message x.error.kind) errors
 
+-- the errors of a segment as a whole
 abbrev pub segment_errors : List Levelled → List Levelled
 segment_errors errors = filter (λ x. is_of_segment x.error.kind) errors
 
+-- the errors of elements and components
 abbrev pub element_errors : List Levelled → List Levelled
 element_errors errors = filter (λ x. is_of_element x.error.kind) errors
 

@@ -129,7 +129,7 @@ fn places_among(errors: &[Levelled], first: u32, last: u32) -> (usize, usize)
     (from, to.max(from))
 }
 
-// Tells the errors at the ends of a group of that group, except those of the interchange.
+// Reports the errors at the ends of a group for that group, except those of the interchange.
 fn raise_to_group(errors: &mut [Levelled], group: &GroupHead)
     requires { IsNonDecreasingBy segment_of errors.old }
     ensures { errors.new ≡ map (group_raised group.now) errors.old }
@@ -138,7 +138,7 @@ fn raise_to_group(errors: &mut [Levelled], group: &GroupHead)
     raise_last(errors, group.last);
 }
 
-// Tells the errors at the first segment of a group of that group.
+// Reports the errors at the first segment of a group for that group.
 fn raise_first(errors: &mut [Levelled], segment: u32)
     requires { IsNonDecreasingBy segment_of errors.old }
     ensures { errors.new ≡ map (first_raised segment) errors.old }
@@ -147,7 +147,7 @@ fn raise_first(errors: &mut [Levelled], segment: u32)
     raise_part(&mut errors[from..to]);
 }
 
-// Tells the errors at the last segment of a group of that group, where it is a UNE.
+// Reports the errors at the last segment of a group for that group, where it is a UNE.
 fn raise_last(errors: &mut [Levelled], segment: u32)
     requires { IsNonDecreasingBy segment_of errors.old }
     ensures { errors.new ≡ map (last_raised segment) errors.old }
@@ -172,7 +172,7 @@ fn raise_closing(errors: &mut [Levelled])
     }
 }
 
-// Told of a group, unless its kind tells of the interchange.
+// Reported for a group, unless its kind tells of the interchange.
 fn raised_to_group(x: Levelled) -> Levelled
     ensures { result ≡ part_raised x }
 {
@@ -201,7 +201,7 @@ fn is_une(tag: Option<Tag>) -> bool
     matches!(tag, Some(tag) if tag == UNE)
 }
 
-// Tells the errors at the segments of a message of that message, except those of the interchange and of groups.
+// Reports the errors at the segments of a message for that message, except those of the interchange and of groups.
 fn raise_to_message(errors: &mut [Levelled], message: &MessageHead)
     requires { IsNonDecreasingBy segment_of errors.old }
     ensures { errors.new ≡ map (message_raised message.now) errors.old }
@@ -218,7 +218,7 @@ fn raise_lower(errors: &mut [Levelled])
     }
 }
 
-// Told of a message, unless its kind tells of the interchange or of a group.
+// Reported for a message, unless its kind tells of the interchange or of a group.
 fn raised_to_message(x: Levelled) -> Levelled
     ensures { result ≡ lower_raised x }
 {

@@ -1,4 +1,4 @@
-//! What is told below an interchange that is acknowledged: the answers to groups, and the reports of messages.
+//! What is reported below an interchange that is acknowledged: the answers to groups, and the reports of messages.
 ghost use Rattle.std.specs.Prelude.{◌≡◌, ◌∷◌, [], OnOk, map};
 ghost use Rattle.std.specs.List.{list_any};
 ghost use Rattle.std.specs.Option.{option_copied};
@@ -21,7 +21,7 @@ use std::alloc::{AllocError, Global};
 
 const UCF: Tag = Tag { octets: *b"UCF" };
 
-/// Puts all that is told below an interchange that is acknowledged, as far as it is put.
+/// Puts all that is reported below an interchange that is acknowledged, as far as it is put.
 pub(crate) fn put_lower(
     alloc: Global,
     out: &mut Lower,
@@ -104,7 +104,7 @@ fn have_error(errors: &LevelledErrors, members: &[Member<'_>]) -> bool
         .any(|member| has_error(errors, member.message))
 }
 
-// Whether a message has an error that is told of it.
+// Whether a message has an error that is reported for it.
 fn has_error(errors: &LevelledErrors, message: &MessageHead) -> bool
     ensures { result ≡ has_told errors.now message.now }
 {

@@ -1,10 +1,10 @@
-//! At which level of an acknowledgement an error is told.
+//! At which level of an acknowledgement an error is reported.
 ghost use Rattle.std.specs.Prelude.{◌≡◌};
 ghost use Rattle.contrl_writer.specs.Levels.{is_of_group as is_of_group_in_table, is_of_interchange as is_of_interchange_in_table};
 
 use error_ledger::{ErrorLine, Kind};
 
-/// What an error is told of: the interchange, a functional group, or a message.
+/// What an error is reported for: the interchange, a functional group, or a message.
 #[derive(Clone, Copy, Debug, PartialEq, Eq)]
 pub enum ErrorLevel {
     Interchange,
@@ -30,14 +30,14 @@ pub struct Levelled {
     pub level: ErrorLevel,
 }
 
-/// Whether errors of a kind are told of the interchange, wherever they are.
+/// Whether errors of a kind are reported for the interchange, wherever they are.
 pub(crate) fn is_of_interchange(kind: Kind) -> bool
     ensures { result ≡ is_of_interchange_in_table kind }
 {
     kind.number() <= 10
 }
 
-/// Whether errors of a kind are told of a functional group, wherever they are.
+/// Whether errors of a kind are reported for a functional group, wherever they are.
 pub(crate) fn is_of_group(kind: Kind) -> bool
     ensures { result ≡ is_of_group_in_table kind }
 {

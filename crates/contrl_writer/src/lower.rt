@@ -9,7 +9,7 @@ use edi_tables::{Chunk, Tag};
 use error_ledger::ErrorLine;
 use std::alloc::AllocError;
 
-/// The most segments that are told below an interchange.
+/// The most segments that are reported below an interchange.
 const MOST_LOWER: u32 = 99_000;
 
 /// The text so far, and how many more segments are put.
@@ -57,7 +57,7 @@ impl Lower {
         Ok(())
     }
 
-    /// Puts the answer to a group or a message, with the error that it is rejected for, where one is told.
+    /// Puts the answer to a group or a message, with the error that it is rejected for, if one is given.
     pub(crate) fn put_answer(
         &mut self,
         tag: Tag,

@@ -28,7 +28,7 @@ const MOST_BLOCKS: usize = 999;
 /// The most UCD of a block.
 const MOST_DETAILS: usize = 99;
 
-/// The greatest position of a segment that is told.
+/// The greatest position of a segment that is reported.
 const LAST_POSITION: u32 = 999_999;
 
 /// Puts the report of a message, of which these are the errors at its segments.
@@ -230,7 +230,7 @@ fn put_detail(out: &mut Lower, x: &Levelled, left: usize) -> Result<usize, Alloc
     Ok(left - 1)
 }
 
-// Whether an error is told of a message as a whole.
+// Whether an error is reported for a message as a whole.
 fn is_whole(x: &Levelled) -> bool
     ensures { result ≡ is_whole_of x.now }
 {
@@ -238,14 +238,14 @@ fn is_whole(x: &Levelled) -> bool
         && matches!(x.error.kind, Kind::NoTable | Kind::Reference | Kind::Count)
 }
 
-// Whether an error is told of a segment of a message as a whole.
+// Whether an error is reported for a segment of a message as a whole.
 fn is_head(x: &Levelled) -> bool
     ensures { result ≡ is_head_of x.now }
 {
     ErrorLevel::Message.is(x.level) && x.error.kind.is_of_segment()
 }
 
-// Whether an error is told of an element of a message.
+// Whether an error is reported for an element of a message.
 fn is_detail(x: &Levelled) -> bool
     ensures { result ≡ is_detail_of x.now }
 {

@@ -84,7 +84,7 @@ fn put_message(
     Ok(text)
 }
 
-// Puts what is told below an interchange, which is nothing where it is rejected for an error.
+// Puts what is reported below an interchange, which is nothing where it is rejected for an error.
 fn put_below(
     alloc: Global,
     out: &mut Lower,

@@ -1,4 +1,4 @@
--- Names that stand once.
+-- Names that occur once.
 use Rattle.std.proofs.Common.{◌≡◌, ℕ, ◌⊎◌, inl, inr, Bool, true, false, ◌||◌, List, [], ◌∷◌, ◌++◌, sym, ap, ◌∙◌, refl, cond, Option, Some, None, true≢false}
 use Rattle.std.specs.List.{flat_map, list_any}
 use Rattle.std.specs.Str.{bytes_eq}
@@ -13,7 +13,7 @@ use Rattle.dir_compile.proofs.Faults.{nil-left, nil-right, nil-both, when-nil}
 use Rattle.dir_compile.proofs.Twice.{twice_fault}
 use Rattle.dir_compile.proofs.AscendingLemmas.{Has, HasSame, IsApart}
 
--- a member of two lists, one behind the other
+-- a member of two lists, one after the other
 pub Has-left : {A : Type 0} (xs ys : List A) (z : A) → Has xs z → Has (xs ++ ys) z
 Has-left [] ys z h = absurd h
 Has-left (x ∷ xs) ys z (inl e) = inl e
@@ -46,7 +46,7 @@ passes-none : {A : Type 0} (test : A → Bool) (xs : List A) → ((z : A) → Ha
 passes-none test [] h = refl
 passes-none test (x ∷ xs) h = ap (λ b. b || list_any test xs) (h x (inl refl)) ∙ passes-none test xs (λ z k. h z (inr k))
 
--- where none of xs stands twice behind those before it, its names differ from these
+-- where none of xs occurs among those before it, its names differ from these
 differ-earlier : {A : Type 0} (name : A → List ℕ) (earlier xs : List A) → flat_map (twice_fault name) (with_earlier_from earlier xs) ≡ [] → (e y : A) → Has earlier e → Has xs y → bytes_eq (name e) (name y) ≡ false
 differ-earlier name earlier [] none e y h k = absurd k
 differ-earlier name earlier (x ∷ xs) none e y h (inl f) =
@@ -62,7 +62,7 @@ apart-behind name earlier (x ∷ xs) none =
       apart-behind name (earlier ++ x ∷ []) xs rest,
     )
 
--- no fault of standing twice, and names that differ, are the same
+-- no fault of occurring twice, and names that differ, are the same
 pub apart-from-none : {A : Type 0} (name : A → List ℕ) (xs : List A) → twice_in name xs ≡ [] → IsApart name xs
 apart-from-none name xs none = apart-behind name [] xs none
 

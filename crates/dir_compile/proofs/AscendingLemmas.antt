@@ -17,7 +17,7 @@ abbrev pub Has : {A : Type 0} → List A → A → Type 0
 Has [] x = ⊥
 Has (y ∷ ys) x = (x ≡ y) ⊎ Has ys x
 
--- each member's name stands before the names behind it
+-- each member's name comes before the names after it
 abbrev pub IsAscending : {A : Type 0} → (A → List ℕ) → List A → Type 0
 IsAscending name [] = Unit {0}
 IsAscending {A} name (x ∷ xs) = ((y : A) → Has xs y → is_before (name x) (name y) ≡ true) × IsAscending name xs
@@ -27,7 +27,7 @@ pub record HasSame {A : Type 0} (xs ys : List A) : Type 0 where
   pub there : (x : A) → Has xs x → Has ys x
   pub back : (x : A) → Has ys x → Has xs x
 
--- each member's name differs from those behind it
+-- each member's name differs from those after it
 abbrev pub IsApart : {A : Type 0} → (A → List ℕ) → List A → Type 0
 IsApart name [] = Unit {0}
 IsApart {A} name (x ∷ xs) = ((y : A) → Has xs y → bytes_eq (name x) (name y) ≡ false) × IsApart name xs
@@ -68,7 +68,7 @@ same-ascending_by name (x ∷ xs) =
       back = λ z h. elim (Has-put name x (ascending_by name xs) z h) [ inl e ↦ inl e | inr k ↦ inr (rest.back z k) ];
     }
 
--- the two places of an item that is put before a list or behind its head
+-- the two places of an item that is put before a list or after its head
 put-ascending-at : {A : Type 0} (b : Bool) (name : A → List ℕ) (x y : A) (ys : List A) → is_before (name y) (name x) ≡ b → IsAscending name (y ∷ ys) → ((z : A) → Has (y ∷ ys) z → bytes_eq (name x) (name z) ≡ false) → IsAscending name (put_in_order name x ys) → IsAscending name (if b then y ∷ put_in_order name x ys else x ∷ y ∷ ys)
 put-ascending-at true name x y ys e p q rec =
     (λ z h. elim (Has-put name x ys z h) [ inl f ↦ subst (λ w. is_before (name y) (name w) ≡ true) (sym f) e | inr k ↦ p.0 z k ], rec)
@@ -122,7 +122,7 @@ same-from-permutation xs ys p = record {
   back = λ x h. Has-from-Contains xs x (Contains-permutation ys xs x (IsPermutation-sym xs ys p) (Contains-from-Has ys x h));
 }
 
--- a list in which no name stands before that of a member in front, and names differ, is ascending
+-- a list in which no name comes before that of a member in front, and names differ, is ascending
 ascending-from-far : {A : Type 0} (name : A → List ℕ) (ys : List A) → ((i j : ℕ) (d : A) → i ≤ j → j < length ys → is_before (name (get_or ys j d)) (name (get_or ys i d)) ≡ false) → IsApart name ys → IsAscending name ys
 ascending-from-far name [] far p = tt
 ascending-from-far name (x ∷ ys) far p = (

@@ -23,7 +23,7 @@ nil-right (x ∷ xs) ys e = cc
 pub nil-both : {A : Type 0} (xs ys : List A) → xs ≡ [] → ys ≡ [] → xs ++ ys ≡ []
 nil-both xs ys a b = subst (λ l. l ++ ys ≡ []) (sym a) b
 
--- no fault is told where the rule isn't broken
+-- no fault is reported where the rule isn't broken
 pub when-nil : {A : Type 0} (broken : Bool) (x : A) → when broken x ≡ [] → broken ≡ false
 when-nil true x e = cc
 when-nil false x e = refl
@@ -45,7 +45,7 @@ pub first-stop : (stop : CompileStop) (kind : CompileKind) (name : List ℕ) (xs
 first-stop (Fault k n) kind name xs h e = e ∙ (λ i. Some (fault_with (sym h.0 i) (sym h.1 i)))
 first-stop Memory kind name xs h e = tt
 
--- a list is what stands before a place, what stands there, and the rest
+-- a list is what comes before a place, what is there, and the rest
 pub split_at : {A : Type 0} (xs : List A) (i : ℕ) (d : A) → i < length xs → xs ≡ take i xs ++ get_or xs i d ∷ drop (i + 1) xs
 split_at xs i d lt = sym (take-append-drop i xs) ∙ ap (λ l. take i xs ++ l) (drop_more xs i d lt)
 
@@ -60,7 +60,7 @@ first_there f stop xs i d lt before here =
 pub judges-same : {T : Type 0} (r : Result T CompileStop) (xs ys : List PartsFault) → xs ≡ ys → Judges r xs → Judges r ys
 judges-same r xs ys e h = subst (Judges r) e h
 
--- the exit of a loop of judges: the stop that is handed on tells the first fault of the whole list
+-- the exit of a loop of judges: the stop that is handed on reports the first fault of the whole list
 pub judges_there : {X T : Type 0} (f : X → List PartsFault) (r : Result T CompileStop) (stop told : CompileStop) (xs : List X) (i : ℕ) (x : X) → i < length xs → x ≡ get_or xs i x → flat_map f (take i xs) ≡ [] → IsFirstFault told (f x) → r ≡ Err stop → stop ≡ told → Judges r (flat_map f xs)
 judges_there f r stop told xs i x lt here before first is same =
     let told_there : IsFirstFault told (f (get_or xs i x)) = subst (λ y. IsFirstFault told (f y)) here first in

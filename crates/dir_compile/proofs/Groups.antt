@@ -7,7 +7,7 @@ use Rattle.dir_compile.specs.Compile.{twice_in, twice_faults, list_faults, compo
 use Rattle.dir_compile.specs.Judges.{reference_faults}
 use Rattle.dir_compile.proofs.Faults.{nil-left, nil-right, nil-both}
 
--- nothing stands twice
+-- nothing occurs twice
 pub record IsTwiceFree (parts : Parts) : Type 0 where
   pub elements : twice_in element_name parts.elements ≡ []
   pub lists : twice_in list_name parts.lists ≡ []

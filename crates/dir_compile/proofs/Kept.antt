@@ -9,7 +9,7 @@ module _ {A B C : Type 0} (f : A → C) (g : B → C) (xs : List A) (ys : List B
   pub within-kept : i < length ys → i < length xs
   within-kept lt = subst (λ n. i < n) (sym (length-map ys g) ∙ ap length (sym same) ∙ length-map xs f) lt
 
-  -- what stands there in the one tells what stands there in the other
+  -- what is there in the one says what is there in the other
   pub kept-at : (x : A) → i < length xs → x ≡ get_or xs i x → option_map g (slice_get ys i) ≡ Some (f x)
   kept-at x lt here =
       sym (slice_get-map g ys i) ∙ ap (λ l. slice_get l i) (sym same) ∙ slice_get-map f xs i ∙ ap (option_map f) (slice_get_read xs (length xs) i x refl lt here)

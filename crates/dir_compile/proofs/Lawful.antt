@@ -75,7 +75,7 @@ module _ (parts : Parts) (free : IsFaultFree parts) where
       let given = none-at (λ l. twice_in value_name l.values) parts.lists free.twice.listed m.0 ((same-ascending_by list_name parts.lists).back m.0 m.1) in
       subst (λ l. IsAscending value_name l.values) (sym m.2) (ascending_by-ascending value_name m.0.values (apart-from-none value_name m.0.values given))
 
-  -- nothing stands twice in the ordered parts
+  -- nothing occurs twice in the ordered parts
   ordered-twice : IsTwiceFree (ordered_parts parts)
   unfolding ordered_parts
   ordered-twice = record {

@@ -22,7 +22,7 @@ use Rattle.dir_compile.proofs.Lawful.{ordered-faultless, ordered-in-order}
 use Rattle.dir_compile.proofs.Formed.{forms-ordered}
 use Rattle.dir_compile.proofs.Orders.{ordered_parts-ordered}
 
--- parts that a stop is told of
+-- parts of which a fault is reported
 unless_faulty-err : {A : Type 0} (faults : List PartsFault) (x : A) (fault : PartsFault) → slice_get faults 0 ≡ Some fault → unless_faulty faults x ≡ Err fault
 unless_faulty-err [] x fault h = cc
 unless_faulty-err (f ∷ faults) x fault h = ap Err (same_Some f fault h)

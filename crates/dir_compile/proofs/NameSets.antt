@@ -32,11 +32,11 @@ pub record IsSeenAt {K : Type 0} (view : K → List ℕ) (names : List (List ℕ
   pub placed : map view keys ≡ take i names
 
 module _ {K : Type 0} (view : K → List ℕ) (names : List (List ℕ)) (i : ℕ) (keys : List K) (k : K) (seen : IsSeenAt view names i keys k) where
-  -- what the set tests is whether the name stands before
+  -- what the set tests is whether the name occurs before
   tested : list_any (λ y. bytes_eq (view k) (view y)) keys ≡ list_any (λ x. bytes_eq x (view k)) (take i names)
   tested = list_any-view view (bytes_eq (view k)) keys ∙ ap (list_any (bytes_eq (view k))) seen.placed ∙ list_any-flip (take i names) (view k)
 
-  -- a name that isn't added is the first that stands twice
+  -- a name that isn't added is the first that occurs twice
   pub first-seen : (stop : CompileStop) (added : Bool) → twice_in value_name (take i names) ≡ [] → added ≡ not (list_any (λ y. bytes_eq (view k) (view y)) keys) → added ≡ false → IsStopAt Twice (view k) stop → IsFirstFault stop (twice_in value_name names)
   first-seen stop added apart answers old at =
       let there : list_any (λ x. bytes_eq x (view k)) (take i names) ≡ true = sym tested ∙ not-false _ (sym old ∙ answers) in
@@ -61,7 +61,7 @@ module _ {K : Type 0} (view : K → List ℕ) (names : List (List ℕ)) (i : ℕ
       let absent : list_any (λ y. bytes_eq (view k) (view y)) keys ≡ false = tested ∙ subst (λ n. list_any (λ x. bytes_eq x n) (take i names) ≡ false) (sym seen.here) (fresh-at value_name names i (view k) seen.within none) in
       placed-last new (kept ∙ ap (λ b. if b then keys else keys ++ k ∷ []) absent)
 
-  -- and no name stands twice up to the next place
+  -- and no name occurs twice up to the next place
   pub apart-seen : (added : Bool) → twice_in value_name (take i names) ≡ [] → added ≡ not (list_any (λ y. bytes_eq (view k) (view y)) keys) → added ≡ true → twice_in value_name (take (i + 1) names) ≡ []
   apart-seen added apart answers fresh =
       let absent : list_any (λ x. bytes_eq x (view k)) (take i names) ≡ false = sym tested ∙ not-true _ (sym fresh ∙ answers) in

@@ -101,7 +101,7 @@ message-nowhere messages name six other =
     let at = Contains-from-Has messages m h in
     differ-long (message_name m) name (subst (λ x. length (message_name x) ≡ 6) at.2 (six at.0 m at.1)) other)
 
--- the name of a table behind the first
+-- the name of a table after the first
 pub name-behind : (parts : Parts) (i : ℕ) (m : MessageDef) → i ≢ 0 → i - 1 < length parts.messages → m ≡ get_or parts.messages (i - 1) m → option_map (λ table. table.name) (slice_get (table_names parts) i) ≡ Some (message_name m)
 name-behind parts zero m some lt here = absurd (some refl)
 name-behind parts (suc k) m some lt here =

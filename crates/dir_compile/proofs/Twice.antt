@@ -1,4 +1,4 @@
--- Names that stand twice.
+-- Names that occur twice.
 use Rattle.std.proofs.Common.{◌≡◌, ℕ, ◌+◌, ◌<◌, Bool, true, false, ◌||◌, List, [], ◌∷◌, ◌++◌, length, get_or, slice_get, take, drop, map, Some, sym, ap, ◌∙◌, refl}
 use Rattle.std.specs.List.{flat_map, list_any}
 use Rattle.std.specs.Str.{bytes_eq}
@@ -12,7 +12,7 @@ use Rattle.dir_compile.specs.Compile.{twice_in, value_name}
 use Rattle.dir_compile.specs.Stop.{PartsFault, fault_with}
 use Rattle.dir_compile.proofs.Faults.{nil-left, nil-right, nil-both, when-nil, split_at}
 
--- the earlier members of two lists, one behind the other
+-- the earlier members of two lists, one after the other
 pub with_earlier_from-append : {A : Type 0} (earlier xs ys : List A) → with_earlier_from earlier (xs ++ ys) ≡ with_earlier_from earlier xs ++ with_earlier_from (earlier ++ xs) ys
 with_earlier_from-append earlier [] ys = ap (λ l. with_earlier_from l ys) (sym (append-nil earlier))
 with_earlier_from-append earlier (x ∷ xs) ys =
@@ -38,7 +38,7 @@ twice_in-more name xs i d lt before apart =
     ∙ nil-both (twice_in name front) (twice_fault name (front, x) ++ []) before
     (append-nil (twice_fault name (front, x)) ∙ ap (λ b. when b (fault_with Twice (name x))) apart)
 
--- the first that stands among those before it
+-- the first that is among those before it
 pub first-twice_in : {A : Type 0} (name : A → List ℕ) (xs : List A) (i : ℕ) (d : A) → i < length xs → twice_in name (take i xs) ≡ [] → list_any (λ x. bytes_eq (name x) (name (get_or xs i d))) (take i xs) ≡ true → slice_get (twice_in name xs) 0 ≡ Some (fault_with Twice (name (get_or xs i d)))
 first-twice_in name xs i d lt before there =
     let x = get_or xs i d in
@@ -60,7 +60,7 @@ pub list_any-flip : (xs : List (List ℕ)) (y : List ℕ) → list_any (bytes_eq
 list_any-flip [] y = refl
 list_any-flip (x ∷ xs) y = λ i. (nat_list_eq_equiv.symm y x i) || (list_any-flip xs y i)
 
--- names stand twice where their definitions do
+-- names occur twice where their definitions do
 list_any-map : {A : Type 0} (name : A → List ℕ) (test : List ℕ → Bool) (xs : List A) → list_any test (map name xs) ≡ list_any (λ x. test (name x)) xs
 list_any-map name test [] = refl
 list_any-map name test (x ∷ xs) = ap (λ b. test (name x) || b) (list_any-map name test xs)

@@ -26,7 +26,7 @@ pub record IsDirectory (parts : Parts) : Type 0 where
   pub faultless : compile_faults parts ≡ []
   pub ordered : IsInOrder parts
 
--- parts stand for a directory where they have no fault, which is then the parts in order; else for the first fault
+-- parts give a directory where they have no fault, which is then the parts in order; else their first fault
 unfoldable pub directory_of : Parts → Result Parts PartsFault
 directory_of parts = unless_faulty (compile_faults parts) (ordered_parts parts)
 
@@ -34,25 +34,27 @@ directory_of parts = unless_faulty (compile_faults parts) (ordered_parts parts)
 abbrev pub tables_of : Parts → List (List Node)
 tables_of parts = nodes_of contrl_table_rows ∷ map (λ message. nodes_of message.rows) parts.messages
 
--- the names of the tables: message, version, release, agency
+-- the name of a table: message, version, release, agency
 pub record TableName : Type 0 where
   pub name : Octets
   pub version : Octets
   pub release : Octets
   pub agency : Octets
 
--- CONTRL's table
+-- the name of CONTRL's table
 abbrev pub contrl_name : TableName
 contrl_name = record { name = codes "CONTRL"; version = codes "D"; release = codes "3"; agency = codes "UN" }
 
--- the table of a message of these parts
+-- the name of the table of a message of these parts
 abbrev pub message_table : Parts → MessageDef → TableName
 message_table parts message =
     record { name = message_name message; version = parts.version; release = parts.release; agency = parts.agency }
 
+-- the names of a directory's tables, in the order of the tables: CONTRL's, and one a message
 abbrev pub table_names : Parts → List TableName
 table_names parts = contrl_name ∷ map (message_table parts) parts.messages
 
+-- a table has these four names
 abbrev pub is_table_named : Octets → Octets → Octets → Octets → TableName → Bool
 is_table_named name version release agency table =
     bytes_eq table.name name && bytes_eq table.version version

@@ -5,7 +5,7 @@ use Rattle.dir_compile.specs.declared.parts.Parts.{Parts}
 use Rattle.dir_compile.specs.declared.stop.CompileStop.{CompileStop}
 use Rattle.dir_compile.specs.Compile.{list_faults, composite_faults, segment_faults, message_faults}
 
--- a stop tells the first of these faults, unless memory ran out
+-- a stop reports the first of these faults, unless memory ran out
 abbrev pub IsFirstFault : CompileStop → List PartsFault → Type 0
 IsFirstFault stop faults = IfSome (fault_in stop) (λ fault. slice_get faults 0 ≡ Some fault)
 

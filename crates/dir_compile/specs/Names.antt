@@ -4,7 +4,7 @@ use Rattle.dir_compile.specs.declared.parts.Parts.{Parts}
 use Rattle.dir_compile.specs.declared.names.Names.{Names}
 use Rattle.dir_compile.specs.Compile.{element_name, list_name, composite_name, segment_name, message_name}
 
--- each name stands at the place of its definition
+-- each name is at the place of its definition
 pub record IsNamesOf (names : Names) (parts : Parts) : Type 0 where
   pub elements : names.elements.keys ≡ map element_name parts.elements
   pub lists : names.lists.keys ≡ map list_name parts.lists

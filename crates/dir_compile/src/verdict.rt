@@ -9,7 +9,7 @@ use crate::parts::Parts;
 use crate::stop::CompileStop;
 use std::alloc::Global;
 
-/// Finds the first fault of the parts: a name that stands twice, or else a definition that names something that isn't
+/// Finds the first fault of the parts: a name that occurs twice, or else a definition that names something that isn't
 /// there, or is none that a directory can have.
 pub(crate) fn judge_parts(alloc: Global, parts: &Parts) -> Result<(), CompileStop>
     requires { HasForms parts.now }

@@ -21,16 +21,16 @@ use Rattle.dir_lists.specs.Codes as codes
 
 -- ---- data elements
 
-repr_behind_word-formed : (fields : List (List ℕ)) → passes_if_made is_repr_formed (elements.repr_behind_word fields) ≡ true
-repr_behind_word-formed [] = refl
-repr_behind_word-formed (word ∷ []) = refl
-repr_behind_word-formed (word ∷ field ∷ []) = repr_in-formed field
-repr_behind_word-formed (word ∷ field ∷ next ∷ fields) = refl
+repr_after_word-formed : (fields : List (List ℕ)) → passes_if_made is_repr_formed (elements.repr_after_word fields) ≡ true
+repr_after_word-formed [] = refl
+repr_after_word-formed (word ∷ []) = refl
+repr_after_word-formed (word ∷ field ∷ []) = repr_in-formed field
+repr_after_word-formed (word ∷ field ∷ next ∷ fields) = refl
 
 repr_of_entry-formed : (lines : List Line) → passes_if_made is_repr_formed (elements.repr_of_entry lines) ≡ true
 repr_of_entry-formed [] = refl
 repr_of_entry-formed (line ∷ lines) =
-    formed-if (elements.is_repr_line line) (elements.repr_of_line line) (elements.repr_of_entry lines) (repr_behind_word-formed (fields_of line.octets)) (repr_of_entry-formed lines)
+    formed-if (elements.is_repr_line line) (elements.repr_of_line line) (elements.repr_of_entry lines) (repr_after_word-formed (fields_of line.octets)) (repr_of_entry-formed lines)
 
 element_with-formed : (entry : List Line) (repr : Option Repr) → is_element_code (head_field entry) ≡ true → passes_if_made is_repr_formed repr ≡ true → passes_if_made is_element_formed (elements.element_with entry repr) ≡ true
 element_with-formed entry None code is = refl

@@ -56,7 +56,7 @@ abbrev pub list_of : List Line → CodeList
 list_of [] = record { element = code_of []; values = [] }
 list_of (head ∷ body) = record { element = code_of (head ∷ body); values = values_of body }
 
--- a code file stands for one list an entry, or for its first fault
+-- what a code file gives: a code list for each entry, or its first fault
 unfoldable pub codes_in : Octets → Result (List CodeList) DirFault
 codes_in file =
     let entries = entries_of (lines_of file) in

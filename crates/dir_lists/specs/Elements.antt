@@ -17,13 +17,14 @@ use Rattle.edi_octets.specs.Head.{head_faults, code_of}
 abbrev pub is_repr_line : Line → Bool
 is_repr_line line = begins_with_word (codes "Repr:") (fields_of line.octets)
 
--- the representation of such a line: it has one further field, which is one
-abbrev pub repr_behind_word : List Octets → Option Repr
-repr_behind_word (word ∷ field ∷ []) = repr_in field
-repr_behind_word fields = None
+-- the representation after the word `Repr:`, which exactly one field follows
+abbrev pub repr_after_word : List Octets → Option Repr
+repr_after_word (word ∷ field ∷ []) = repr_in field
+repr_after_word fields = None
 
+-- the representation on a `Repr:` line, if there is one
 abbrev pub repr_of_line : Line → Option Repr
-repr_of_line line = repr_behind_word (fields_of line.octets)
+repr_of_line line = repr_after_word (fields_of line.octets)
 
 -- a line of an entry after these: a second `Repr:` line, or one without a representation; all other lines are text
 abbrev pub body_faults : List Line → Line → List DirFault
@@ -43,20 +44,22 @@ element_faults earlier (head ∷ body) =
     head_faults is_element_code earlier head
     ++ flat_map (λ p. body_faults p.0 p.1) (with_earlier body) ++ end_faults head body
 
--- the data element of an entry
+-- the data element of an entry with this representation
 abbrev pub element_with : List Line → Option Repr → Option ElementDef
 element_with entry None = None
 element_with entry (Some repr) = Some (record { code = code_of entry; repr = repr })
 
+-- the representation on the first `Repr:` line of these lines
 abbrev pub repr_of_entry : List Line → Option Repr
 repr_of_entry [] = None
 repr_of_entry (line ∷ lines) = if is_repr_line line then repr_of_line line else repr_of_entry lines
 
+-- the data element of an entry: the code on its head, and the representation on the lines after it
 abbrev pub element_of : List Line → Option ElementDef
 element_of [] = None
 element_of (head ∷ body) = element_with (head ∷ body) (repr_of_entry body)
 
--- an element file stands for one data element an entry, or for its first fault
+-- what an element file gives: a data element for each entry, or its first fault
 unfoldable pub elements_in : Octets → Result (List ElementDef) DirFault
 elements_in file =
     let entries = entries_of (lines_of file) in

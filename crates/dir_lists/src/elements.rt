@@ -8,7 +8,7 @@ ghost use Rattle.edi_octets.specs.Head.{head_field};
 ghost use Rattle.edi_octets.specs.Left.{line_shown, cells_left, body_left, entry_shown};
 ghost use Rattle.edi_octets.specs.Lines.{Line};
 ghost use Rattle.edi_octets.specs.Profile.{with_earlier};
-ghost use Rattle.dir_lists.specs.Elements.{elements_in, element_faults, element_of, body_faults, end_faults, is_repr_line, repr_behind_word, repr_of_entry};
+ghost use Rattle.dir_lists.specs.Elements.{elements_in, element_faults, element_of, body_faults, end_faults, is_repr_line, repr_after_word, repr_of_entry};
 ghost use Rattle.edi_octets.specs.declared.octets.TheConstants.{LONGEST_TEXT};
 
 use crate::head::read_head;
@@ -84,9 +84,9 @@ fn read_line(line: &LineText<'_>, found: Option<Repr>) -> Result<Option<Repr>, D
     }
 }
 
-/// The representation that the one field behind a line's first word is.
+/// The representation that the one field after a line's first word is.
 fn read_behind_word(fields: Cells<'_>) -> Option<Repr>
-    ensures { result ≡ repr_behind_word (cells_left fields.entry) }
+    ensures { result ≡ repr_after_word (cells_left fields.entry) }
 {
     let mut fields = fields;
     match (fields.next(), fields.next(), fields.next()) {

@@ -24,7 +24,7 @@ pub Answers-and_then : {X Y A B E F : Type 0} (view : X → A) (shown : Y → B)
 Answers-and_then view shown fault_in stop part next given =
     Answers-stopped view shown fault_in stop part (and_then part next) (λ fault is. ap (λ r. and_then r next) is) given
 
--- a stop at the file of that name tells the file's refusal
+-- a stop at the file of that name reports the file's refusal
 pub Answers-at_file : {X Y A : Type 0} (view : X → A) (shown : Y → A) (name : List ℕ) (read : FileStop) (stop : LoadStop) (file : Result A FileFault) → IsStopAt name read stop → IsVerdict view file_fault_in (Err read) file → IsVerdict shown refusal_in (Err stop) (map_err (File name) file)
 Answers-at_file view shown name (file.Refused fault) (Refused refusal) due is given = rw (given, is) refl
 Answers-at_file view shown name (file.Refused fault) Fault due is given = absurd is

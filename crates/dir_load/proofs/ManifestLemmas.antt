@@ -8,7 +8,7 @@ use Rattle.edi_octets.specs.Profile.{with_earlier}
 use Rattle.edi_octets.specs.declared.labels.Labels.{Labels}
 use Rattle.dir_load.specs.Manifest.{is_counted, words_of, labels_on, file_faults, files_on, manifest_in, manifest_on, manifest_with}
 
--- the later lines tell the files
+-- the later lines name the files
 pub manifest_in-labels : (octets : List ℕ) (head : Line) (rest : List Line) (labels : Labels) → filter is_counted (lines_of octets) ≡ head ∷ rest → labels_on (words_of head) ≡ Some labels
     → manifest_in octets ≡ unless_faulty (flat_map (λ p. file_faults p.0 p.1) (with_earlier rest)) (record { labels = labels; files = files_on rest })
 unfolding manifest_in

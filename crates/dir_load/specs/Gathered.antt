@@ -30,7 +30,7 @@ joined before after = record {
   messages = before.messages ++ after.messages;
 }
 
--- what was read is put after what was there; or a stop tells why nothing was read, or memory ran out
+-- what was read is put after what was there; or a stop says why nothing was read, or memory ran out
 abbrev pub Appends : {A : Type 0} → Result (Vec A Global) DirStop → List A → List A → Result Unit FileStop → Type 0
 Appends (Ok found) before now (Ok done) = now ≡ before ++ found.items
 Appends (Ok found) before now (Err stop) = stop ≡ Memory

@@ -61,6 +61,7 @@ pub record Found : Type 0 where
   pub segments : List SegmentDef
   pub messages : List MessageDef
 
+-- no definitions of any kind
 abbrev pub nothing : Found
 nothing = record { elements = []; lists = []; composites = []; segments = []; messages = [] }
 

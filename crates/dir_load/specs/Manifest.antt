@@ -26,14 +26,15 @@ words_of line = pieces_in line.octets
 abbrev pub is_counted : Line → Bool
 is_counted line = not (list_all (λ x. x == 32) line.octets)
 
--- the first line: `directory` and three labels
+-- the labels of four words: they are the three after `directory`
 abbrev pub labels_with : Octets × Octets × Octets × Octets → Option Labels
 labels_with w = if bytes_eq w.0 (codes "directory") then labels_of (w.1, w.2, w.3) else None
 
+-- the first line: `directory` and three labels
 abbrev pub labels_on : List Octets → Option Labels
 labels_on words = option_and_then labels_with (four_of words)
 
--- a kind of file
+-- the kind of file that a word names
 abbrev pub kind_named : Octets → Option FileKind
 kind_named word =
     if bytes_eq word (codes "elements") then Some Elements
@@ -50,6 +51,7 @@ kind_place_of Composites = 2
 kind_place_of Segments = 3
 kind_place_of Message = 4
 
+-- the file of this name and kind, if it is a kind and the name is one that a file may have
 abbrev pub file_with : Octets → Option FileKind → Option FileLine
 file_with name None = None
 file_with name (Some kind) = if is_name_of name then Some (record { kind = kind; name = name }) else None
@@ -84,11 +86,13 @@ file_faults earlier line =
 abbrev pub faults_on : List Line → List DirFault
 faults_on lines = flat_map (λ p. file_faults p.0 p.1) (with_earlier lines)
 
+-- the manifest of these labels and the files of the later lines; where the labels are missing, the head is at fault
 abbrev pub manifest_with : Option Labels → Line → List Line → Result Manifest DirFault
 manifest_with None head lines = Err (at_line BadLine head)
 manifest_with (Some labels) head lines =
     unless_faulty (faults_on lines) (record { labels = labels; files = files_on lines })
 
+-- the manifest of lines: the first has the labels, and each later one a file; without a line it has a fault at line 0
 abbrev pub manifest_on : List Line → Result Manifest DirFault
 manifest_on [] = Err (record { line = 0; kind = BadLine })
 manifest_on (head ∷ lines) = manifest_with (labels_on (words_of head)) head lines

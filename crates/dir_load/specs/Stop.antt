@@ -1,4 +1,4 @@
--- What a stop tells.
+-- What a stop says.
 use Rattle.std.specs.Prelude.{◌≡◌, Option, Some, None}
 use Rattle.edi_tables.specs.Octets.{Octets}
 use Rattle.edi_octets.specs.declared.fault.DirStop.{DirStop}
@@ -18,13 +18,13 @@ use Rattle.dir_load.specs.declared.stop.Refusal.TheVariants.{File, Parts, Store}
 use Rattle.dir_load.specs.declared.stop.LoadStop.{LoadStop}
 use Rattle.dir_load.specs.declared.stop.LoadStop.TheVariants.{Refused, Fault, Memory}
 
--- the refusal that a stop tells; a fault of the shelf and want of memory tell none
+-- the refusal that a stop reports; there is none where the shelf failed or memory ran out
 abbrev pub refusal_in : LoadStop → Option Refusal
 refusal_in (Refused refusal) = Some refusal
 refusal_in Fault = None
 refusal_in Memory = None
 
--- the same of a stop at one file
+-- the fault that a stop at one file reports; there is none where the shelf failed or memory ran out
 abbrev pub file_fault_in : FileStop → Option FileFault
 file_fault_in (file.Refused fault) = Some fault
 file_fault_in file.Fault = None

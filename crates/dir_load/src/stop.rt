@@ -24,7 +24,7 @@ pub enum Refusal {
     Store { name: Chunk, at: usize },
 }
 
-/// Why no directory was loaded: a refusal, or an accident that tells nothing of the files.
+/// Why no directory was loaded: a refusal, or an accident that says nothing of the files.
 #[derive(Debug, Drop, Error)]
 pub enum LoadStop {
     #[error("the files give no directory")]

@@ -38,7 +38,7 @@ counts_in-parts rest k is =
     let long : length (take k rest) ≡ k = length-take-le k rest (rw is (prefix_len-le-length is_digit rest)) in
     rw (long, is) (joined (nat_le 1 (prefix_len is_digit rest)) (nat_le (prefix_len is_digit rest) 6) (list_all is_tail_octet (drop (prefix_len is_digit rest) rest)) (λ max. record { max = max; ends = count_by (λ x. x == 43) (drop (prefix_len is_digit rest) rest) }) (digits_value 10 (take (prefix_len is_digit rest) rest)))
 
--- a text cut behind its digits
+-- a text cut after its digits
 pub counts_in-read : (text rest digits tail : List ℕ) (k : ℕ) → rest ≡ after_spaces text → digits ≡ take k rest → tail ≡ drop k rest → k ≡ prefix_len is_digit rest → counts_in (after_spaces text) ≡ (if list_all is_tail_octet tail then option_map (λ max. record { max = max; ends = count_by (λ x. x == 43) tail }) (count_in digits) else None)
 counts_in-read text rest digits tail k behind front back is =
     rw (front, back) (ap counts_in (sym behind) ∙ counts_in-parts rest k is)

@@ -11,7 +11,7 @@ use Rattle.edi_tables.specs.declared.segment.TableRow.{TableRow}
 use Rattle.edi_tables.specs.declared.table.RowFault.{RowFault}
 use Rattle.edi_tables.specs.declared.table.TableKind.{TableKind}
 use Rattle.edi_tables.specs.declared.table.TableKind.TheVariants.{NoUnhUnt, EnvelopeTag, BadMax, BadDepth, TooDeep, NoTrigger}
-use Rattle.edi_tables.specs.Rows.{is_group_row, breaks_frame, breaks_envelope, breaks_max, breaks_depth, breaks_trigger, depth_behind, row_before, is_trigger_row, when, row_faults, row_faults_at, table_faults}
+use Rattle.edi_tables.specs.Rows.{is_group_row, breaks_frame, breaks_envelope, breaks_max, breaks_depth, breaks_trigger, depth_after, row_before, is_trigger_row, when, row_faults, row_faults_at, table_faults}
 use Rattle.edi_tables.proofs.Faults.{first_of_nil, small_depth}
 use Rattle.edi_octets.specs.declared.fault.DirFault.{DirFault}
 use Rattle.edi_octets.specs.Lines.{Line}
@@ -45,7 +45,7 @@ kinds-are : (rows : List TableRow) (i : ℕ) (row : TableRow) → row_faults row
 unfolding kinds
 kinds-are rows i row = refl
 
--- behind a row that is too deep, its trigger doesn't matter
+-- after a row that is too deep, its trigger doesn't matter
 kinds-first : (frame envelope count depth deep old new : Bool) → (deep ≡ false → new ≡ old) → slice_get (kinds frame envelope count depth deep new) 0 ≡ slice_get (kinds frame envelope count depth deep old) 0
 unfolding kinds
 kinds-first true envelope count depth deep old new same = refl
@@ -85,7 +85,7 @@ group_few : (group : Bool) (depth : ℕ) → depth ≤ 16 → (if group then dep
 group_few true depth few = omega arith
 group_few false depth few = omega arith
 
-behind-held : (before : Option TableRow) → IsShallow before → (depth_behind (option_map held before) ≡ depth_behind before) × (depth_behind before < 255)
+behind-held : (before : Option TableRow) → IsShallow before → (depth_after (option_map held before) ≡ depth_after before) × (depth_after before < 255)
 unfolding IsShallow
 behind-held None few = (refl, omega arith)
 behind-held (Some row) few = (group_next (is_group_row row) row.depth few, group_few (is_group_row row) row.depth few)
@@ -115,8 +115,8 @@ module _ (rows : List TableRow) where
   depth-held : (i : ℕ) (row : TableRow) → IsShallow (row_before rows i) → breaks_depth all_held i (held row) ≡ breaks_depth rows i row
   depth-held i row few =
       let behind = behind-held (row_before rows i) few in
-      ap (λ (before : Option TableRow). nat_lt (depth_behind before) (min row.depth 255)) (before-held i)
-      ∙ ap (λ v. nat_lt v (min row.depth 255)) behind.0 ∙ less-held (depth_behind (row_before rows i)) row.depth behind.1
+      ap (λ (before : Option TableRow). nat_lt (depth_after before) (min row.depth 255)) (before-held i)
+      ∙ ap (λ v. nat_lt v (min row.depth 255)) behind.0 ∙ less-held (depth_after (row_before rows i)) row.depth behind.1
 
   next-held : (i : ℕ) (row : TableRow) → nat_lt 16 row.depth ≡ false → breaks_trigger all_held i (held row) ≡ breaks_trigger rows i row
   next-held i row shallow =
@@ -124,7 +124,7 @@ module _ (rows : List TableRow) where
       ap (λ (next : Option TableRow). is_group_row row && not (is_trigger_row (min row.depth 255) next)) (slice_get-map held rows (i + 1))
       ∙ ap (λ (trigger : Bool). is_group_row row && not trigger) (trigger-held row.depth (slice_get rows (i + 1)) few)
 
-  -- what a row behind one that isn't too deep breaks first
+  -- what a row after one that isn't too deep breaks first
   row-held : (i : ℕ) (row : TableRow) → IsShallow (row_before rows i) → slice_get (row_faults all_held i (held row)) 0 ≡ slice_get (row_faults rows i row) 0
   row-held i row few =
       ap (λ (ks : List TableKind). slice_get ks 0) (kinds-are all_held i (held row))
@@ -206,7 +206,7 @@ begins_from x (y ∷ xs) is = (xs, ap (λ z. z ∷ xs) (let same : y ≡ x = cc 
 begins_map : {A B : Type 0} (h : A → B) (x : A) (xs : List A) → BeginsWith x xs → BeginsWith (h x) (map h xs)
 begins_map h x xs begins = (map h begins.0, ap (map h) begins.1)
 
--- a row's fault stands at the line that was noted for the row
+-- a row's fault is at the line that was noted for the row
 line_noted : (type : Line) (lines : List Line) (at : ℕ) (kind : TableKind) (line : Option Line) → line ≡ slice_get lines at → row_fault type lines (record { at = at; kind = kind }) ≡ record { line = unwrap_or (option_map (λ (l : Line). l.number) line) type.number; kind = kind_of kind }
 line_noted type lines at kind None is = rw (← is, row_fault) refl
 line_noted type lines at kind (Some line) is = rw (← is, row_fault) refl
@@ -226,7 +226,7 @@ module _ (type : Line) (drawn : List Line) (drawing : Drawing) (is : IsDrawn dra
   pub rows-same : rows_faults type drawn ≡ [] → drawing.rows.items ≡ rows_of drawn
   rows-same none = is.rows ∙ rows-held (rows_of drawn) (none-map_fault (table_faults (rows_of drawn)) none)
 
-  -- what the rows break first stands at its row's line
+  -- what the rows break first is at its row's line
   pub rows-faulty : (at : ℕ) (kind : TableKind) → slice_get (table_faults drawing.rows.items) 0 ≡ Some (record { at = at; kind = kind }) → BeginsWith (record { line = unwrap_or (slice_get drawing.row_lines.items at) type.number; kind = kind_of kind }) (rows_faults type drawn)
   rows-faulty at kind first =
       let fault : RowFault = record { at = at; kind = kind } in

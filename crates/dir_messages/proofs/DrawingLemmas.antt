@@ -1,4 +1,4 @@
--- What a table line draws behind others.
+-- What a table line draws after others.
 use Rattle.std.proofs.Common.{◌≡◌, ℕ, ◌+◌, ◌-◌, ◌<◌, ◌≤◌, Bool, true, false, not, ◌==◌, ◌&&◌, nat_lt, if◌then◌else◌, min, Option, Some, None, is_some, List, [], ◌∷◌, ◌++◌, map, filter, sum_by, Bor, refl, sym, ap, ◌∙◌, ⊎_elim, subst, arith, add-zero, lt-ltb}
 use Rattle.std.specs.Option.{option_copied}
 use Rattle.std.proofs.lemmas.Bool.{cases_Bool, cases_lt}
@@ -19,14 +19,14 @@ use Rattle.dir_messages.specs.declared.drawing.DrawnRow.{DrawnRow}
 use Rattle.dir_messages.specs.Message.{name_on, has_rest, is_in_order, drawing_faults, is_group_line, is_table_line, is_type_line, line_faults, groups_among, open_after, ends_drawn, last_position, middle_of, status_of, max_of, number_drawn, tag_drawn, row_of, rows_of, form_faults, row_tag, ends_among, kinds_broken}
 use Rattle.dir_messages.specs.Drawing.{held, IsDrawn, BeginsWith, DrawsRow, Puts}
 
--- the form's faults of a line behind others
+-- the form's faults of a line after others
 form_is : (earlier : List Line) (line : Line) → drawing_faults earlier line ≡ form_faults (middle_of line) (ends_drawn line) (groups_among earlier) (open_after earlier)
 form_is earlier line = refl
 
 order_is : (earlier : List Line) (line : Line) → is_in_order earlier line ≡ is_greater (last_position earlier) (position_of line)
 order_is earlier line = refl
 
--- three rules, one behind the other
+-- three rules, one after the other
 three : Bool → Bool → List DirKind → List DirKind
 three rest order form = when (not rest) BadLine ++ when (not order) BadPosition ++ form
 
@@ -100,7 +100,7 @@ module _ (earlier : List Line) (line : Line) (drawing : Drawing) (position : ℕ
       ∙ ap (row_made tag (Some must) max) open_is
       ∙ row_made-some tag must max drawing.open_groups))
 
--- with one more line behind
+-- with one more line after them
 rows_of-push : (lines : List Line) (line : Line) → rows_of (lines ++ (line ∷ [])) ≡ rows_of lines ++ (row_of lines line ∷ [])
 rows_of-push lines line =
     ap (map (λ (p : List Line × Line). row_of p.0 p.1)) (with_earlier-push lines line) ∙ map_push (λ (p : List Line × Line). row_of p.0 p.1) (with_earlier lines) (lines, line)
@@ -196,7 +196,7 @@ module _ (lines : List Line) (line : Line) (old new : Drawing) (position : ℕ) 
         position = puts.last_position ∙ ap Some (sym placed) ∙ sym (last_position-push lines line);
       }
 
--- what a line behind the type line breaks
+-- what a line after the type line breaks
 module _ (earlier : List Line) (line : Line) where
   faults-table : is_type_line line ≡ false → is_table_line line ≡ true → line_faults earlier line ≡ map (λ kind. at_line kind line) (kinds_broken (filter is_table_line earlier) line)
   faults-table type table = rw (type, table) refl

@@ -1,4 +1,4 @@
--- What is judged behind the last line.
+-- What is judged after the last line.
 use Rattle.std.proofs.Common.{◌≡◌, ℕ, ◌-◌, ◌<◌, true, nat_lt, Option, Some, MatchOption, List, [], ◌∷◌, ◌++◌, length, map, slice_get, ◌⊎◌, inl, inr, refl, ap, ◌∙◌, ⊎_elim, arith, lt-ltb}
 use Rattle.std.proofs.lemmas.List.{reverse-append, map_push, length_push}
 use Rattle.edi_tables.specs.Rows.{when}
@@ -28,7 +28,7 @@ module _ (drawn : List Line) (drawing : Drawing) (is : IsDrawn drawn drawing) wh
   still_open : open_after drawn ≡ drawing.open_groups
   still_open = omega (arith, is.open_groups)
 
-  -- some group is: the fault stands at the last line
+  -- some group is: the fault is at the last line
   pub unclosed-last : (line : Option ℕ) → line ≡ slice_get drawing.row_lines.items (length drawing.row_lines.items - 1) → 0 < drawing.open_groups → MatchOption line (open_faults drawn ≡ []) (λ number. open_faults drawn ≡ record { line = number; kind = NotClosed } ∷ [])
   unclosed-last line found wide =
       ⊎_elim

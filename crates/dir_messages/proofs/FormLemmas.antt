@@ -61,7 +61,7 @@ name_on-formed (a ∷ b ∷ d ∷ name ∷ []) =
     named (bytes_eq a (codes "Message") && bytes_eq b (codes "Type") && bytes_eq d (codes ":") && is_message_name name) name (λ all. (and_parts words (is_message_name name) all).1)
 name_on-formed (a ∷ b ∷ d ∷ name ∷ e ∷ fields) = refl
 
--- the message behind a type line, or what is found later
+-- the message after a type line, or what is found later
 message-behind : (faults : List DirFault) (rows : List TableRow) (name : Option (List ℕ)) (otherwise : Result MessageDef DirFault) (m : MessageDef) → list_all is_row_formed rows ≡ true → passes_if_made is_message_name name ≡ true → (otherwise ≡ Ok m → is_message_formed m ≡ true) → (if is_some name then unless_faulty faults (record { name = unwrap_or name []; rows = rows }) else otherwise) ≡ Ok m → is_message_formed m ≡ true
 message-behind faults rows None otherwise m formed is later given = later given
 message-behind faults rows (Some name) otherwise m formed is later given =

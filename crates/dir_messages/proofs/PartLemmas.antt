@@ -23,7 +23,7 @@ first_part (x ∷ text) =
 onto_first-append : (x : ℕ) (text : List ℕ) (others : List (List ℕ)) → onto_first x (pieces_in text ++ others) ≡ onto_first x (pieces_in text) ++ others
 onto_first-append x text others = let first = first_part text in rw first.2 refl
 
--- a space parts the parts before it from those behind it
+-- a space parts the parts before it from those after it
 pub pieces_in-append : (before behind : List ℕ) → pieces_in (before ++ (32 ∷ behind)) ≡ pieces_in before ++ pieces_in behind
 pieces_in-append [] behind = refl
 pieces_in-append (x ∷ before) behind =
@@ -55,7 +55,7 @@ CutsAtLastSpace-found text k found =
     pieces_in-one (drop (k + 1) text) (λ j lt space. found.0.after (k + 1 + j) (omega arith) (omega (arith, length-drop (k + 1) text)) (rw (get_or-drop (k + 1) text j 0) at space)) in
     record { whole = whole; pieces = ap pieces_in whole ∙ pieces_in-append (take k text) (drop (k + 1) text) ∙ ap (λ parts. pieces_in (take k text) ++ parts) one }
 
--- what stands behind members that don't pass
+-- what follows members that don't pass
 find-behind : {A : Type 0} (p : A → Bool) (xs ys : List A) → list_any p xs ≡ false → find p (xs ++ ys) ≡ find p ys
 find-behind p [] ys none = refl
 find-behind p (x ∷ xs) ys none =
@@ -113,7 +113,7 @@ join-spaced : (part : List ℕ) (parts : List (List ℕ)) → join_with_byte 32 
 join-spaced part [] = sym (append-nil part)
 join-spaced part (next ∷ parts) = ap (λ rest. part ++ (32 ∷ rest)) (join-spaced next parts)
 
--- behind the spaces in front stands the same, whether or not the first part has a space in front
+-- after the spaces in front comes the same, whether or not the first part has a space in front
 pub after_spaces-spaced : (parts : List (List ℕ)) → after_spaces (spaced parts) ≡ after_spaces (join_with_byte 32 parts)
 after_spaces-spaced [] = refl
 after_spaces-spaced (part ∷ parts) = rw (join-spaced part parts, one-add) refl

@@ -17,7 +17,7 @@ use Rattle.dir_messages.specs.declared.drawing.Drawing.{Drawing}
 use Rattle.dir_messages.specs.Message.{name_on, is_type_line, is_table_line, is_group_line, line_faults, open_faults, rows_of, row_fault, message_after, message_from, message_in, rows_faults}
 use Rattle.dir_messages.specs.Drawing.{DrawsOrStops, IsDrawn}
 
--- what each line breaks behind those before it
+-- what each line breaks after those before it
 abbrev pub judge : List Line × Line → List DirFault
 judge p = line_faults p.0 p.1
 
@@ -70,7 +70,7 @@ Answers-end type lines name drawing result named read given =
     ∙ ap (λ (n : List ℕ). unless_faulty (open_faults drawn ++ rows_faults type drawn) (record { name = n; rows = rows_of drawn })) (ap (λ o. unwrap_or o []) named) in
     subst (λ file. IsVerdict (λ (m : MessageDef). m) fault_in result file) (sym same) given
 
--- the type line isn't among so many lines, and stands among those that are left, if anywhere
+-- the type line isn't among so many lines, and is among those that are left, if anywhere
 pub record IsSought (file : List ℕ) (left : List Line) (count : ℕ) : Type 0 where
   pub same : message_in file ≡ message_from (length (lines_of file)) left
   pub counted : count + length left ≡ length (lines_of file)

@@ -10,7 +10,7 @@ use Rattle.dir_messages.specs.Message.{is_status}
 use Rattle.dir_messages.specs.Parts.{CutsAtLastSpace, CutsAtStatus}
 use Rattle.dir_messages.proofs.PartLemmas.{spaced, after_spaces-spaced}
 
--- a text in front, and behind it, each with a space before it, parts that are no status
+-- a text in front, and after it, each with a space before it, parts that are no status
 pub record HasFront (text front : List ℕ) : Type 0 where
   pub more : List (List ℕ)
   pub pieces : pieces_in text ≡ pieces_in front ++ more

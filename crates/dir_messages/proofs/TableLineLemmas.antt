@@ -1,4 +1,4 @@
--- What stands on a table line, found behind its position.
+-- What is on a table line, found after its position.
 use Rattle.std.proofs.Common.{◌≡◌, ℕ, zero, suc, ◌+◌, ◌<◌, ◌≤◌, Bool, true, false, not, ◌==◌, ◌&&◌, nat_le, if◌then◌else◌, Some, None, List, [], ◌∷◌, ◌++◌, length, get_or, take, drop, replicate, filter, is_some, refl, sym, ap, ◌∙◌, ⊎_elim, arith, one-add, append_assoc, length-drop, length-take-le, take_all, eqb-true}
 use Rattle.std.specs.List.{prefix_len, position_or_len, list_any}
 use Rattle.std.specs.Str.{all_ascii_digits}
@@ -40,7 +40,7 @@ marks_count : (n : ℕ) (xs : List ℕ) → prefix_len is_space (replicate n 32 
 marks_count zero xs = omega arith
 marks_count (suc n) xs = omega (arith, marks_count n xs)
 
--- behind the spaces in front, marks read as spaces, stands what stands in the line
+-- after the spaces in front, marks read as spaces, comes what is in the line
 drop-unmarked : (octets : List ℕ) (n : ℕ) → prefix_len is_space (unmarked octets) ≤ n → drop n (unmarked octets) ≡ drop n octets
 drop-unmarked octets n far =
     let marks = marks_of octets in
@@ -92,7 +92,7 @@ long_field [] four = absurd (omega arith)
 long_field (x ∷ []) four = absurd (omega arith)
 long_field (x ∷ y ∷ field) four = (refl, refl)
 
--- what stands behind the position of a table line
+-- what follows the position of a table line
 pub record Position (octets : List ℕ) (k : ℕ) : Type 0 where
   pub fits : k + 4 ≤ length octets
   pub stands : StandsBehind octets (drop (k + 4) octets)
@@ -143,7 +143,7 @@ begins_with_space (x ∷ text) more parts =
     (λ (other : is_space x ≡ false). let first = first_part text in cc (rw (other, first.2) at parts))
     (cases_Bool (is_space x))
 
--- a line with no status behind its position has none
+-- a line with no status after its position has none
 pub has_rest-none : (line : Line) (text : List ℕ) → StandsBehind line.octets text → list_any is_status (pieces_in text) ≡ false → has_rest line ≡ false
 has_rest-none line text stands none =
     let no_more : list_any is_status stands.more ≡ false = rw stands.text at none in
@@ -157,7 +157,7 @@ pub record StatusFound (line : Line) (before : List ℕ) (must : Bool) (behind :
   pub rest : rest_of line ≡ after_spaces behind
   pub middle : middle_of line ≡ after_position (cells_of before)
 
--- the parts behind an empty one
+-- the parts after an empty one
 behind_first : (more front others : List (List ℕ)) (status : List ℕ) → is_some (status_in status) ≡ true → front ++ (status ∷ others) ≡ [] ∷ more → (fields : List (List ℕ)) × (front ≡ [] ∷ fields) × (more ≡ fields ++ (status ∷ others))
 behind_first more [] others [] is parts = cc
 behind_first more [] others (x ∷ status) is parts = cc
@@ -200,7 +200,7 @@ counts_of : List ℕ → Counts
 counts_of rest =
     record { max = max_in rest; ends = ends_in (tail_in rest) }
 
--- what stands behind the status decides
+-- what follows the status decides
 good_rest-no_counts : (status : Bool) (rest : List ℕ) → counts_in rest ≡ None → good_rest status rest ≡ false
 unfolding good_rest counts_of
 good_rest-no_counts status rest none =

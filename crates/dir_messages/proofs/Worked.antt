@@ -9,7 +9,7 @@ use Rattle.dir_messages.specs.Message.{status_of, max_of, ends_drawn, middle_of,
 abbrev table_line : Line
 table_line = record { number = 7; octets = codes "0020 + BGM A C 5 M 02 -|+" }
 
--- the last status counts, and a mark alone behind the position is skipped
+-- the last status counts, and a mark alone after the position is skipped
 last_status : status_of table_line ≡ Some true
 last_status = refl
 

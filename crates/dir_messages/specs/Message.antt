@@ -33,6 +33,7 @@ name_on (message ∷ type ∷ colon ∷ name ∷ []) =
     if begins_type message type colon && is_message_name name then Some name else None
 name_on fields = None
 
+-- a type line: one with such a name
 abbrev pub is_type_line : Line → Bool
 is_type_line line = is_some (name_on (fields_of line.octets))
 
@@ -44,6 +45,7 @@ is_table_line line = nat_le (indentation_of line.octets) 4 && has_position 4 lin
 abbrev pub pieces_of : Line → List Octets
 pieces_of line = pieces_in (unmarked line.octets)
 
+-- a status: `M` or `C`
 abbrev pub is_status : Octets → Bool
 is_status part = is_some (status_in part)
 
@@ -76,10 +78,11 @@ abbrev pub has_counts : Octets → Bool
 has_counts rest =
     nat_le 1 (prefix_len is_digit rest) && nat_le (prefix_len is_digit rest) 6 && list_all is_tail_octet (tail_in rest)
 
--- the greatest count of a table line, and how many groups its tail ends
+-- the greatest count of a table line
 abbrev pub max_of : Line → ℕ
 max_of line = max_in (rest_of line)
 
+-- how many groups the tail of a table line ends: one for each `+`
 abbrev pub ends_drawn : Line → ℕ
 ends_drawn line = ends_in (tail_in (rest_of line))
 
@@ -118,16 +121,19 @@ number_drawn (dashes ∷ segment ∷ group ∷ number ∷ more) =
     then Some (digits_value 10 number) else None
 number_drawn fields = None
 
+-- a group line: one that has a group's number between position and status
 abbrev pub is_group_line : Line → Bool
 is_group_line line = is_some (number_drawn (middle_of line))
 
--- how many groups table lines have opened, how many of these they have closed, and how many are still open
+-- how many groups these table lines have opened
 abbrev pub groups_among : List Line → ℕ
 groups_among lines = count_by is_group_line lines
 
+-- how many groups these table lines have closed; the `+` of a group line closes none
 abbrev pub ends_among : List Line → ℕ
 ends_among lines = sum_by ends_drawn (filter (λ line. not (is_group_line line)) lines)
 
+-- how many groups are still open after these table lines
 abbrev pub open_after : List Line → ℕ
 open_after lines = groups_among lines - ends_among lines
 
@@ -147,6 +153,7 @@ form_faults middle ends groups open_groups =
       | None ↦ if is_some (tag_drawn middle) then when (nat_lt open_groups ends) CloseWithoutOpen else BadLine ∷ []
     ]
 
+-- what a table line breaks after these, by its form and by the groups that it opens or closes
 abbrev pub drawing_faults : List Line → Line → List DirKind
 drawing_faults earlier line =
     form_faults (middle_of line) (ends_drawn line) (groups_among earlier) (open_after earlier)
@@ -157,6 +164,7 @@ kinds_broken earlier line =
     when (not (has_rest line)) BadLine ++ when (not (is_in_order earlier line)) BadPosition
     ++ drawing_faults earlier line
 
+-- the faults of a table line after these: each rule that it breaks, at its line
 abbrev pub table_line_faults : List Line → Line → List DirFault
 table_line_faults earlier line = map (λ kind. at_line kind line) (kinds_broken earlier line)
 
@@ -180,6 +188,7 @@ row_of earlier line =
       depth = open_after earlier;
     }
 
+-- the rows of these table lines, in order
 abbrev pub rows_of : List Line → List TableRow
 rows_of lines = map (λ p. row_of p.0 p.1) (with_earlier lines)
 
@@ -198,7 +207,7 @@ kind_of table.BadDepth = TooDeep
 kind_of table.TooDeep = TooDeep
 kind_of table.NoTrigger = NoTrigger
 
--- a fault of the rows stands at its row's line, or at the type line where there is no such row
+-- a fault of the rows is at its row's line, or at the type line where there is no such row
 abbrev pub row_fault : Line → List Line → RowFault → DirFault
 row_fault type lines fault =
     elim (slice_get lines fault.at) [
@@ -227,6 +236,6 @@ abbrev pub message_from : ℕ → List Line → Result MessageDef DirFault
 message_from count [] = Err (record { line = count; kind = NoType })
 message_from count (line ∷ lines) = if is_type_line line then message_after line lines else message_from count lines
 
--- a message file stands for its message, or for its first fault
+-- what a message file gives: its message, or its first fault
 unfoldable pub message_in : Octets → Result MessageDef DirFault
 message_in file = let lines = lines_of file in message_from (length lines) lines

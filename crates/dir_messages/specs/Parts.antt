@@ -43,7 +43,7 @@ pub record StandsBehind (octets behind : Octets) : Type 0 where
 abbrev pub count_in : Octets → Option ℕ
 count_in digits = if nat_le 1 (length digits) && nat_le (length digits) 6 then Some (digits_value 10 digits) else None
 
--- one to six digits and a tail: the greatest count, and how many `+` stand in the tail
+-- one to six digits and a tail: the greatest count, and how many `+` the tail has
 abbrev pub counts_in : Octets → Option Counts
 counts_in rest =
     if has_counts rest then Some (record { max = max_in rest; ends = ends_in (tail_in rest) }) else None
@@ -53,10 +53,11 @@ abbrev pub IsNumber : Option ℕ → ℕ → Type 0
 IsNumber None number = 10 ^ 19 ≤ number
 IsNumber (Some n) number = number ≡ n
 
--- the form of what stands between position and status
+-- the form of what is between position and status
 abbrev pub IsForm : List Octets → LineForm → Type 0
 IsForm middle (Segment tag) = (number_drawn middle ≡ None) × (tag_drawn middle ≡ Some tag)
 IsForm middle (Group number) = (n : ℕ) × (number_drawn middle ≡ Some n) × IsNumber number n
 
+-- what is between position and status has neither form
 abbrev pub HasNoForm : List Octets → Type 0
 HasNoForm middle = (number_drawn middle ≡ None) × (tag_drawn middle ≡ None)

@@ -115,7 +115,7 @@ impl Drawing {
         self.row_lines.last().copied()
     }
 
-    /// Judges the rows as a segment table: the first fault stands at its row's line, or at the type line.
+    /// Judges the rows as a segment table: the first fault is at its row's line, or at the type line.
     fn judge_rows(&self, type_line: u32) -> Result<(), DirStop>
         ensures { (type : Line) (drawn : List Line) → type.number ≡ type_line
             → IsDrawn drawn self.now → FirstOf result (rows_faults type drawn) }

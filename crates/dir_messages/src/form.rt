@@ -12,7 +12,7 @@ use crate::words::{are_dashes, is_number, is_word};
 use edi_octets::{Cells, read_decimal};
 use edi_tables::Tag;
 
-/// What stands between the position and the status of a table line.
+/// What is between the position and the status of a table line.
 #[derive(Clone, Copy, Debug)]
 pub(crate) enum LineForm {
     Segment(Tag),
@@ -33,7 +33,7 @@ pub(crate) fn form_of(middle: Cells<'_>) -> Option<LineForm>
     Some(LineForm::Segment(tag))
 }
 
-/// The tag of a segment line: a tag and a name stand there.
+/// The tag of a segment line: a tag and a name are there.
 fn segment_tag(mut middle: Cells<'_>) -> Option<Tag>
     ensures { result ≡ tag_drawn (cells_left middle.entry) }
 {
@@ -42,7 +42,7 @@ fn segment_tag(mut middle: Cells<'_>) -> Option<Tag>
     Tag::read(tag)
 }
 
-/// The number of a group line: `-`, `Segment`, `group`, a number, and fields of `-` alone stand there.
+/// The number of a group line: `-`, `Segment`, `group`, a number, and fields of `-` alone are there.
 fn group_number(mut middle: Cells<'_>) -> Option<&[u8]>
     ensures number { option_map (digits_value 10) (option_copied result)
         ≡ number_drawn (cells_left middle.entry) }

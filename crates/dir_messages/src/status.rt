@@ -1,4 +1,4 @@
-//! The status of a table line, and what stands round it.
+//! The status of a table line, and what comes before and after it.
 ghost use Rattle.std.specs.Prelude.{◌≡◌, ◌∷◌, [], false, MatchOption};
 ghost use Rattle.std.specs.List.{slice_split, list_any, position_or_len};
 ghost use Rattle.memchr.specs.Find.{IsLastByte, is_byte};
@@ -9,7 +9,7 @@ ghost use Rattle.dir_messages.specs.Parts.{CutsAtStatus, CutsAtLastSpace};
 use edi_octets::read_status;
 use memchr::memrchr;
 
-/// A text cut at its last field that is a status: what stands before and after it.
+/// A text cut at its last field that is a status: what comes before and after it.
 #[derive(Clone, Copy, Debug)]
 pub(crate) struct StatusCut<'a> {
     pub before: &'a [u8],
@@ -40,7 +40,7 @@ pub(crate) fn cut_at_status(text: &[u8]) -> Option<StatusCut<'_>>
     None
 }
 
-/// What stands before and after the last space of a text; `None` where it has no space.
+/// What comes before and after the last space of a text; `None` where it has no space.
 fn cut_at_last_space(text: &[u8]) -> Option<(&[u8], &[u8])>
     ensures { MatchOption result
         (slice_split is_space text.now ≡ text.now ∷ [])
@@ -50,7 +50,7 @@ fn cut_at_last_space(text: &[u8]) -> Option<(&[u8], &[u8])>
     Some((&text[..space], &text[space + 1..]))
 }
 
-/// Where the last space of a text stands. A name is padded with spaces, so most texts that are cut end with one.
+/// Where the last space of a text is. A name is padded with spaces, so most texts that are cut end with one.
 #[tactic(auto, using(crate::proofs::PartLemmas::last_is))]
 fn last_space(text: &[u8]) -> Option<usize>
     ensures { IsLastByte (is_byte 32) text.now result }

@@ -26,7 +26,7 @@ pub(crate) struct TableLine<'a> {
     pub ends: u64,
 }
 
-/// What follows a status: the greatest count, and how many `+` stand in the tail.
+/// What follows a status: the greatest count, and how many `+` are in the tail.
 #[derive(Clone, Copy, Debug)]
 pub(crate) struct Counts {
     pub max: u32,
@@ -63,7 +63,7 @@ fn behind_position<'a>(line: &LineText<'a>) -> &'a [u8]
     &line.octets[line.indentation() + POSITION_DIGITS..]
 }
 
-/// The counts after a status; `None` where anything else stands there.
+/// The counts after a status; `None` where anything else is there.
 fn read_counts(text: &[u8]) -> Option<Counts>
     ensures { result ≡ counts_in (after_spaces text.now) }
 {
@@ -99,7 +99,7 @@ fn is_tail(tail: &[u8]) -> bool
         .all(|octet| matches!(octet, b' ' | b'-' | b'|' | b'+'))
 }
 
-/// How many `+` stand in a tail.
+/// How many `+` are in a tail.
 fn ends_in(tail: &[u8]) -> u64
     ensures { result ≡ count_by (λ x. x == 43) tail.now }
 {

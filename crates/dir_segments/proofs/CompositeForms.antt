@@ -22,7 +22,7 @@ use Rattle.edi_octets.proofs.EachLemmas.{passes_if_made, nothing-append, All-eac
 use Rattle.edi_octets.proofs.HeadLemmas.{head_faults-code}
 use Rattle.edi_octets.proofs.PlainLemmas.{IsEntry, entries_of-entries}
 use Rattle.edi_octets.proofs.ProfileLemmas.{repr_in-formed}
-use Rattle.dir_segments.specs.Parts.{fields_behind, last_of, is_placed, is_element_form, element_status, element_repr, element_fault, part_with, part_in, part_faults, count_faults}
+use Rattle.dir_segments.specs.Parts.{fields_past_position, last_of, is_placed, is_element_form, element_status, element_repr, element_fault, part_with, part_in, part_faults, count_faults}
 use Rattle.dir_segments.specs.Composites.{part_lines, parts_faults, parts_in, composite_faults, composite_of, composites_in}
 use Rattle.dir_segments.proofs.StopLemmas.{none_listed}
 
@@ -71,10 +71,10 @@ part_in-made before line fields none form =
     rw form (made-element (is_greater before (position_of line)) (element_status fields) (element_repr fields) (record { octets = first_field fields }) (sym (element_fault-rules before line (element_status fields) (element_repr fields)) ∙ none))
 
 -- a part line at which nothing is wrong gives a part
-part_faults-made : (earlier : List Line) (line : Line) → Unit {0} → part_faults (last_of (map position_of earlier)) line ≡ [] → is_some (part_in (fields_behind line)) ≡ true
+part_faults-made : (earlier : List Line) (line : Line) → Unit {0} → part_faults (last_of (map position_of earlier)) line ≡ [] → is_some (part_in (fields_past_position line)) ≡ true
 part_faults-made earlier line given none =
     let before = last_of (map position_of earlier) in
-    let fields = fields_behind line in
+    let fields = fields_past_position line in
     let good = is_placed line && is_element_form fields in
     let broken = element_fault before line (element_status fields) (element_repr fields) in
     let rules = first_rule (not good) BadLine broken (none_listed line (if not good then Some BadLine else broken) none) in
@@ -105,9 +105,9 @@ composite_of-formed earlier (head ∷ body) is none =
     let faults = nothing-append (head_faults is_composite_code earlier head) (parts_faults body ++ count_faults head (length lines)) none in
     let behind = nothing-append (parts_faults body) (count_faults head (length lines)) faults.1 in
     let code = head_faults-code is_composite_code earlier head faults.0 in
-    let made = All-judged (λ (p : List Line × Line). part_faults (last_of (map position_of p.0)) p.1) (λ _. Unit {0}) (λ line. is_some (part_in (fields_behind line)) ≡ true) part_faults-made lines (All-each (λ _. Unit {0}) (λ _. tt) lines) behind.0 in
-    let many = ap is_count_formed (length-filter_map (λ line. part_in (fields_behind line)) lines made) ∙ counted head (length lines) behind.1 in
-    rw (code, many) (list_all-from_AllPass is_part_formed (parts_in body) (passes-filter_map is_part_formed (λ line. part_in (fields_behind line)) lines (All-each (λ line. passes_if_made is_part_formed (part_in (fields_behind line)) ≡ true) (λ line. part_in-formed (fields_behind line)) lines)))
+    let made = All-judged (λ (p : List Line × Line). part_faults (last_of (map position_of p.0)) p.1) (λ _. Unit {0}) (λ line. is_some (part_in (fields_past_position line)) ≡ true) part_faults-made lines (All-each (λ _. Unit {0}) (λ _. tt) lines) behind.0 in
+    let many = ap is_count_formed (length-filter_map (λ line. part_in (fields_past_position line)) lines made) ∙ counted head (length lines) behind.1 in
+    rw (code, many) (list_all-from_AllPass is_part_formed (parts_in body) (passes-filter_map is_part_formed (λ line. part_in (fields_past_position line)) lines (All-each (λ line. passes_if_made is_part_formed (part_in (fields_past_position line)) ≡ true) (λ line. part_in-formed (fields_past_position line)) lines)))
 
 -- the composites of a file are formed
 pub composites_in-formed : (file : List ℕ) (found : List CompositeDef) → composites_in file ≡ Ok found → list_all is_composite_formed found ≡ true

@@ -18,7 +18,7 @@ use Rattle.edi_octets.proofs.AnswerLemmas.{none_from_ok}
 use Rattle.edi_octets.proofs.EachLemmas.{passes_if_made, nothing-append, All-none, All-each, passes-filter_map, length-filter_map, All-judged}
 use Rattle.edi_octets.proofs.HeadLemmas.{head_faults-code}
 use Rattle.edi_octets.proofs.PlainLemmas.{IsEntry, entries_of-entries}
-use Rattle.dir_segments.specs.Parts.{is_item_line, fields_behind, last_of, is_placed, is_element_form, is_composite_form, element_status, element_repr, composite_status, element_fault, status_fault, part_in, count_faults}
+use Rattle.dir_segments.specs.Parts.{is_item_line, fields_past_position, last_of, is_placed, is_element_form, is_composite_form, element_status, element_repr, composite_status, element_fault, status_fault, part_in, count_faults}
 use Rattle.dir_segments.specs.Segments.{Item, item_position, item_at, items_of, items_in, item_in, item_of, alone_item, composite_item, line_faults, detail_faults, item_end_faults, repeated_parts, item_faults, items_faults, segment_faults, segment_of, segments_in_file}
 use Rattle.dir_segments.proofs.RepetitionLemmas.{reps_in-formed}
 use Rattle.dir_segments.proofs.FieldLemmas.{is_composite_form-element}
@@ -89,7 +89,7 @@ items_of-formed : (lines : List Line) → All (λ item. is_reps_formed item.reps
 items_of-formed [] = All-none (λ item. is_reps_formed item.reps ≡ true)
 items_of-formed (line ∷ lines) =
     ⊎_elim
-    (λ (is : is_item_line line ≡ true). rw is (All-cons (λ item. is_reps_formed item.reps ≡ true) (item_at line lines) (items_of lines) (reps_in-formed (fields_behind line)) (items_of-formed lines)))
+    (λ (is : is_item_line line ≡ true). rw is (All-cons (λ item. is_reps_formed item.reps ≡ true) (item_at line lines) (items_of lines) (reps_in-formed (fields_past_position line)) (items_of-formed lines)))
     (λ (other : is_item_line line ≡ false). rw other (items_of-formed lines))
     (cases_Bool (is_item_line line))
 

@@ -30,7 +30,7 @@ module _ {A : Type 0} where
   goes_all all front rest splits ended = splits ∙ ap (λ r. front ++ r) ended ∙ append-nil front
 
   module _ (judge : List A × A → List DirFault) where
-    -- nothing is broken before x, and what x breaks first is what all break first, whatever stands behind
+    -- nothing is broken before x, and what x breaks first is what all break first, whatever follows
     pub first_at : {X Y X' Y' : Type 0} (view : X → Y) (outer : X' → Y') (stop : DirStop) (all front : List A) (x : A) (later : List A) (tail : List DirFault) (v : Y) (w : Y') → all ≡ front ++ x ∷ later → flat_map judge (with_earlier front) ≡ [] → IsVerdict view fault_in (Err stop) (unless_faulty (judge (front, x)) v) → IsVerdict outer fault_in (Err stop) (unless_faulty (flat_map judge (with_earlier all) ++ tail) w)
     first_at view outer stop all front x later tail v w splits clean given =
         let before = flat_map judge (with_earlier front) in
@@ -50,7 +50,7 @@ last_of-push positions position =
     ap (λ n. slice_get (positions ++ position ∷ []) n) one ∙ slice_get-push positions position
 
 module _ {A D : Type 0} (judge : Option ℕ → A → List DirFault) (place : A → ℕ) (value : A → Option D) where
-  -- what is broken by x behind these
+  -- what is broken by x after these
   abbrev pub judge_behind : List A × A → List DirFault
   judge_behind p = judge (last_of (map place p.0)) p.1
 
@@ -86,7 +86,7 @@ module _ {A D : Type 0} (judge : Option ℕ → A → List DirFault) (place : A 
       first_at judge_behind view outer stop all read.front x later tail v w (goes_at all read.front x rest later read.splits here) read.clean (rw same at given)
 
 module _ {D : Type 0} (judge : List (List Line) → List Line → List DirFault) (define : List Line → D) where
-  -- what is broken by an entry behind others
+  -- what is broken by an entry after others
   abbrev pub judge_entry : List (List Line) × List Line → List DirFault
   judge_entry p = judge p.0 p.1
 

@@ -94,7 +94,7 @@ part_in-read element fields form read =
     let code : code_of (first_field fields) ≡ element.code = ap code_of (sym read.code) in
     rw form (rw (code, sym read.must, sym read.repr) refl)
 
--- what is behind the position of a line was read
+-- what is after the position of a line was read
 module _ (before : Option ℕ) (line : Line) (fields : List (List ℕ)) (at_position : is_placed line ≡ true) where
   pub element_line-faults : (item : ElementItem) → (is_element_form (item_fields fields) ≡ true) × IsElementItem item fields → line_faults before line (item_fields fields) ≡ fault_list line (element_fault before line item.element.must item.element.repr)
   element_line-faults item read =

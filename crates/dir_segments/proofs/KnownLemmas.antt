@@ -48,7 +48,7 @@ module _ {X : Type 0} (p : X → Bool) where
       (cases_Bool (p x)))
       (cases_lt n m)
 
-  -- the first is where it stands
+  -- the first is at its place
   pub find_by_place : (xs : List X) (i : ℕ) → position p xs ≡ Some i → slice_get xs i ≡ find p xs
   find_by_place xs i is =
       let at = some_where (ltb (position_or_len p xs) (length xs)) (position_or_len p xs) i (sym is) in
@@ -61,7 +61,7 @@ module _ {X : Type 0} (p : X → Bool) where
       (λ (ge : length xs ≤ position_or_len p xs). find_at p xs ∙ slice_get_past xs (position_or_len p xs) ge)
       (cases_lt (position_or_len p xs) (length xs))
 
--- what stands at a place of a slice
+-- what is at a place of a slice
 pub copied_at : {X : Type 0} (xs : List X) (i : ℕ) (r : Option (Bor X)) → IsItemAt xs i r → option_copied r ≡ slice_get xs i
 copied_at xs i None item = sym (slice_get_past xs i item.3)
 copied_at xs i (Some x) item = sym (slice_get_read xs (length xs) i x.now refl item.3.0 item.1)

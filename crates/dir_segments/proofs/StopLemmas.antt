@@ -25,7 +25,7 @@ module _ {X Y : Type 0} (view : X → Y) where
   gives x faults v none value = rw (none, value) refl
 
   module _ {X' Y' : Type 0} (outer : X' → Y') where
-    -- what stops is the first fault of all, where nothing stands before it
+    -- what stops is the first fault of all, where nothing comes before it
     pub stops : (stop : DirStop) (before faults later all : List DirFault) (v : Y) (w : Y') → before ≡ [] → all ≡ before ++ (faults ++ later) → IsVerdict view fault_in (Err stop) (unless_faulty faults v) → IsVerdict outer fault_in (Err stop) (unless_faulty all w)
     stops Memory before faults later all v w none is given = tt
     stops (Fault fault) before [] later all v w none is given = cc

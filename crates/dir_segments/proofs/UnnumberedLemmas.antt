@@ -19,7 +19,7 @@ use Rattle.edi_octets.specs.Profile.{first_field, entries_of, with_earlier, with
 use Rattle.edi_octets.specs.Head.{head_faults}
 use Rattle.edi_octets.proofs.AnswerLemmas.{none_from_ok}
 use Rattle.edi_octets.proofs.EachLemmas.{nothing-append, All-each, All-judged}
-use Rattle.dir_segments.specs.Parts.{is_item_line, fields_behind, last_of, field_from_end, is_placed, is_element_form, is_composite_form, element_status, element_repr, composite_status, status_fault, element_fault, count_faults}
+use Rattle.dir_segments.specs.Parts.{is_item_line, fields_past_position, last_of, field_from_end, is_placed, is_element_form, is_composite_form, element_status, element_repr, composite_status, status_fault, element_fault, count_faults}
 use Rattle.dir_segments.specs.Repetitions.{is_numbered_composite, is_numbered_element, item_fields, reps_in}
 use Rattle.dir_segments.specs.Segments.{Item, item_position, items_of, line_faults, detail_faults, item_end_faults, repeated_parts, item_faults, items_faults, entry_faults, segment_faults, segment_with, segment_of, segments_in_file}
 use Rattle.dir_segments.specs.Unnumbered.{unnumbered_at, unnumbered_of, unnumbered_faults, unnumbered_segment, unnumbered_in_file}
@@ -100,7 +100,7 @@ items_same (line ∷ lines) all =
     ⊎_elim
     (λ (is : is_item_line line ≡ true).
     let both = rw is at all in
-    let here : HaveNoNumber (fields_behind line) = All-head ItemWithout (unnumbered_at line lines) (unnumbered_of lines) both in
+    let here : HaveNoNumber (fields_past_position line) = All-head ItemWithout (unnumbered_at line lines) (unnumbered_of lines) both in
     let later = items_same lines (All-tail ItemWithout (unnumbered_at line lines) (unnumbered_of lines) both) in
     rw (is, here.0, here.1, later) refl)
     (λ (other : is_item_line line ≡ false).

@@ -10,7 +10,7 @@ use Rattle.edi_tables.specs.Forms.{is_composite_code}
 use Rattle.edi_octets.specs.Profile.{position_of, entries_of, with_earlier}
 use Rattle.edi_tables.specs.First.{unless_faulty}
 use Rattle.edi_octets.specs.Head.{head_faults, code_of}
-use Rattle.dir_segments.specs.Parts.{is_item_line, fields_behind, last_of, part_in, part_faults, count_faults}
+use Rattle.dir_segments.specs.Parts.{is_item_line, fields_past_position, last_of, part_in, part_faults, count_faults}
 
 -- the part lines of an entry's lines: those indented by at most 4; all others are text
 abbrev pub part_lines : List Line → List Line
@@ -29,14 +29,14 @@ composite_faults earlier (head ∷ body) =
 
 -- the parts of an entry's lines
 abbrev pub parts_in : List Line → List PartDef
-parts_in body = filter_map (λ line. part_in (fields_behind line)) (part_lines body)
+parts_in body = filter_map (λ line. part_in (fields_past_position line)) (part_lines body)
 
 -- the composite of an entry
 abbrev pub composite_of : List Line → CompositeDef
 composite_of [] = record { code = code_of []; parts = [] }
 composite_of (head ∷ body) = record { code = code_of (head ∷ body); parts = parts_in body }
 
--- a composite file stands for one composite an entry, or for its first fault
+-- what a composite file gives: a composite for each entry, or its first fault
 unfoldable pub composites_in : Octets → Result (List CompositeDef) DirFault
 composites_in file =
     let entries = entries_of (lines_of file) in

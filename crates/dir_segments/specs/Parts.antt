@@ -20,9 +20,9 @@ use Rattle.edi_octets.specs.Profile.{fields_of, indentation_of, first_field, aft
 abbrev pub is_item_line : Line → Bool
 is_item_line line = nat_le (indentation_of line.octets) 4
 
--- the fields behind the position of a line, a lone mark skipped
-abbrev pub fields_behind : Line → List Octets
-fields_behind line = after_position (drop 1 (fields_of line.octets))
+-- the fields after the position of a line, a lone mark skipped
+abbrev pub fields_past_position : Line → List Octets
+fields_past_position line = after_position (drop 1 (fields_of line.octets))
 
 -- a line of a part or an item begins with a position of three digits
 abbrev pub is_placed : Line → Bool
@@ -44,22 +44,25 @@ is_element_form fields = is_element_code (first_field fields) && nat_le 4 (lengt
 abbrev pub is_composite_form : List Octets → Bool
 is_composite_form fields = is_composite_code (first_field fields) && nat_le 3 (length fields)
 
--- the status of a data element stands before its representation, and that of a composite last
+-- a data element's status is its last field but one, before the representation
 abbrev pub element_status : List Octets → Option Bool
 element_status fields = status_in (field_from_end 2 fields)
 
+-- a data element's representation is its last field
 abbrev pub element_repr : List Octets → Option Repr
 element_repr fields = repr_in (field_from_end 1 fields)
 
+-- a composite's status is its last field
 abbrev pub composite_status : List Octets → Option Bool
 composite_status fields = status_in (field_from_end 1 fields)
 
--- the part that a data element's fields define, if its status and representation are good
+-- the part with this code, status and representation, if both of these are good
 abbrev pub part_with : Code → Option Bool → Option Repr → Option PartDef
 part_with code (Some must) (Some repr) = Some (record { code = code; must = must; repr = repr })
 part_with code (Some must) None = None
 part_with code None repr = None
 
+-- the part that a data element's fields define, if its status and representation are good
 abbrev pub part_in : List Octets → Option PartDef
 part_in fields =
     if is_element_form fields
@@ -86,10 +89,10 @@ abbrev pub fault_list : Line → Option DirKind → List DirFault
 fault_list line None = []
 fault_list line (Some kind) = record { line = line.number; kind = kind } ∷ []
 
--- a part line behind the position before: a position, an element code, a name, a status and a representation
+-- a part line after the position before: a position, an element code, a name, a status and a representation
 abbrev pub part_faults : Option ℕ → Line → List DirFault
 part_faults before line =
-    let fields = fields_behind line in
+    let fields = fields_past_position line in
     fault_list line
     (if not (is_placed line && is_element_form fields) then Some BadLine
     else element_fault before line (element_status fields) (element_repr fields))

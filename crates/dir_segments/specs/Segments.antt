@@ -21,11 +21,11 @@ use Rattle.edi_tables.specs.First.{unless_faulty}
 use Rattle.edi_tables.specs.Same.{is_same_bool, is_same_repr}
 use Rattle.edi_octets.specs.DirStop.{at_line}
 use Rattle.edi_octets.specs.Head.{head_faults, head_field}
-use Rattle.dir_segments.specs.Parts.{is_item_line, fields_behind, is_placed, last_of, count_faults, is_element_form, is_composite_form, part_in, element_status, element_repr, composite_status, status_fault, element_fault, fault_list}
+use Rattle.dir_segments.specs.Parts.{is_item_line, fields_past_position, is_placed, last_of, count_faults, is_element_form, is_composite_form, part_in, element_status, element_repr, composite_status, status_fault, element_fault, fault_list}
 use Rattle.dir_segments.specs.Repetitions.{item_fields, reps_in}
 
 -- an item: its line, the fields after the position with the number of repetitions taken out, that number, and the
--- detail lines behind it, up to the next item line
+-- detail lines after it, up to the next item line
 pub record Item : Type 0 where
   pub line : Line
   pub fields : List Octets
@@ -36,10 +36,10 @@ pub record Item : Type 0 where
 abbrev pub details_of : List Line → List Line
 details_of lines = take_while (λ l. not (is_item_line l)) lines
 
--- an item line, and its detail lines among those behind it
+-- an item line, and its detail lines among those after it
 abbrev pub item_at : Line → List Line → Item
 item_at line lines =
-    let fields = fields_behind line in
+    let fields = fields_past_position line in
     record { line = line; fields = item_fields fields; reps = reps_in fields; details = details_of lines }
 
 -- the items of an entry's lines; lines before the first item line are text
@@ -48,7 +48,7 @@ items_of [] = []
 items_of (line ∷ lines) =
     if is_item_line line then item_at line lines ∷ items_of lines else items_of lines
 
--- what an item line with these fields breaks, behind the position before: a position, and a data element or a composite
+-- what an item line with these fields breaks, after the position before: a position, and a data element or a composite
 abbrev pub line_faults : Option ℕ → Line → List Octets → List DirFault
 line_faults before line fields =
     fault_list line
@@ -60,7 +60,7 @@ line_faults before line fields =
 abbrev pub is_part_line : Line → Bool
 is_part_line line = is_element_code (first_field (fields_of line.octets))
 
--- a part line has a code, a name, a status and a representation, and stands below a composite
+-- a part line has a code, a name, a status and a representation, and comes below a composite
 abbrev pub detail_faults : Bool → Line → List DirFault
 detail_faults below_composite line =
     if not (is_part_line line) then []
@@ -79,7 +79,7 @@ is_same_part p q =
 abbrev pub known_composite : List CompositeDef → Octets → Option CompositeDef
 known_composite known code = find (λ c. bytes_eq c.code.octets code) known
 
--- where it stands
+-- the place of that composite among those known, if there is one
 abbrev pub known_place : List CompositeDef → Octets → Option ℕ
 known_place known code = position (λ c. bytes_eq c.code.octets code) known
 
@@ -94,7 +94,7 @@ item_end_faults known line fields parts =
     if is_composite_form fields && differs parts (known_composite known (first_field fields))
     then at_line PartsDiffer line ∷ [] else []
 
--- an item behind the position before: its line, its detail lines in order, its end
+-- an item after the position before: its line, its detail lines in order, its end
 abbrev pub item_faults : List CompositeDef → Option ℕ → Item → List DirFault
 item_faults known before item =
     line_faults before item.line item.fields
@@ -137,6 +137,7 @@ item_in fields reps =
     then composite_item (record { octets = first_field fields }) (composite_status fields) reps
     else alone_item (part_in fields) reps
 
+-- the item of a segment that an item's line defines, if it defines one
 abbrev pub item_of : Item → Option ItemDef
 item_of item = item_in item.fields item.reps
 
@@ -153,7 +154,7 @@ abbrev pub segment_of : List Line → SegmentDef
 segment_of [] = record { tag = record { octets = [] }; items = [] }
 segment_of (head ∷ body) = segment_with head (items_of body)
 
--- a segment file stands for one segment an entry, or for its first fault
+-- what a segment file gives: a segment for each entry, or its first fault
 unfoldable pub segments_in_file : List CompositeDef → Octets → Result (List SegmentDef) DirFault
 segments_in_file known file =
     let entries = entries_of (lines_of file) in

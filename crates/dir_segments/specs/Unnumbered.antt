@@ -9,13 +9,13 @@ use Rattle.edi_octets.specs.declared.fault.DirFault.{DirFault}
 use Rattle.edi_octets.specs.Lines.{Line, lines_of}
 use Rattle.edi_octets.specs.Profile.{entries_of, with_earlier}
 use Rattle.edi_tables.specs.First.{unless_faulty}
-use Rattle.dir_segments.specs.Parts.{is_item_line, fields_behind}
+use Rattle.dir_segments.specs.Parts.{is_item_line, fields_past_position}
 use Rattle.dir_segments.specs.Segments.{Item, details_of, entry_faults, segment_with}
 
 -- an item line with all fields after its position, and the number 1
 abbrev pub unnumbered_at : Line → List Line → Item
 unnumbered_at line lines =
-    record { line = line; fields = fields_behind line; reps = 1; details = details_of lines }
+    record { line = line; fields = fields_past_position line; reps = 1; details = details_of lines }
 
 -- the items of an entry's lines
 abbrev pub unnumbered_of : List Line → List Item
@@ -33,7 +33,7 @@ abbrev pub unnumbered_segment : List Line → SegmentDef
 unnumbered_segment [] = record { tag = record { octets = [] }; items = [] }
 unnumbered_segment (head ∷ body) = segment_with head (unnumbered_of body)
 
--- what a segment file stood for
+-- what a segment file gave: a segment for each entry, or its first fault
 unfoldable pub unnumbered_in_file : List CompositeDef → Octets → Result (List SegmentDef) DirFault
 unnumbered_in_file known file =
     let entries = entries_of (lines_of file) in

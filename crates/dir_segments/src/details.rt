@@ -15,7 +15,7 @@ use edi_octets::{Body, DirKind, DirStop, LineText, is_element_code};
 use edi_tables::{ItemDef, PartDef};
 use std::alloc::Global;
 
-/// Reads the detail lines of an item, which stand before the next item line: the parts that they repeat.
+/// Reads the detail lines of an item, which come before the next item line: the parts that they repeat.
 pub(crate) fn read_details(
     alloc: Global,
     below_composite: bool,
@@ -100,7 +100,7 @@ fn read_repeated(below_composite: bool, line: &LineText<'_>) -> Result<PartDef, 
     }
 }
 
-/// The part that a line without a position stands for: an element code, a name, a status and a representation.
+/// The part that a line without a position defines: an element code, a name, a status and a representation.
 fn read_whole_element(line: &LineText<'_>) -> Option<PartDef>
     ensures { result ≡ part_in (fields_of line.now.octets.now) }
 {

@@ -1,4 +1,4 @@
-//! What stands on a line of a part or an item.
+//! What is on a line of a part or an item.
 ghost use Rattle.std.specs.Prelude.{◌≡◌, ◌==◌, ◌&&◌, nat_le, length, slice_index, true, false, Some, None, MatchOption, if◌then◌else◌};
 ghost use Rattle.std.specs.Str.Parse.{digits_value};
 ghost use Rattle.edi_octets.specs.Left.{line_shown, cells_left};
@@ -47,15 +47,15 @@ pub(crate) fn is_item_line(line: &LineText<'_>) -> bool
 }
 
 /// The fields after the position of a line.
-pub(crate) fn fields_behind<'a>(line: &LineText<'a>) -> Cells<'a>
-    ensures { cells_left result ≡ parts.fields_behind (line_shown line.now) }
+pub(crate) fn fields_past_position<'a>(line: &LineText<'a>) -> Cells<'a>
+    ensures { cells_left result ≡ parts.fields_past_position (line_shown line.now) }
 {
     let mut fields = line.fields();
     let _position = fields.next();
     after_position(fields)
 }
 
-/// The data element that fields stand for: a code, a name, a status and a representation.
+/// The data element that fields define: a code, a name, a status and a representation.
 pub(crate) fn read_element(fields: Cells<'_>) -> Option<ElementFields>
     ensures { MatchOption result (parts.is_element_form (cells_left fields.entry) ≡ false)
         (λ element. (parts.is_element_form (cells_left fields.entry) ≡ true)
@@ -74,7 +74,7 @@ pub(crate) fn read_element(fields: Cells<'_>) -> Option<ElementFields>
     })
 }
 
-/// The data element that the fields of an item stand for: a code, a name, a status, perhaps a number of repetitions,
+/// The data element that the fields of an item define: a code, a name, a status, perhaps a number of repetitions,
 /// and a representation.
 pub(crate) fn read_element_item(fields: Cells<'_>) -> Option<ElementItem>
     ensures { let own = repetitions.item_fields (cells_left fields.entry) in
@@ -96,7 +96,7 @@ pub(crate) fn read_element_item(fields: Cells<'_>) -> Option<ElementItem>
     }
 }
 
-/// The composite that the fields of an item stand for: a code, a name, a status, and perhaps a number of repetitions.
+/// The composite that the fields of an item define: a code, a name, a status, and perhaps a number of repetitions.
 pub(crate) fn read_composite_item(fields: Cells<'_>) -> Option<CompositeItem>
     ensures { let own = repetitions.item_fields (cells_left fields.entry) in
         MatchOption result (parts.is_composite_form own ≡ false)

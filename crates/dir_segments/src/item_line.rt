@@ -8,7 +8,7 @@ ghost use Rattle.dir_segments.specs.Parts as parts;
 ghost use Rattle.dir_segments.specs.Repetitions.{item_fields, reps_in};
 ghost use Rattle.dir_segments.specs.Segments as segments;
 
-use crate::fields::{CompositeItem, fields_behind, read_composite_item, read_element_item};
+use crate::fields::{CompositeItem, fields_past_position, read_composite_item, read_element_item};
 use crate::part_line::{POSITION_DIGITS, judge_element, judge_status};
 use edi_octets::{DirKind, DirStop, LineText, read_position};
 use edi_tables::ItemDef;
@@ -16,14 +16,14 @@ use edi_tables::ItemDef;
 /// Reads an item line after the position before: its position and its item.
 pub(crate) fn read_item(before: Option<u64>, line: &LineText<'_>) -> Result<(u64, ItemDef), DirStop>
     ensures { let shown = line_shown line.now in
-        let fields = parts.fields_behind shown in
+        let fields = parts.fields_past_position shown in
         parts.GivesPlaced result (segments.line_faults before shown (item_fields fields))
         (profile.position_of shown) (segments.item_in (item_fields fields) (reps_in fields)) }
 {
     let Some(position) = read_position(line, POSITION_DIGITS) else {
         return Err(line.breaks(DirKind::BadLine));
     };
-    let fields = fields_behind(line);
+    let fields = fields_past_position(line);
     if let Some(item) = read_element_item(fields) {
         let part = judge_element(before, position, line, &item.element)?;
         let reps = item.reps;

@@ -9,7 +9,7 @@ use edi_tables::{Code, CompositeDef};
 use std::alloc::{AllocError, Global};
 use std::collections::HashMap;
 
-/// Known composites, and where the first of each code stands among them.
+/// Known composites, and where the first of each code is among them.
 #[derive(Drop)]
 pub(crate) struct KnownComposites<'a> {
     pub composites: &'a [CompositeDef],
@@ -45,7 +45,7 @@ impl KnownComposites<'_> {
     }
 }
 
-/// Notes where a composite of a code stands, unless one of that code stands before it.
+/// Notes where a composite of a code is, unless one of that code comes before it.
 fn note_place(
     places: &mut HashMap<[u8; 4], usize>,
     code: &Code,

@@ -6,7 +6,7 @@ ghost use Rattle.edi_octets.specs.Left.{line_shown};
 ghost use Rattle.edi_octets.specs.Profile as profile;
 ghost use Rattle.dir_segments.specs.Parts as parts;
 
-use crate::fields::{ElementFields, fields_behind, read_element};
+use crate::fields::{ElementFields, fields_past_position, read_element};
 use edi_octets::{DirKind, DirStop, LineText, is_greater, read_position};
 use edi_tables::PartDef;
 
@@ -17,12 +17,12 @@ pub(crate) const POSITION_DIGITS: usize = 3;
 pub(crate) fn read_part(before: Option<u64>, line: &LineText<'_>) -> Result<(u64, PartDef), DirStop>
     ensures { let shown = line_shown line.now in
         parts.GivesPlaced result (parts.part_faults before shown)
-        (profile.position_of shown) (parts.part_in (parts.fields_behind shown)) }
+        (profile.position_of shown) (parts.part_in (parts.fields_past_position shown)) }
 {
     let Some(position) = read_position(line, POSITION_DIGITS) else {
         return Err(line.breaks(DirKind::BadLine));
     };
-    let Some(element) = read_element(fields_behind(line)) else {
+    let Some(element) = read_element(fields_past_position(line)) else {
         return Err(line.breaks(DirKind::BadLine));
     };
     let part = judge_element(before, position, line, &element)?;

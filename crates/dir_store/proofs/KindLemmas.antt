@@ -146,7 +146,7 @@ found-passes wanted passes (y ∷ ys) x all is =
     let parts = and_parts (passes y) (list_all passes ys) all in
     found-first passes y (find wanted ys) x (wanted y) parts.0 (λ later. found-passes wanted passes ys x parts.1 later) is
 
--- no fault is told where the rule isn't broken
+-- no fault is reported where the rule isn't broken
 pub unbroken : {F : Type 0} (test : Bool) (fault : F) → when (not test) fault ≡ [] → test ≡ true
 unbroken true fault is = refl
 unbroken false fault is = absurd cc

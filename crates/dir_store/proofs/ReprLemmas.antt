@@ -12,7 +12,7 @@ use Rattle.edi_tables.specs.declared.element.Class.{Class}
 use Rattle.edi_tables.specs.declared.element.Class.TheVariants.{A, N, An}
 use Rattle.edi_tables.specs.declared.element.Repr.{Repr}
 use Rattle.edi_tables.specs.Forms.{is_repr_formed}
-use Rattle.edi_octets.specs.Profile.{length_in, sized_repr, repr_behind, repr_in, status_in, status_text}
+use Rattle.edi_octets.specs.Profile.{length_in, sized_repr, repr_after, repr_in, status_in, status_text}
 use Rattle.edi_octets.proofs.DecimalLemmas.{digit_between, digits_value-room}
 use Rattle.edi_octets.proofs.EachLemmas.{passes_if_made}
 use Rattle.edi_octets.proofs.ProfileLemmas.{repr_in-formed}
@@ -74,7 +74,7 @@ sized-takes class exact field r is = by (length_in field) refl is
         let made : (let m : Repr = record { class = class; exact = exact; max = n } in m ≡ r) = some-is (record { class = class; exact = exact; max = n }) r is in
         (sym (ap (λ (m : Repr). m.class) made), sym (ap (λ (m : Repr). m.exact) made), length-takes field n read ∙ ap (λ (m : Repr). decimal m.max) made)
 
--- what stands after the class
+-- what comes after the class
 abbrev behind_text : Repr → List ℕ
 behind_text r = dots_text r.exact ++ decimal r.max
 
@@ -103,13 +103,13 @@ behind-one : (class : Class) (x : ℕ) (r : Repr) (first : Bool) → cond (first
 behind-one class x r true is = behind-exact class (x ∷ []) r is
 behind-one class x r false is = behind-exact class (x ∷ []) r is
 
-behind-takes : (class : Class) (rest : List ℕ) (r : Repr) → repr_behind class rest ≡ Some r → (r.class ≡ class) × (rest ≡ behind_text r)
+behind-takes : (class : Class) (rest : List ℕ) (r : Repr) → repr_after class rest ≡ Some r → (r.class ≡ class) × (rest ≡ behind_text r)
 behind-takes class [] r is = behind-exact class [] r is
 behind-takes class (x ∷ []) r is = behind-one class x r (eqb x 46) is
 behind-takes class (x ∷ y ∷ more) r is = behind-two class x y more r (eqb x 46) (eqb y 46) refl refl is
 
 -- the whole, with the class in front
-whole : (class : Class) (rest : List ℕ) (r : Repr) → repr_behind class rest ≡ Some r → class_text class ++ rest ≡ repr_text r
+whole : (class : Class) (rest : List ℕ) (r : Repr) → repr_after class rest ≡ Some r → class_text class ++ rest ≡ repr_text r
 whole class rest r is =
     let behind = behind-takes class rest r is in
     ap (λ (b : List ℕ). class_text class ++ b) behind.1 ∙ sym (append_assoc (class_text class) (dots_text r.exact) (decimal r.max)) ∙ ap (λ c. class_text c ++ dots_text r.exact ++ decimal r.max) (sym behind.0)
@@ -117,13 +117,13 @@ whole class rest r is =
 is-octet : (x n : ℕ) → eqb x n ≡ true → x ≡ n
 is-octet x n is = search (arith, eqb-true)
 
-after-a : (x : ℕ) (more : List ℕ) (r : Repr) (second : Bool) → eqb (slice_index more 0) 110 ≡ second → cond second (repr_behind An (drop 1 more)) (repr_behind A more) ≡ Some r → 97 ∷ more ≡ repr_text r
+after-a : (x : ℕ) (more : List ℕ) (r : Repr) (second : Bool) → eqb (slice_index more 0) 110 ≡ second → cond second (repr_after An (drop 1 more)) (repr_after A more) ≡ Some r → 97 ∷ more ≡ repr_text r
 after-a x [] r true two is = absurd cc
 after-a x (y ∷ more) r true two is = ap (λ b. 97 ∷ b ∷ more) (is-octet y 110 two) ∙ whole An more r is
 after-a x more r false two is = whole A more r is
 
 first-octet : (x : ℕ) (more : List ℕ) (r : Repr) (a n : Bool) → eqb x 97 ≡ a → eqb x 110 ≡ n
-    → cond a (cond (eqb (slice_index more 0) 110) (repr_behind An (drop 1 more)) (repr_behind A more)) (cond n (repr_behind N more) None) ≡ Some r → x ∷ more ≡ repr_text r
+    → cond a (cond (eqb (slice_index more 0) 110) (repr_after An (drop 1 more)) (repr_after A more)) (cond n (repr_after N more) None) ≡ Some r → x ∷ more ≡ repr_text r
 first-octet x more r true n one two is = ap (λ b. b ∷ more) (is-octet x 97 one) ∙ after-a x more r (eqb (slice_index more 0) 110) refl is
 first-octet x more r false true one two is = ap (λ b. b ∷ more) (is-octet x 110 two) ∙ whole N more r is
 first-octet x more r false false one two is = absurd cc
@@ -142,7 +142,7 @@ repr-takes word r is = (repr-spelled word r is, repr-formed word r is)
 
 -- ---- what is spelled
 
-behind-again : (class : Class) (exact : Bool) (n : ℕ) → IsDigits (decimal n) n → repr_behind class (dots_text exact ++ decimal n) ≡ Some (record { class = class; exact = exact; max = n })
+behind-again : (class : Class) (exact : Bool) (n : ℕ) → IsDigits (decimal n) n → repr_after class (dots_text exact ++ decimal n) ≡ Some (record { class = class; exact = exact; max = n })
 behind-again class true n digits =
     rw (ne_eqb (slice_index (decimal n) 0) 46 (omega (arith, digits.low))) (ap (sized_repr class true) digits.read)
 behind-again class false n digits = ap (sized_repr class false) digits.read

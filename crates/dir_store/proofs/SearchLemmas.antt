@@ -27,7 +27,7 @@ less-from-before Less is = refl
 less-from-before Equal is = absurd cc
 less-from-before Greater is = absurd cc
 
--- where the order is told of a name and the one that is looked for
+-- the order of a name and the one that is looked for
 same-name : (a b : List ℕ) → slice_cmp nat_cmp a b ≡ Equal → a ≡ b
 same-name a b is = (bytes_eq-Decides a b).0 (texts_ties a b ∙ ap is_eq is)
 

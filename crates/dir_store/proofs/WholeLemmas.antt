@@ -354,7 +354,7 @@ store-begins octets parts (inr old) = ap begins_as_store old.1 ∙ spelling-begi
 
 -- ---- what a reader of stores answers
 
--- a stop inside a store tells the place of its fault
+-- a stop inside a store gives the place of its fault
 pub placed-stop : (octets : List ℕ) (n : ℕ) (told : Option ℕ) → n ≡ length octets → IfSome told (λ left. parts_at octets ≡ Err left) → IfSome (option_map (λ left. n - left) told) (λ at. store_of octets ≡ Err at)
 unfolding store_of
 placed-stop octets n None long is = tt
@@ -369,7 +369,7 @@ placed-parts octets parts is = ap (result_map_both (λ (parts : Parts). parts) (
 pub spelled-gives : (octets : List ℕ) (parts : Parts) → length octets ≤ 4194304 → IsDirectory parts → IsStoreOf octets parts → store_of octets ≡ Ok parts
 spelled-gives octets parts small is spelled = store-again octets parts is spelled (omega (arith, small))
 
--- so no fault is told of it
+-- so no fault of it is reported
 pub spelled-stop : (octets : List ℕ) (told : Option ℕ) → length octets ≤ 4194304 → IfSome told (λ at. store_of octets ≡ Err at) → (parts : Parts) → IsDirectory parts → IsStoreOf octets parts → IfSome told (λ at. Ok parts ≡ Err at)
 spelled-stop octets None small tells parts is spelled = tt
 spelled-stop octets (Some at) small tells parts is spelled = sym (spelled-gives octets parts small is spelled) ∙ tells

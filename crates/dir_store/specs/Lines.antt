@@ -1,4 +1,4 @@
--- LineRead a store line by line, up to the first fault.
+-- Reading a store line by line, up to the first fault.
 use Rattle.std.specs.Prelude.{◌-◌, ◌+◌, ◌==◌, ℕ, zero, suc, List, [], ◌∷◌, ◌++◌, length, take, drop, slice_get, position, Option, Some, None, Result, Ok, Err}
 use Rattle.edi_tables.specs.Octets.{Octets}
 
@@ -8,10 +8,11 @@ abbrev pub ◌>>=◌ : {A B : Type 0} → Result A ℕ → (A → Result B ℕ) 
 (Ok x) >>= next = next x
 (Err fault) >>= next = Err fault
 
--- what is read at the front of octets, and the octets after it; or a fault, told by how many octets are left there
+-- what is read at the front of octets, and the octets after it; or a fault, given by how many octets are left there
 abbrev pub LineRead : Type 0 → Type 0
 LineRead A = Result (A × Octets) ℕ
 
+-- the line before the line feed at this place, and the octets after it; without one, a fault at their end
 abbrev pub line_to : Octets → Option ℕ → LineRead Octets
 line_to octets None = Err 0
 line_to octets (Some end) = Ok (take end octets, drop (end + 1) octets)

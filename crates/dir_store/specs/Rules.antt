@@ -1,4 +1,4 @@
--- The rule of each kind of a store's lines: what a line gives, after what stands before it.
+-- The rule of each kind of a store's lines: what a line gives, after what comes before it.
 use Rattle.std.specs.Prelude.{ℕ, Bool, true, not, ◌==◌, ◌&&◌, nat_le, nat_lt, List, length, slice_index, Option, Some, None, option_and_then, is_some, codes, if◌then◌else◌}
 use Rattle.std.specs.Option.{option_map}
 use Rattle.std.specs.Str.{bytes_eq}
@@ -29,6 +29,7 @@ use Rattle.dir_store.specs.declared.version.StoreVersion.TheVariants.{First, Sec
 abbrev pub kept : {A : Type 0} → (A → Bool) → Option A → Option A
 kept test found = option_and_then (λ x. if test x then Some x else None) found
 
+-- a number is at least the low one and at most the high one
 abbrev pub is_between : ℕ → ℕ → ℕ → Bool
 is_between low high n = nat_le low n && nat_le n high
 
@@ -41,10 +42,11 @@ comes_after name (Some before) next = is_before (name before) next
 abbrev pub number_in : Octets → Option ℕ
 number_in word = if slice_index word 0 == 48 && nat_lt 1 (length word) then None else decimal_in word
 
--- the head of a list: a name, and how many members follow
+-- two words as a head: a name and a number
 abbrev pub head_with : Octets × Octets → Option (Octets × ℕ)
 head_with w = option_map (λ n. (w.0, n)) (number_in w.1)
 
+-- the head of a list: a name, and how many members follow
 abbrev pub head_in : Octets → Option (Octets × ℕ)
 head_in line = option_and_then head_with (two_in line)
 
@@ -56,12 +58,13 @@ labels_in line = option_and_then labels_of (three_in line)
 abbrev pub section_in : Octets → Octets → Option (Octets × ℕ)
 section_in letter line = kept (λ h. bytes_eq h.0 letter) (head_in line)
 
--- a data element: a code in order, and a representation
+-- two words as a data element: a code that comes after the one before, and a representation
 abbrev pub element_with : Option ElementDef → Octets × Octets → Option ElementDef
 element_with before w =
     if is_element_code w.0 && comes_after element_name before w.0
     then option_map (λ repr. record { code = record { octets = w.0 }; repr = repr }) (repr_in w.1) else None
 
+-- a data element: a code in order, and a representation
 abbrev pub element_in : Option ElementDef → Octets → Option ElementDef
 element_in before line = option_and_then (element_with before) (two_in line)
 
@@ -86,11 +89,12 @@ part_of elements code must =
     option_map (λ element. record { code = record { octets = code }; must = must; repr = element.repr })
     (named_in element_name elements code)
 
--- a part: a data element of the store, and a status
+-- two words as a part: the code of a data element of the store, and a status
 abbrev pub part_with : List ElementDef → Octets × Octets → Option PartDef
 part_with elements w =
     option_and_then (λ must. if is_element_code w.0 then part_of elements w.0 must else None) (status_in w.1)
 
+-- a part: a data element of the store, and a status
 abbrev pub part_in : List ElementDef → Octets → Option PartDef
 part_in elements line = option_and_then (part_with elements) (two_in line)
 
@@ -121,11 +125,12 @@ abbrev pub item_words_in : StoreVersion → Octets → Option (Octets × Octets 
 item_words_in First line = option_map (λ w. (w.0, w.1, 1)) (two_in line)
 item_words_in Second line = option_and_then reps_with (three_in line)
 
--- an item: a data element or a composite of the store, a status, and a greatest number of repetitions
+-- the item of a code's and a status's words, and a greatest number of repetitions
 abbrev pub item_with : List ElementDef → List CompositeDef → Octets × Octets × ℕ → Option ItemDef
 item_with elements composites w =
     option_and_then (λ must. item_of elements composites w.0 must w.2) (status_in w.1)
 
+-- an item: a data element or a composite of the store, a status, and a greatest number of repetitions
 abbrev pub item_in : StoreVersion → List ElementDef → List CompositeDef → Octets → Option ItemDef
 item_in version elements composites line =
     option_and_then (item_with elements composites) (item_words_in version line)
@@ -147,15 +152,17 @@ abbrev pub called : List SegmentDef → Octets → Option (Option Tag)
 called segments word =
     if bytes_eq word (codes "-") then Some None else option_map (λ tag. Some tag) (tag_of segments word)
 
+-- the row of this depth, tag, status and greatest count
 abbrev pub row_of : ℕ → Option Tag → Bool → ℕ → TableRow
 row_of depth tag must max = record { tag = tag; must = must; max = max; depth = depth }
 
--- a row: its depth from 0 to 16, what it is called, a status, and its greatest count from 1 to 999,999
+-- four words as a row: a depth from 0 to 16, what it is called, a status, and a count from 1 to 999,999
 abbrev pub row_with : List SegmentDef → Octets × Octets × Octets × Octets → Option TableRow
 row_with segments w =
     option_and_then (λ depth. option_and_then (λ tag. option_and_then (λ must.
     option_map (row_of depth tag must) (kept (is_between 1 999999) (number_in w.3)))
     (status_in w.2)) (called segments w.1)) (kept (is_between 0 16) (number_in w.0))
 
+-- a row: its depth, what it is called, a status, and its greatest count
 abbrev pub row_in : List SegmentDef → Octets → Option TableRow
 row_in segments line = option_and_then (row_with segments) (four_in line)

@@ -60,6 +60,7 @@ list_text list = listed list.element.octets value_text list.values
 abbrev pub part_text : PartDef → Octets
 part_text part = line_of (part.code.octets ∷ status_text part.must ∷ [])
 
+-- a composite: its code, and its components
 abbrev pub composite_text : CompositeDef → Octets
 composite_text composite = listed composite.code.octets part_text composite.parts
 
@@ -73,6 +74,7 @@ abbrev pub item_text : StoreVersion → ItemDef → Octets
 item_text version (Alone part reps) = line_of (item_words version part.code.octets part.must reps)
 item_text version (Composite code must reps) = line_of (item_words version code.octets must reps)
 
+-- a segment: its tag, and its items
 abbrev pub segment_text : StoreVersion → SegmentDef → Octets
 segment_text version segment = listed segment.tag.octets (item_text version) segment.items
 
@@ -85,6 +87,7 @@ row_name (Some tag) = tag.octets
 abbrev pub row_text : TableRow → Octets
 row_text row = line_of (decimal row.depth ∷ row_name row.tag ∷ status_text row.must ∷ decimal row.max ∷ [])
 
+-- a message: its name, and the rows of its segment table
 abbrev pub message_text : MessageDef → Octets
 message_text message = listed message.name row_text message.rows
 

@@ -35,44 +35,50 @@ headed rule member made octets =
     lined rule octets >>= λ head. several head.0.1 member [] head.1
     >>= λ members. found_at octets (made head.0.0 members.0) members.1
 
--- data elements
+-- a data element, which is one line
 unfoldable pub element_at : Option ElementDef → Octets → LineRead ElementDef
 element_at before octets = lined (element_in before) octets
 
--- code lists
+-- a code of a list, which is one line
 unfoldable pub value_at : Option Octets → Octets → LineRead Octets
 value_at before octets = lined (value_in before) octets
 
+-- the code list of the data element with this code, and of these codes
 abbrev pub list_of : Octets → List Octets → Option CodeList
 list_of name values = Some (record { element = record { octets = name }; values = values })
 
+-- a code list: a line of its data element, and then its codes
 unfoldable pub list_at : List ElementDef → Option CodeList → Octets → LineRead CodeList
 list_at elements before octets = headed (list_in elements before) value_at list_of octets
 
--- composites
+-- a part of a composite, which is one line
 unfoldable pub part_at : List ElementDef → Option PartDef → Octets → LineRead PartDef
 part_at elements before octets = lined (part_in elements) octets
 
+-- the composite of this code and these parts
 abbrev pub composite_of : Octets → List PartDef → Option CompositeDef
 composite_of name parts = Some (record { code = record { octets = name }; parts = parts })
 
+-- a composite: a line of its code, and then its parts
 unfoldable pub composite_at : List ElementDef → Option CompositeDef → Octets → LineRead CompositeDef
 composite_at elements before octets = headed (composite_in before) (part_at elements) composite_of octets
 
--- segments
+-- an item of a segment, which is one line
 unfoldable pub item_at : StoreVersion
     → List ElementDef → List CompositeDef → Option ItemDef → Octets → LineRead ItemDef
 item_at version elements composites before octets = lined (item_in version elements composites) octets
 
+-- the segment of this tag and these items
 abbrev pub segment_of : Octets → List ItemDef → Option SegmentDef
 segment_of name items = Some (record { tag = record { octets = name }; items = items })
 
+-- a segment: a line of its tag, and then its items
 unfoldable pub segment_at : StoreVersion
     → List ElementDef → List CompositeDef → Option SegmentDef → Octets → LineRead SegmentDef
 segment_at version elements composites before octets =
     headed (segment_in before) (item_at version elements composites) segment_of octets
 
--- messages
+-- a row of a message, which is one line
 unfoldable pub row_at : List SegmentDef → Option TableRow → Octets → LineRead TableRow
 row_at segments before octets = lined (row_in segments) octets
 
@@ -80,13 +86,15 @@ row_at segments before octets = lined (row_in segments) octets
 abbrev pub message_of : Octets → List TableRow → Option MessageDef
 message_of name rows = if is_filled (table_faults rows) then None else Some (record { name = name; rows = rows })
 
+-- a message: a line of its name, and then its rows
 unfoldable pub message_at : List SegmentDef → Option MessageDef → Octets → LineRead MessageDef
 message_at segments before octets = headed (message_in before) (row_at segments) message_of octets
 
--- the definitions of a kind, in a section of its letter
+-- a section gives its members, whatever its letter
 abbrev pub section_of : {A : Type 0} → Octets → List A → Option (List A)
 section_of letter members = Some members
 
+-- the definitions of a kind: a line of its letter, and then the definitions
 unfoldable pub section_at : {A : Type 0} → Octets → (Option A → Octets → LineRead A) → Octets → LineRead (List A)
 section_at letter member octets = headed (section_in letter) member section_of octets
 

@@ -1,7 +1,7 @@
 //! Tests of public calls on directories: the files of elements and code lists, of composites and segments, and of messages;
 //! stores, loading, and the directory of a drill.
 //!
-//! They stand in a crate of their own, over the proved libraries: a crate with tests in it is proved twice.
+//! They are in a crate of their own, over the proved libraries: a crate with tests in it is proved twice.
 #![tactic(auto)]
 
 #[cfg(test)]

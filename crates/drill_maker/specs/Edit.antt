@@ -8,10 +8,11 @@ pub record Edit : Type 0 where
   pub cut : ℕ
   pub put : Octets
 
--- the numbers that the places come from: the first is x, and each gives the next
+-- the number that comes after y
 abbrev pub number_after : ℕ → ℕ
 number_after y = (1103515245 * y + 12345) % 2147483648
 
+-- the numbers that the places come from: number 0 is x, and each gives the next
 unfoldable pub number_at : ℕ → ℕ → ℕ
 number_at x zero = x
 number_at x (suc p) = number_after (number_at x p)

@@ -37,6 +37,7 @@ lines_text i lines = flat_map (λ j. line_text j (i + j)) (range_with_len 1 line
 unfoldable pub message_text : ℕ → ℕ → Octets
 message_text x i = head_text (i + 1) ++ lines_text i (line_count x i) ++ end_text (line_count x i) (i + 1)
 
+-- n messages for the number x, one after the other
 abbrev pub messages_text : ℕ → ℕ → Octets
 messages_text n x = flat_map (message_text x) (range_with_len 0 n)
 

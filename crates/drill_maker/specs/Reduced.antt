@@ -22,6 +22,7 @@ element code class most = record { code = record { octets = code }; repr = repr_
 abbrev pub list_of : Octets → List Octets → CodeList
 list_of code values = record { element = record { octets = code }; values = values }
 
+-- the data elements, each with its representation
 abbrev pub elements : List ElementDef
 elements =
     element (codes "1000") An 35
@@ -53,12 +54,14 @@ elements =
     ∷ element (codes "7143") An 3
     ∷ []
 
+-- the code lists of two of the data elements
 abbrev pub lists : List CodeList
 lists =
     list_of (codes "1001") (codes "220" ∷ codes "231" ∷ [])
     ∷ list_of (codes "2005") (codes "2" ∷ codes "137" ∷ [])
     ∷ []
 
+-- the composites, each with its components in order
 abbrev pub composites : List CompositeDef
 composites =
     composite_of (codes "C002") (
@@ -94,6 +97,7 @@ composites =
     part (codes "5004") N (up_to 18) C ∷ [])
     ∷ []
 
+-- the segments, each with its items in order
 abbrev pub segments : List SegmentDef
 segments =
     segment_of (codes "BGM") (
@@ -146,6 +150,7 @@ order_rows =
 abbrev pub order_messages : List MessageDef
 order_messages = record { name = codes "TSTORD"; rows = order_rows } ∷ []
 
+-- the parts of the reduced directory: D.96A of UN, and these definitions
 unfoldable pub reduced : Parts
 reduced = record {
   version = codes "D";
@@ -158,6 +163,6 @@ reduced = record {
   messages = order_messages;
 }
 
--- the reduced directory
+-- the reduced directory: its parts, in ascending order of names
 abbrev pub drill_directory : Directory
 drill_directory = ordered_parts reduced

@@ -13,6 +13,7 @@ stop_by length at cut put =
     if nat_lt length (at + cut) then Some Range
     else (if nat_lt LONGEST_TEXT (length - cut + put) then Some TooLong else None)
 
+-- why an edit of a text isn't made, if it isn't: octets in place of the `cut` octets from the place `at` on
 abbrev pub stop_of : Octets → ℕ → ℕ → Octets → Option EditStop
 stop_of text at cut put = stop_by (length text) at cut (length put)
 

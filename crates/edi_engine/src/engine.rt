@@ -1,4 +1,4 @@
-//! The engine: a kept text, and what is told of it.
+//! The engine: a kept text, and what is reported of it.
 ghost use Rattle.std.specs.Prelude.{◌≡◌, ◌+◌, ◌++◌, ◌<◌, ◌≤◌, ℕ, List, All, codes, length, IfOk, IsTrue};
 ghost use Rattle.std.specs.List.Sorted.{IsPermutation};
 ghost use Rattle.contrl_segments.specs.Stamp.{IsStamp, is_reference_of};

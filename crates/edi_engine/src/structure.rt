@@ -140,7 +140,7 @@ fn missing_error(table: &Table, seen: &WalkedSegment<'_>, node: u16) -> ErrorLin
     }
 }
 
-// The entry that stands for a node: the trigger of a group.
+// The entry of a node, which for a group is its trigger.
 fn entry_for(table: &Table, node: u16) -> u16
     requires { node < length table.now }
     ensures entry { result ≡ entry_for_of table.now node }

@@ -6,9 +6,11 @@ use Rattle.kept_text.specs.Reading.{Reading}
 use Rattle.edi_history.specs.Reading.{PastReading}
 use Rattle.edi_history.specs.declared.history.History.TheInside.{Inside}
 
+-- the texts of versions, in their order
 abbrev pub texts_of : List Reading → List Octets
 texts_of versions = map (λ version. version.text) versions
 
+-- what is seen of a history: the present version's directory and text, the texts before it, and those that were undone
 abbrev pub past_reading : Inside → PastReading
 past_reading h = record {
   directory = h.present.directory;

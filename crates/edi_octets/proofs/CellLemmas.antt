@@ -21,7 +21,7 @@ cells_of-skip [] = refl
 cells_of-skip (x ∷ xs) =
     ⊎_elim (λ (yes : is_space x ≡ true). rw (yes, one-add) (cells_of-skip xs)) (λ (no : is_space x ≡ false). rw (no, no) refl) (cases_Bool (is_space x))
 
--- what stands behind the longest front that passes doesn't begin with one that passes
+-- what is after the longest front that passes doesn't begin with one that passes
 pub prefix_len-behind : {A : Type 0} (p : A → Bool) (xs : List A) → prefix_len p (drop (prefix_len p xs) xs) ≡ 0
 prefix_len-behind p [] = refl
 prefix_len-behind p (x ∷ xs) =
@@ -36,7 +36,7 @@ no_octet (x ∷ xs) front place =
     (λ (no : is_space x ≡ false). absurd (omega (arith, rw no at place)))
     (cases_Bool (is_space x))
 
--- a line that begins with a space, or is empty, has the cells of what stands behind that
+-- a line that begins with a space, or is empty, has the cells of what is after that
 cells_of-space : (x : ℕ) (xs : List ℕ) → is_space x ≡ true → cells_of (x ∷ xs) ≡ cells_of xs
 unfolding cells_of
 cells_of-space x xs space = rw space refl
@@ -83,7 +83,7 @@ prefix_len-replicate : (n : ℕ) (xs : List ℕ) → prefix_len is_space (replic
 prefix_len-replicate zero xs = omega arith
 prefix_len-replicate (suc n) xs = omega (arith, prefix_len-replicate n xs)
 
--- the line behind the marks that are read as spaces
+-- the line after the marks that are read as spaces
 abbrev pub behind_marks : List ℕ → List ℕ
 behind_marks line = if is_marked line then drop (marks_of line) line else line
 

@@ -18,7 +18,7 @@ own = numerals_by_value (λ ds. all_ascii_digits ds ≡ true) tells_all_ascii_di
 pub list_all-digits : (xs : List ℕ) → list_all is_ascii_digit xs ≡ all_ascii_digits xs
 list_all-digits = same_from_clauses (list_all is_ascii_digit) all_ascii_digits (λ x rest. is_ascii_digit x && rest) refl (λ _ _. refl) (λ _ _. refl)
 
--- a digit stands at each place
+-- a digit is at each place
 pub digit_between : (xs : List ℕ) (i : ℕ) → all_ascii_digits xs ≡ true → i < length xs → IsInRange 48 57 (get_or xs i 0)
 digit_between xs i digits lt = digit_at xs i (own.to xs digits) lt
 

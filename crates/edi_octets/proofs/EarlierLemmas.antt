@@ -18,7 +18,7 @@ module _ {A : Type 0} where
   pub with_earlier-push : (xs : List A) (x : A) → with_earlier (xs ++ x ∷ []) ≡ with_earlier xs ++ (xs, x) ∷ []
   with_earlier-push xs x = with_earlier_from-append [] xs (x ∷ [])
 
-  -- at a member, with others behind it
+  -- at a member, with others after it
   pub with_earlier-at : (xs : List A) (x : A) (ys : List A) → with_earlier (xs ++ x ∷ ys) ≡ with_earlier xs ++ (xs, x) ∷ with_earlier_from (xs ++ x ∷ []) ys
   with_earlier-at xs x ys = with_earlier_from-append [] xs (x ∷ ys)
 

@@ -32,7 +32,7 @@ pub body_within-blank : (line : Line) (lines : List Line) → is_separator line 
 unfolding body_within
 body_within-blank line lines within blank = rw (within, one-add, blank) refl
 
--- ---- the lines behind a separator
+-- ---- the lines after a separator
 
 pub after_separator-end : (line : Line) (lines : List Line) → is_separator line ≡ true → after_first is_separator (line ∷ lines) ≡ lines
 after_separator-end line lines ends = rw ends refl
@@ -67,7 +67,7 @@ entries_within-head head lines within written =
     (λ (last : (slice_split is_separator lines ≡ before_first is_separator lines ∷ []) × (after_first is_separator lines ≡ [])). rw (within, last.0, last.1, written) refl)
     (slice_split-cases is_separator lines)
 
--- what stands before the first separator is no entry
+-- what is before the first separator is no entry
 pub entries_of-within : (lines : List Line) → entries_of lines ≡ entries_within (after_first is_separator lines)
 unfolding entries_of entries_within
 entries_of-within lines =

@@ -10,17 +10,17 @@ use Rattle.edi_tables.specs.declared.element.Class.TheVariants.{A, N, An}
 use Rattle.edi_tables.specs.declared.element.Repr.{Repr}
 use Rattle.edi_tables.specs.Forms.{is_repr_formed}
 use Rattle.edi_octets.specs.Decimal.{decimal_in}
-use Rattle.edi_octets.specs.Profile.{length_in, sized_repr, repr_behind, repr_in}
+use Rattle.edi_octets.specs.Profile.{length_in, sized_repr, repr_after, repr_in}
 use Rattle.edi_octets.proofs.DecimalLemmas.{digits_value-room, digits_value-least}
 use Rattle.edi_octets.proofs.EachLemmas.{passes_if_made}
 
-pub repr_in-a : (field : List ℕ) → slice_index field 0 ≡ 97 → repr_in field ≡ (if slice_index (drop 1 field) 0 == 110 then repr_behind An (drop 1 (drop 1 field)) else repr_behind A (drop 1 field))
+pub repr_in-a : (field : List ℕ) → slice_index field 0 ≡ 97 → repr_in field ≡ (if slice_index (drop 1 field) 0 == 110 then repr_after An (drop 1 (drop 1 field)) else repr_after A (drop 1 field))
 unfolding repr_in
 repr_in-a [] a = absurd (omega arith)
 repr_in-a (x ∷ []) a = rw a refl
 repr_in-a (x ∷ y ∷ field) a = rw a refl
 
-pub repr_in-n : (field : List ℕ) → slice_index field 0 ≡ 110 → repr_in field ≡ repr_behind N (drop 1 field)
+pub repr_in-n : (field : List ℕ) → slice_index field 0 ≡ 110 → repr_in field ≡ repr_after N (drop 1 field)
 unfolding repr_in
 repr_in-n field n = rw n refl
 
@@ -98,8 +98,8 @@ pub formed-if : (test : Bool) (a b : Option Repr) → passes_if_made is_repr_for
 formed-if true a b first second = first
 formed-if false a b first second = second
 
-repr_behind-formed : (class : Class) (rest : List ℕ) → passes_if_made is_repr_formed (repr_behind class rest) ≡ true
-repr_behind-formed class rest =
+repr_after-formed : (class : Class) (rest : List ℕ) → passes_if_made is_repr_formed (repr_after class rest) ≡ true
+repr_after-formed class rest =
     formed-if (slice_index rest 0 == 46 && slice_index rest 1 == 46) (sized_repr class false (length_in (drop 2 rest))) (sized_repr class true (length_in rest))
     (sized_repr-formed class false (length_in (drop 2 rest)) (length_in-formed (drop 2 rest)))
     (sized_repr-formed class true (length_in rest) (length_in-formed rest))
@@ -108,6 +108,6 @@ repr_behind-formed class rest =
 pub repr_in-formed : (field : List ℕ) → passes_if_made is_repr_formed (repr_in field) ≡ true
 unfolding repr_in
 repr_in-formed field =
-    formed-if (slice_index field 0 == 97) (if slice_index field 1 == 110 then repr_behind An (drop 2 field) else repr_behind A (drop 1 field)) (if slice_index field 0 == 110 then repr_behind N (drop 1 field) else None)
-    (formed-if (slice_index field 1 == 110) (repr_behind An (drop 2 field)) (repr_behind A (drop 1 field)) (repr_behind-formed An (drop 2 field)) (repr_behind-formed A (drop 1 field)))
-    (formed-if (slice_index field 0 == 110) (repr_behind N (drop 1 field)) None (repr_behind-formed N (drop 1 field)) refl)
+    formed-if (slice_index field 0 == 97) (if slice_index field 1 == 110 then repr_after An (drop 2 field) else repr_after A (drop 1 field)) (if slice_index field 0 == 110 then repr_after N (drop 1 field) else None)
+    (formed-if (slice_index field 1 == 110) (repr_after An (drop 2 field)) (repr_after A (drop 1 field)) (repr_after-formed An (drop 2 field)) (repr_after-formed A (drop 1 field)))
+    (formed-if (slice_index field 0 == 110) (repr_after N (drop 1 field)) None (repr_after-formed N (drop 1 field)) refl)

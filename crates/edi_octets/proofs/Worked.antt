@@ -3,7 +3,7 @@ use Rattle.std.proofs.Common.{◌≡◌, [], ◌∷◌, ◌++◌, codes, refl}
 use Rattle.edi_octets.specs.Lines.{lines_from, lines_of, cells_of}
 use Rattle.edi_octets.specs.Profile.{fields_of, indentation_of}
 
--- one mark before a space is read as a space, and a second `+` behind it is a field
+-- one mark before a space is read as a space, and a second `+` after it is a field
 marked : fields_of (codes "+ 1001 + a ") ≡ codes "1001" ∷ codes "+" ∷ codes "a" ∷ []
 unfolding fields_of cells_of
 marked = refl

@@ -1,4 +1,4 @@
--- What the iterators over a directory file have left, and what their items stand for.
+-- What the iterators over a directory file have left, and what their items are.
 use Rattle.std.specs.Prelude.{List, ◌∷◌}
 use Rattle.edi_tables.specs.Octets.{Octets}
 use Rattle.edi_octets.specs.declared.cells.Cells.{Cells}

@@ -16,7 +16,7 @@ without_return octets =
     then (if slice_index octets (length octets - 1) == 13 then take (length octets - 1) octets else octets)
     else octets
 
--- what stands between line ends, as lines: each part but the last ended with LF; the last is a line where it isn't
+-- what is between line ends, as lines: each part but the last ended with LF; the last is a line where it isn't
 -- empty
 abbrev pub line_octets : List Octets → List Octets
 line_octets [] = []
@@ -36,6 +36,7 @@ lines_from n text = numbered_from n (line_octets (slice_split (λ x. x == 10) te
 abbrev pub lines_of : Octets → List Line
 lines_of file = lines_from 1 file
 
+-- a space
 abbrev pub is_space : ℕ → Bool
 is_space x = x == 32
 

@@ -42,15 +42,16 @@ is_written line = is_filled (fields_of line.octets)
 abbrev pub is_rule : Octets → Bool
 is_rule field = nat_le 10 (length field) && list_all (λ x. x == 45) field
 
--- a separator is a line of one field of ten or more `-`
+-- one field of ten or more `-`
 abbrev pub is_separator_of : List Octets → Bool
 is_separator_of (field ∷ []) = is_rule field
 is_separator_of fields = false
 
+-- a separator is a line of one field of ten or more `-`
 abbrev pub is_separator : Line → Bool
 is_separator line = is_separator_of (fields_of line.octets)
 
--- the entries of a file: what stands after its first separator, cut at separators, without blank lines; a part without
+-- the entries of a file: what follows its first separator, cut at separators, without blank lines; a part without
 -- a line is nothing
 unfoldable pub entries_of : List Line → List (List Line)
 entries_of lines = filter is_filled (map (filter is_written) (drop 1 (slice_split is_separator lines)))
@@ -59,7 +60,7 @@ entries_of lines = filter is_filled (map (filter is_written) (drop 1 (slice_spli
 unfoldable pub entries_within : List Line → List (List Line)
 entries_within lines = filter is_filled (map (filter is_written) (slice_split is_separator lines))
 
--- the lines of the entry that these lines stand in: those before the first separator, without blank lines
+-- the lines of the entry that these lines are in: those before the first separator, without blank lines
 unfoldable pub body_within : List Line → List Line
 body_within lines = filter is_written (before_first is_separator lines)
 
@@ -89,13 +90,14 @@ length_in field =
     then Some (digits_value 10 field)
     else None
 
--- the representation of a class with a length after it, exact where no `..` stands between
+-- the representation of a class with a length, if there is a length
 abbrev pub sized_repr : Class → Bool → Option ℕ → Option Repr
 sized_repr class exact None = None
 sized_repr class exact (Some max) = Some (record { class = class; exact = exact; max = max })
 
-abbrev pub repr_behind : Class → Octets → Option Repr
-repr_behind class rest =
+-- the representation of a class with the length that follows it, exact if no `..` is between
+abbrev pub repr_after : Class → Octets → Option Repr
+repr_after class rest =
     if slice_index rest 0 == 46 && slice_index rest 1 == 46
     then sized_repr class false (length_in (drop 2 rest))
     else sized_repr class true (length_in rest)
@@ -104,8 +106,8 @@ repr_behind class rest =
 unfoldable pub repr_in : Octets → Option Repr
 repr_in field =
     if slice_index field 0 == 97
-    then (if slice_index field 1 == 110 then repr_behind An (drop 2 field) else repr_behind A (drop 1 field))
-    else (if slice_index field 0 == 110 then repr_behind N (drop 1 field) else None)
+    then (if slice_index field 1 == 110 then repr_after An (drop 2 field) else repr_after A (drop 1 field))
+    else (if slice_index field 0 == 110 then repr_after N (drop 1 field) else None)
 
 -- a status is `M`, mandatory, or `C`, conditional
 abbrev pub status_in : Octets → Option Bool
@@ -134,10 +136,11 @@ position_of line = digits_value 10 (first_field (fields_of line.octets))
 abbrev pub begins_with_word : Octets → List Octets → Bool
 begins_with_word word fields = bytes_eq (first_field fields) word
 
--- each member with those before it, in order
+-- each member with these and those before it, in order
 abbrev pub with_earlier_from : {A : Type 0} → List A → List A → List (List A × A)
 with_earlier_from earlier [] = []
 with_earlier_from earlier (x ∷ xs) = (earlier, x) ∷ with_earlier_from (earlier ++ x ∷ []) xs
 
+-- each member with those before it, in order
 abbrev pub with_earlier : {A : Type 0} → List A → List (List A × A)
 with_earlier xs = with_earlier_from [] xs

@@ -46,14 +46,14 @@ pub(crate) fn spaces_in_front(line: &[u8]) -> usize
     line.iter().take_while(|octet| **octet == b' ').count()
 }
 
-/// What stands behind the spaces that a line begins with.
+/// What is after the spaces that a line begins with.
 fn skip_spaces(line: &[u8]) -> &[u8]
     ensures { result.now ≡ drop (prefix_len (λ x. x == 32) line.now) line.now }
 {
     &line[spaces_in_front(line)..]
 }
 
-/// Where the first space stands; the line's length where there is none. Words are short: octets are looked at one by one.
+/// Where the first space is; the line's length where there is none. Words are short: octets are looked at one by one.
 pub(crate) fn first_space(line: &[u8]) -> usize
     ensures place { result ≡ position_or_len (λ x. x == 32) line.now }
     ensures within { result ≤ length line.now }

@@ -1,4 +1,4 @@
-//! The entries of a file: what stands behind its first separator, cut at separators.
+//! The entries of a file: what is after its first separator, cut at separators.
 ghost use Rattle.std.specs.Prelude.{◌≡◌, ◌≤◌, length};
 ghost use Rattle.std.specs.List.{after_first};
 ghost use Rattle.edi_octets.specs.Profile.{is_separator};
@@ -7,7 +7,7 @@ ghost use Rattle.edi_octets.specs.declared.octets.TheConstants.{LONGEST_TEXT};
 
 use crate::lines::{LineText, Lines};
 
-/// An entry: its head, which is its first line that isn't blank, and the lines behind the head.
+/// An entry: its head, which is its first line that isn't blank, and the lines after the head.
 #[derive(Clone, Copy, Debug)]
 pub struct Entry<'a> {
     pub head: LineText<'a>,
@@ -92,7 +92,7 @@ impl<'a> Iterator for Body<'a> {
     }
 }
 
-/// The lines behind the next separator; no line where there is none.
+/// The lines after the next separator; no line where there is none.
 fn behind_separator(lines: Lines<'_>) -> Lines<'_>
     ensures { lines_left result ≡ after_first is_separator (lines_left lines.entry) }
 {

@@ -1,4 +1,4 @@
-//! The lines of a file, and what stands in a line.
+//! The lines of a file, and what is in a line.
 ghost use Rattle.std.specs.Prelude.{◌≡◌, ℕ, ◌+◌, ◌<◌, ◌≤◌, ◌∷◌, length, drop, if◌then◌else◌};
 ghost use Rattle.edi_octets.specs.Lines.{lines_from, without_return};
 ghost use Rattle.edi_octets.specs.Profile.{is_marked, marks_of};
@@ -67,7 +67,7 @@ impl<'a> Iterator for Lines<'a> {
     }
 }
 
-/// The first line of a text that isn't empty, without its end, and what stands behind its end.
+/// The first line of a text that isn't empty, without its end, and what is after its end.
 fn cut_line(text: &[u8]) -> (&[u8], &[u8])
     requires { 0 < length text.now }
     ensures line { (n : ℕ) → lines_from n text.now
@@ -134,7 +134,7 @@ impl<'a> LineText<'a> {
         self.first_field() == word
     }
 
-    /// Whether the line has a field behind its first: a code has a name there.
+    /// Whether the line has a field after its first: a code has a name there.
     pub fn has_name(&self) -> bool
         ensures { result ≡ is_code_and_name (λ _. true) (fields_of self.now.octets.now) }
     {
@@ -164,7 +164,7 @@ impl<'a> LineText<'a> {
     }
 }
 
-/// What stands behind the marks in front of a line, where those are read as spaces; else the line.
+/// What is after the marks in front of a line, where those are read as spaces; else the line.
 fn behind_marks(line: &[u8]) -> &[u8]
     ensures { result.now
         ≡ (if is_marked line.now then drop (marks_of line.now) line.now else line.now) }

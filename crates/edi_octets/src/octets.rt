@@ -4,9 +4,9 @@ ghost use Rattle.std.specs.Prelude.{List, ℕ, ◌≡◌, ◌+◌, ◌<◌, ◌�
 /// The most octets that a text or a file may have, by this project's own limit.
 pub const LONGEST_TEXT: usize = 4_194_304;
 
-/// A text that is read by place: it stands for the list of its octets, numbered from 0.
+/// A text that is read by place: contracts see it as the list of its octets, numbered from 0.
 pub trait Octets {
-    /// The octets that it stands for.
+    /// The octets of the list.
     ghost octets: { Self → List ℕ };
 
     /// How many octets it has.

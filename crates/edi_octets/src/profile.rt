@@ -92,11 +92,11 @@ pub fn read_repr(field: &[u8]) -> Option<Repr>
     }
 }
 
-/// The representation that an `a` with this behind it is.
+/// The representation that an `a` with this after it is.
 fn read_behind_a(rest: &[u8]) -> Option<Repr>
     ensures { result ≡ (if slice_index rest.now 0 == 110
-        then profile.repr_behind Class.An (drop 1 rest.now)
-        else profile.repr_behind Class.A rest.now) }
+        then profile.repr_after Class.An (drop 1 rest.now)
+        else profile.repr_after Class.A rest.now) }
 {
     match rest {
         [b'n', rest @ ..] => read_sized(Class::An, rest),
@@ -104,9 +104,9 @@ fn read_behind_a(rest: &[u8]) -> Option<Repr>
     }
 }
 
-/// The representation of a class with this behind it: a length, exact where no `..` stands before it.
+/// The representation of a class with this after it: a length, exact where no `..` is before it.
 fn read_sized(class: Class, rest: &[u8]) -> Option<Repr>
-    ensures { result ≡ profile.repr_behind class rest.now }
+    ensures { result ≡ profile.repr_after class rest.now }
 {
     let (exact, length) = match rest {
         [b'.', b'.', length @ ..] => (false, length),

@@ -20,6 +20,7 @@ files_of shelf = shelf.files.items
 abbrev pub rest_of : MemShelf → Octets
 rest_of shelf = rest_from shelf.files.items shelf.place
 
+-- whether a file is open
 abbrev pub is_open_of : MemShelf → Bool
 is_open_of shelf = is_some shelf.place
 

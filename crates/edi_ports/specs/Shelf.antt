@@ -19,6 +19,7 @@ IsOpening files name rest Open =
 IsOpening files name rest Absent = IfSome files (λ files. file_named name files ≡ None)
 IsOpening files name rest Failed = Unit {0}
 
+-- whether the opening gave a file
 abbrev pub is_opened : Opened → Bool
 is_opened Open = true
 is_opened Absent = false
@@ -30,5 +31,6 @@ count_after_opening faults Open = faults
 count_after_opening faults Absent = faults
 count_after_opening faults Failed = one_more faults
 
+-- the opening failed
 abbrev pub IsFailedOpening : Opened → Type 0
 IsFailedOpening opened = opened ≡ Failed

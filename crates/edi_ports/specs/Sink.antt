@@ -11,6 +11,7 @@ IsPut before now part (Took n) =
     (0 < n) × (n ≤ length part) × IfSome before (λ held. now ≡ Some (held ++ take n part))
 IsPut before now part Failed = IfSome before (λ held. now ≡ Some held)
 
+-- the put failed
 abbrev pub IsFailedPut : Put → Type 0
 IsFailedPut put = put ≡ Failed
 

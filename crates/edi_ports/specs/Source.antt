@@ -14,6 +14,7 @@ IsTake before now buffer (Got n) =
 IsTake before now buffer End = IfSome before (λ rest. (rest ≡ []) × (now ≡ Some rest))
 IsTake before now buffer Failed = IfSome before (λ rest. now ≡ Some rest)
 
+-- the take failed
 abbrev pub IsFailedTake : Taken → Type 0
 IsFailedTake taken = taken ≡ Failed
 

@@ -1,4 +1,4 @@
-//! What lies outside: sources that are read, sinks that are written, shelves of files, and objects that stand for them.
+//! What lies outside: sources that are read, sinks that are written, shelves of files; and objects in memory for each.
 #![tactic(auto)]
 
 mod adapters;

@@ -24,7 +24,7 @@ count_push p xs x = sum_by-append (λ y. cond (p y) 1 0) xs (x ∷ []) ∙ ap (�
 pub suffix_push : (r : Option ℕ → Bool) (xs : List (Option ℕ)) (x : Option ℕ) → r x ≡ true → suffix_len r (xs ++ x ∷ []) ≡ 1 + suffix_len r xs
 suffix_push r xs x passes = ap (prefix_len r) (reverse-append xs (x ∷ [])) ∙ ap (λ b. cond b (1 + prefix_len r (reverse xs)) 0) passes
 
--- what stands after the last that passes, one after it more
+-- what is after the last that passes, one after it more
 pub after_push : (q : Option ℕ → Bool) (xs : List (Option ℕ)) (x : Option ℕ) → q x ≡ false → after_last q (xs ++ x ∷ []) ≡ after_last q xs ++ x ∷ []
 after_push q xs x fails =
     let suffix = suffix_push (λ y. not (q y)) xs x (ap not fails) in
@@ -32,7 +32,7 @@ after_push q xs x fails =
     let from : length (xs ++ x ∷ []) - suffix_len (λ y. not (q y)) (xs ++ x ∷ []) ≡ length xs - suffix_len (λ y. not (q y)) xs = omega (arith, suffix, long) in
     ap (λ (n : ℕ). drop n (xs ++ x ∷ [])) from ∙ drop-append-le (length xs - suffix_len (λ y. not (q y)) xs) xs (x ∷ []) (omega arith)
 
--- what stands from the last that passes on ends with the last
+-- what is from the last that passes on ends with the last
 pub from_push : (q : Option ℕ → Bool) (xs : List (Option ℕ)) (x : Option ℕ) → (n : ℕ) × (from_last q (xs ++ x ∷ []) ≡ drop n xs ++ x ∷ [])
 from_push q xs x =
     let n : ℕ = length (xs ++ x ∷ []) - suffix_len (λ y. not (q y)) (xs ++ x ∷ []) - 1 in

@@ -1,4 +1,4 @@
--- Where a row's parent and its end stand, by the depths of the rows between.
+-- Where a row's parent and its end are, by the depths of the rows between.
 use Rattle.std.proofs.Common.{◌≡◌, ℕ, ◌+◌, ◌-◌, ◌<◌, ◌≤◌, Bool, false, List, Option, Some, None, length, get_or, take, drop, refl, sym, ap, ◌∙◌, ◌⊎◌, inl, inr, ⊎_elim, arith}
 use Rattle.std.specs.Prelude.{MatchOption, nat_lt, nat_le}
 use Rattle.std.specs.List.{prefix_len}
@@ -61,8 +61,8 @@ module _ (rows : List TableRow) (i depth : ℕ) (d : TableRow) (in_rows : i < le
   abbrev rest : List TableRow
   rest = drop (i + 1) rows
 
-  depth_behind : (k j : ℕ) → i + 1 + k ≡ j → j < length rows → (get_or rest k d).depth ≡ depth_at rows j
-  depth_behind k j at within =
+  depth_after : (k j : ℕ) → i + 1 + k ≡ j → j < length rows → (get_or rest k d).depth ≡ depth_at rows j
+  depth_after k j at within =
       ap (λ (row : TableRow). row.depth) (get_or-drop (i + 1) rows k d ∙ ap (λ n. get_or rows n d) at) ∙ sym (depth_at-get_or rows j d within)
 
   rest_bound : i + 1 + prefix_len is_deeper rest ≤ length rows
@@ -71,13 +71,13 @@ module _ (rows : List TableRow) (i depth : ℕ) (d : TableRow) (in_rows : i < le
   deeper_inside : (k : ℕ) → i < k → k < i + 1 + prefix_len is_deeper rest → depth_at rows i < depth_at rows k
   deeper_inside k past below =
       let passes = ltb-true depth _ (prefix_len_passes is_deeper rest (k - (i + 1)) d (omega arith)) in
-      let same = depth_behind (k - (i + 1)) k (omega arith) (omega (arith, rest_bound)) in
+      let same = depth_after (k - (i + 1)) k (omega arith) (omega (arith, rest_bound)) in
       omega arith
 
   deeper_stops : i + 1 + prefix_len is_deeper rest < length rows → depth_at rows (i + 1 + prefix_len is_deeper rest) ≤ depth_at rows i
   deeper_stops h =
       let stops = ltb-false depth _ (prefix_len_stops is_deeper rest d (omega (arith, length-drop (i + 1) rows))) in
-      let same = depth_behind (prefix_len is_deeper rest) (i + 1 + prefix_len is_deeper rest) refl h in
+      let same = depth_after (prefix_len is_deeper rest) (i + 1 + prefix_len is_deeper rest) refl h in
       omega arith
 
   -- the row at i ends after the rows that follow it and are deeper

@@ -1,4 +1,4 @@
--- No candidate stands twice after an entry.
+-- No candidate occurs twice after an entry.
 use Rattle.std.proofs.Common.{◌≡◌, ℕ, zero, suc, ◌+◌, ◌-◌, ◌<◌, ◌≤◌, Bool, true, false, List, [], ◌∷◌, ◌++◌, Some, map, length, take, get_or, refl, sym, ap, ◌∙◌, ◌⊎◌, inl, inr, ⊎_elim, arith}
 use Rattle.std.specs.Prelude.{filter}
 use Rattle.std.specs.List.{All, range_with_len}
@@ -65,17 +65,17 @@ module _ (nodes : List Node) (table : IsTable nodes) where
   abbrev pub IsLater : ℕ → ℕ → Type 0
   IsLater i x = (end_at nodes i ≤ x) × (i < x) × ((g : ℕ) → parent_at nodes i ≡ Some g → x < end_at nodes g)
 
-  -- an entry stands no earlier than its node
+  -- an entry is no earlier than its node
   entry_low : (j : ℕ) → j ≤ entry_for nodes j
   entry_low j = cond_both (is_group_at nodes j) (j + 1) j (λ x. j ≤ x) (λ _. omega arith) (λ _. omega arith)
 
-  -- a sibling does not stand inside a node
+  -- a sibling is not inside a node
   pub not_inside : (i j : ℕ) → i < j → parent_at nodes i ≡ parent_at nodes j → end_at nodes i ≤ j
   not_inside i j past same = ⊎_elim
       (λ inside. let held = laws.held_inside i j past inside in absurd (omega (arith, held.1, laws.parent_before i held.0 (same ∙ held.2))))
       (λ later. later) (cases_lt j (end_at nodes i))
 
-  -- the entry of a sibling stands before the end of their group
+  -- the entry of a sibling is before the end of their group
   in_parent : (i j g : ℕ) → parent_at nodes i ≡ parent_at nodes j → parent_at nodes i ≡ Some g → entry_for nodes j < end_at nodes g
   in_parent i j g same up =
       let held : parent_at nodes j ≡ Some g = sym same ∙ up in
@@ -117,7 +117,7 @@ module _ (nodes : List Node) (table : IsTable nodes) where
   unfolding later_siblings
   level_apart i = apart_made (entry_for nodes) (are_siblings nodes i) (entries_differ i) (length nodes - (i + 1)) (i + 1)
 
-  -- a candidate outwards of i: the trigger of a group round it, or it stands after the end of i
+  -- a candidate outwards of i: the trigger of a group round it, or it is after the end of i
   abbrev pub IsOutward : ℕ → ℕ → Type 0
   IsOutward i c = ((c ≤ i) × (is_trigger_at nodes c ≡ true)) ⊎ ((end_at nodes i ≤ c) × (i < c))
 
@@ -151,7 +151,7 @@ module _ (nodes : List Node) (table : IsTable nodes) where
       (All-weaker (IsOutward g) (λ y. x ≡ y → ⊥) (λ c part same. ⊎_elim (λ low. omega (arith, low.0, later.1)) (λ high. omega (arith, high.0, later.2 g up.0)) part) rest further) in
       apart_append (level i) ((g + 1) ∷ rest) (level_apart i) (tail, outward_apart groups g up.1) (All-weaker (IsLater i) (NotIn ((g + 1) ∷ rest)) cross (level i) (level_later i))
 
-  -- no candidate stands twice after an entry
+  -- no candidate occurs twice after an entry
   pub candidates_apart : (f : ℕ) → Apart (candidates_of nodes f)
   unfolding candidates_of
   candidates_apart f =
@@ -162,7 +162,7 @@ module _ (nodes : List Node) (table : IsTable nodes) where
       (λ c part same. ⊎_elim (λ low. false≢true (sym plain ∙ ap (is_trigger_at nodes) same ∙ low.1)) (λ high. omega (arith, high.1)) part) rest (outward_parts (groups_round nodes f) f refl) in
       cond_both (is_trigger_at nodes f) [] (f ∷ []) (λ xs. Apart (xs ++ rest)) (λ _. apart) (λ plain. (tail plain, apart))
 
-  -- no follower stands twice after an entry
+  -- no follower occurs twice after an entry
   pub followers_apart : (f : ℕ) → Apart (followers_of nodes f)
   unfolding followers_of
   followers_apart f = apart_filter (is_follower nodes f) (candidates_of nodes f) (candidates_apart f)

@@ -19,7 +19,7 @@ first-append : {A : Type 0} → (xs ys : List A) (x : A) → slice_get xs 0 ≡ 
 first-append [] ys x first = absurd (none-some x first)
 first-append (y ∷ xs) ys x first = first
 
--- the first member of pieces that stand end to end is that of the first piece that has one
+-- the first member of pieces that are end to end is that of the first piece that has one
 first-flat_map : {A : Type 0} → (f : ℕ → List A) (a n i : ℕ) (x : A) → a ≤ i → i < a + n → ((k : ℕ) → a ≤ k → k < i → f k ≡ []) → slice_get (f i) 0 ≡ Some x → slice_get (flat_map f (range_with_len a n)) 0 ≡ Some x
 first-flat_map f a zero i x from below before first = absurd (omega arith)
 first-flat_map f a (suc n) i x from below before first = elim (cases_eq a i) [

@@ -5,7 +5,7 @@ use Rattle.std.specs.List.{range_with_len}
 use Rattle.std.proofs.lemmas.Bool.{lt-ltb, le-ltb, ltb-false, ne_eqb, cases_lt, cases_Bool}
 use Rattle.std.proofs.lemmas.List.{get_or-replicate, get_or-take, get_or_append_left, get_or-append_right, length-append, length-replicate, length-take-le}
 use Rattle.edi_tables.specs.declared.segment.TableRow.{TableRow}
-use Rattle.edi_tables.specs.Rows.{is_group_row, depth_at, depth_behind, parent_of, row_before, breaks_depth}
+use Rattle.edi_tables.specs.Rows.{is_group_row, depth_at, depth_after, parent_of, row_before, breaks_depth}
 use Rattle.edi_tables.proofs.Finding.{last_more}
 
 -- the last row before i that is less deep than this
@@ -15,7 +15,7 @@ last_shallower rows i depth = find (λ j. nat_lt (depth_at rows j) depth) (rever
 -- for each depth that the row at i may have, the group that would hold it
 pub record HasParents (rows : List TableRow) (i : ℕ) (parents : List (Option ℕ)) : Type 0 where
   pub long : length parents ≡ 17
-  pub each : (depth : ℕ) → depth < 17 → depth ≤ depth_behind (row_before rows i) → get_or parents depth None ≡ last_shallower rows i depth
+  pub each : (depth : ℕ) → depth < 17 → depth ≤ depth_after (row_before rows i) → get_or parents depth None ≡ last_shallower rows i depth
 
 pub no_parents : (rows : List TableRow) → HasParents rows 0 (replicate 17 None)
 no_parents rows = record { long = refl; each = λ depth below _. get_or-replicate 17 depth None None below }
@@ -68,7 +68,7 @@ module _ (rows : List TableRow) (i : ℕ) (row : TableRow) (parents : List (Opti
   after_group : HasParents rows (i + 1) (held_by row.depth i parents)
   after_group = record { long = held_long; each = λ depth below _. ⊎_elim (λ low. stays depth (omega arith)) (λ high. changes depth (omega arith) below) (cases_lt depth (row.depth + 1)) }
 
-  next_low : is_group_row row ≡ false → depth_behind (row_before rows (i + 1)) ≡ row.depth
+  next_low : is_group_row row ≡ false → depth_after (row_before rows (i + 1)) ≡ row.depth
   next_low entry = rw (row_before_next rows i, at, entry) refl
 
   after_entry : is_group_row row ≡ false → HasParents rows (i + 1) parents

@@ -6,7 +6,7 @@ use Rattle.std.proofs.lemmas.Option.{slice_get-get_or, slice_get_within, get_or_
 use Rattle.std.proofs.lemmas.Slice.Eq.{bytes_eq-Decides}
 use Rattle.edi_tables.specs.declared.tag.Tag.{Tag}
 use Rattle.edi_tables.specs.declared.segment.TableRow.{TableRow}
-use Rattle.edi_tables.specs.Rows.{has_name, is_group_row, is_frame_row, breaks_frame, breaks_depth, breaks_trigger, is_trigger_row, depth_behind, row_before, depth_at, table_faults}
+use Rattle.edi_tables.specs.Rows.{has_name, is_group_row, is_frame_row, breaks_frame, breaks_depth, breaks_trigger, is_trigger_row, depth_after, row_before, depth_at, table_faults}
 use Rattle.edi_tables.proofs.Faults.{KeepsRules, keeps_rules, some_rows}
 use Rattle.edi_tables.proofs.Depths.{blank_row, depth_at-get_or, depth_at_past, IsEnd, IsParent, held_in_rows}
 
@@ -14,21 +14,21 @@ row_before_next : (rows : List TableRow) (i : ℕ) → row_before rows (i + 1) �
 row_before_next rows i = rw (ne_eqb (i + 1) 0 (omega arith)) (ap (slice_get rows) (omega arith))
 
 -- a row that keeps the depth rule is no deeper than the one before allows
-depth_kept : (rows : List TableRow) (i : ℕ) (before row : TableRow) → slice_get rows i ≡ Some before → breaks_depth rows (i + 1) row ≡ false → row.depth ≤ depth_behind (Some before)
+depth_kept : (rows : List TableRow) (i : ℕ) (before row : TableRow) → slice_get rows i ≡ Some before → breaks_depth rows (i + 1) row ≡ false → row.depth ≤ depth_after (Some before)
 depth_kept rows i before row at kept =
-    ltb-false _ _ (subst (λ (found : Option TableRow). nat_lt (depth_behind found) row.depth ≡ false) (row_before_next rows i ∙ at) kept)
+    ltb-false _ _ (subst (λ (found : Option TableRow). nat_lt (depth_after found) row.depth ≡ false) (row_before_next rows i ∙ at) kept)
 
-after_group : (row : TableRow) → is_group_row row ≡ true → depth_behind (Some row) ≡ row.depth + 1
+after_group : (row : TableRow) → is_group_row row ≡ true → depth_after (Some row) ≡ row.depth + 1
 after_group row group = rw group refl
 
-after_entry : (row : TableRow) → is_group_row row ≡ false → depth_behind (Some row) ≡ row.depth
+after_entry : (row : TableRow) → is_group_row row ≡ false → depth_after (Some row) ≡ row.depth
 after_entry row entry = rw entry refl
 
 -- the next row is the trigger of a group that keeps its rule
 trigger_kept : (rows : List TableRow) (i : ℕ) (row : TableRow) → is_group_row row ≡ true → breaks_trigger rows i row ≡ false → is_trigger_row row.depth (slice_get rows (i + 1)) ≡ true
 trigger_kept rows i row group kept = not-false _ (rw group at kept)
 
--- a trigger: a mandatory segment that stands once, one deeper than its group
+-- a trigger: a mandatory segment that occurs once, one deeper than its group
 pub record IsTrigger (depth : ℕ) (row : TableRow) : Type 0 where
   pub entry : is_group_row row ≡ false
   pub must : row.must ≡ true
@@ -51,7 +51,7 @@ trigger_found : (depth : ℕ) (found : Option TableRow) → is_trigger_row depth
 trigger_found depth None test = absurd (false≢true test)
 trigger_found depth (Some row) test = (row, refl, trigger_parts depth row test)
 
--- the row of a segment that stands exactly once, outside all groups
+-- the row of a segment that occurs exactly once, outside all groups
 pub record IsFrame (name : List ℕ) (row : TableRow) : Type 0 where
   pub named : has_name name row.tag ≡ true
   pub must : row.must ≡ true
@@ -150,14 +150,14 @@ module _ (rows : List TableRow) (lawful : table_faults rows ≡ []) where
       (λ entry. absurd (omega (arith, deeper, parent.shallower, after_entry_row g (omega (arith, parent.before)) entry)))
       (cases_Bool (is_group_row (row_at rows g)))
 
-  -- a row without a parent stands outside all groups
+  -- a row without a parent is outside all groups
   pub outside_rows : (i : ℕ) → ((k : ℕ) → k < i → depth_at rows i ≤ depth_at rows k) → depth_at rows i ≡ 0
   outside_rows i none = elim (cases_eq i 0) [
     | inl first ↦ ap (depth_at rows) first ∙ depth_first
     | inr later ↦ omega (arith, none 0 (omega arith), depth_first)
   ]
 
-  -- directly after a group stands its trigger
+  -- directly after a group is its trigger
   pub trigger_row : (g : ℕ) → g < length rows → is_group_row (row_at rows g) ≡ true → (g + 1 < length rows) × IsTrigger (depth_at rows g) (row_at rows (g + 1))
   trigger_row g within group =
       let found = trigger_found (row_at rows g).depth (slice_get rows (g + 1)) (trigger_kept rows g (row_at rows g) group (keeps g within).trigger) in (
@@ -182,7 +182,7 @@ module _ (rows : List TableRow) (lawful : table_faults rows ≡ []) where
       let few = ltb-false 999999 (row_at rows i).max parts.1 in
       (omega arith, few)
 
-  -- UNH stands only first, and UNT only last
+  -- UNH is only first, and UNT only last
   pub only_first : (i : ℕ) → i < length rows → has_name (codes "UNH") (row_at rows i).tag ≡ true → i ≡ 0
   only_first i within named =
       let parts = or_parts _ _ (or_parts _ _ (keeps i within).envelope).0 in

@@ -53,17 +53,17 @@ module _ (nodes : List Node) (table : IsTable nodes) where
   laws : HasTableLaws nodes
   laws = table_laws nodes table
 
-  -- a repeated group stands round the entry
+  -- a repeated group is round the entry
   pub repeat_round : (f c : ℕ) → is_repeat nodes f c ≡ true → is_round nodes f (c - 1) ≡ true
   repeat_round f c repeat = any_before c (groups_round nodes f) (and_parts (is_trigger_at nodes c) _ repeat).1
 
-  -- a group stands before what it stands round
+  -- a group is before what it is round
   pub round_below : (c g : ℕ) → is_round nodes c g ≡ true → g < c
   round_below c g round = ⊎_elim (λ below. below)
       (λ past. absurd (false≢true (sym (groups_fail nodes laws (nat_eq g) c (λ h before. ne_eqb g h (λ same. omega arith))) ∙ round)))
       (cases_lt g c)
 
-  -- no group stands round the first node
+  -- no group is round the first node
   pub first_outside : (found : Option ℕ) → parent_at nodes 0 ≡ found → parent_at nodes 0 ≡ None
   first_outside None is = is
   first_outside (Some g) is = absurd (omega (arith, laws.parent_before 0 g is))

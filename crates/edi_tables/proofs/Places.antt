@@ -33,7 +33,7 @@ pub record AreNeighbours (p : ℕ → Bool) (e next : ℕ) : Type 0 where
   pub other : p next ≡ true
   pub between : (m : ℕ) → e < m → m < next → p m ≡ false
 
--- where a place fails, the first one stands after it
+-- where a place fails, the first one is after it
 first_later : (p : ℕ → Bool) (a first : ℕ) → p a ≡ false → IsFirst p (a + 1) first → IsFirst p a first
 first_later p a first fails later = record {
   from = omega (arith, later.from);
@@ -66,7 +66,7 @@ neighbours_cons p a rest passes first more zero within =
     }
 neighbours_cons p a rest passes first more (suc k) within = more k (omega arith)
 
--- each two that stand side by side are neighbours
+-- each two that are side by side are neighbours
 pub neighbours : (p : ℕ → Bool) (n a k : ℕ) → suc k < length (filter p (range_with_len a n))
     → AreNeighbours p (get_or (filter p (range_with_len a n)) k 0) (get_or (filter p (range_with_len a n)) (suc k) 0)
 neighbours p zero a k = λ within. absurd (omega arith)
@@ -75,7 +75,7 @@ neighbours p (suc n) a k =
     (λ passes. neighbours_cons p a (filter p (range_with_len (a + 1) n)) passes (first_is p n (a + 1)) (neighbours p n (a + 1)) k)
     (λ _. neighbours p n (a + 1) k)
 
--- where place 0 passes, it stands first
+-- where place 0 passes, it is first
 pub starts_with : (p : ℕ → Bool) (n : ℕ) → 0 < n → p 0 ≡ true → (rest : List ℕ) × (filter p (range_with_len 0 n) ≡ 0 ∷ rest)
 starts_with p zero some passes = absurd (omega arith)
 starts_with p (suc n) some passes = (filter p (range_with_len (0 + 1) n), rw passes)

@@ -1,4 +1,4 @@
--- Which nodes are reached from an entry: the node that an entry stands for, and when it is a candidate.
+-- Which nodes are reached from an entry: the node of an entry, and when it is a candidate.
 use Rattle.std.proofs.Common.{◌≡◌, ℕ, zero, suc, ◌+◌, ◌-◌, ◌<◌, ◌≤◌, true, false, List, [], ◌∷◌, Option, Some, None, map, length, get_or, refl, sym, ap, subst, ◌∙◌, ◌⊎◌, inl, inr, ⊎_elim, arith}
 use Rattle.std.specs.Prelude.{nat_eq, nat_lt, ◌&&◌, Contains, if◌then◌else◌}
 use Rattle.std.specs.List.{list_any, range_with_len}
@@ -42,7 +42,7 @@ module _ (nodes : List Node) (table : IsTable nodes) where
   laws : HasTableLaws nodes
   laws = table_laws nodes table
 
-  -- a node between a group and its end stands in it, by no more than n steps outwards
+  -- a node between a group and its end is in it, by no more than n steps outwards
   inside_by : (n h k : ℕ) → k ≤ n → h < k → k < end_at nodes h → is_round nodes k h ≡ true
   inside_by zero h k fuel past below = absurd (omega arith)
   inside_by (suc n) h k fuel past below =
@@ -54,7 +54,7 @@ module _ (nodes : List Node) (table : IsTable nodes) where
         | inr differ ↦ or_right (nat_eq h held.0) (is_round nodes held.0 h) (inside_by n h held.0 (omega arith) (omega (arith, held.1)) (omega arith))
       ])
 
-  -- a node between a group and its end stands in it
+  -- a node between a group and its end is in it
   pub inside_round : (h k : ℕ) → h < k → k < end_at nodes h → is_round nodes k h ≡ true
   inside_round h k past below = inside_by k h k (omega arith) past below
 
@@ -105,7 +105,7 @@ module _ (nodes : List Node) (table : IsTable nodes) where
   pub trigger_is : (g : ℕ) → is_group_at nodes g ≡ true → is_trigger_at nodes (g + 1) ≡ true
   trigger_is g group = ap (λ found. is_trigger_of found (g + 1)) (laws.trigger_parent g group) ∙ eq-eqb (g + 1) (g + 1) refl
 
-  -- the node that an entry stands for: its group for a trigger, and itself for another
+  -- the node of an entry: its group for a trigger, and itself for another
   pub record StandsFor (n entry : ℕ) : Type 0 where
     pub entered : entry_for nodes n ≡ entry
     pub reached : (if is_trigger_at nodes entry then entry - 1 else entry) ≡ n
@@ -115,11 +115,11 @@ module _ (nodes : List Node) (table : IsTable nodes) where
     pub later : (e : ℕ) → is_group_at nodes e ≡ false → e < entry → e < n
     pub before : (j : ℕ) → j < n → entry_for nodes j < entry
 
-  -- an entry that is no trigger does not stand directly after its group
+  -- an entry that is no trigger is not directly after its group
   plain_parent : (e h : ℕ) → is_trigger_at nodes e ≡ false → parent_at nodes e ≡ Some h → h + 1 ≡ e → ⊥
   plain_parent e h plain up same = false≢true (sym plain ∙ ap (λ found. is_trigger_of found e) up ∙ eq-eqb (h + 1) e same)
 
-  -- such an entry stands for itself
+  -- such an entry is its own node
   stands_itself : (e : ℕ) → is_group_at nodes e ≡ false → is_trigger_at nodes e ≡ false → StandsFor e e
   stands_itself e entry plain = record {
     entered = ap (λ group. if group then e + 1 else e) entry;
@@ -139,7 +139,7 @@ module _ (nodes : List Node) (table : IsTable nodes) where
         (λ _. less);
   }
 
-  -- a trigger stands for its group
+  -- a trigger's node is its group
   stands_trigger : (g : ℕ) → is_group_at nodes g ≡ true → StandsFor g (g + 1)
   stands_trigger g group = record {
     entered = ap (λ is. if is then g + 1 else g) group;
@@ -154,12 +154,12 @@ module _ (nodes : List Node) (table : IsTable nodes) where
     before = λ j less. cond_both (is_group_at nodes j) (j + 1) j (λ x. x < g + 1) (λ _. omega arith) (λ _. omega arith);
   }
 
-  -- each trigger stands for some node
+  -- each trigger is the entry of some node
   trigger_of : (e : ℕ) (found : Option ℕ) → parent_at nodes e ≡ found → is_trigger_of found e ≡ true → (n : ℕ) × StandsFor n e
   trigger_of e None up trigger = absurd (false≢true trigger)
   trigger_of e (Some g) up trigger = (g, subst (StandsFor g) (eqb-true (g + 1) e trigger) (stands_trigger g (laws.parent_is_group e g up)))
 
-  -- each entry stands for some node
+  -- each entry is the entry of some node
   pub stands : (e : ℕ) → is_group_at nodes e ≡ false → (n : ℕ) × StandsFor n e
   stands e entry = elim (cases_Bool (is_trigger_at nodes e)) [
     | inl trigger ↦ trigger_of e (parent_at nodes e) refl trigger
@@ -174,7 +174,7 @@ module _ (nodes : List Node) (table : IsTable nodes) where
       in_map (entry_for nodes) (later_siblings nodes i) n
       (kept (are_siblings nodes i) (range_with_len (i + 1) (length nodes - (i + 1))) n at.0 at.1 at.2 (siblings_same nodes i n same))
 
-  -- where no groups stand round a node, none does
+  -- where no groups are round a node, none is
   no_groups : (i g : ℕ) → [] ≡ groups_round nodes i → is_round nodes i g ≡ true → ⊥
   no_groups i g is round = false≢true (ap (list_any (nat_eq g)) is ∙ round)
 
@@ -184,7 +184,7 @@ module _ (nodes : List Node) (table : IsTable nodes) where
   outside_of i (Some g) up is =
       absurd (no_groups i g is (round_some nodes table i g g up ∙ or_left (nat_eq g g) (is_round nodes g g) (eq-eqb g g refl)))
 
-  -- a group round a node that is not its parent stands round its parent
+  -- a group round a node that is not its parent is round its parent
   further_round : (i g n : ℕ) → parent_at nodes i ≡ Some g → (parent_at nodes i ≡ parent_at nodes n → ⊥)
       → ((h : ℕ) → parent_at nodes n ≡ Some h → is_round nodes i h ≡ true) → (h : ℕ) → parent_at nodes n ≡ Some h → is_round nodes g h ≡ true
   further_round i g n up differ round h held = ⊎_elim
@@ -201,7 +201,7 @@ module _ (nodes : List Node) (table : IsTable nodes) where
     | inr differ ↦ inr (λ same. differ (some_same g h same))
   ]
 
-  -- a later node whose group stands round i, or that stands in none, is reached outwards
+  -- a later node whose group is round i, or that is in none, is reached outwards
   pub in_outward : (groups : List ℕ) (i n : ℕ) → groups ≡ groups_round nodes i → i < n → n < length nodes
       → ((h : ℕ) → parent_at nodes n ≡ Some h → is_round nodes i h ≡ true) → Contains (outward nodes i groups) (entry_for nodes n)
   in_outward [] i n is past within round =
@@ -219,12 +219,12 @@ module _ (nodes : List Node) (table : IsTable nodes) where
             (in_outward groups g n up.1 (omega (arith, laws.parent_before i g up.0)) within (further_round i g n up.0 differ round)))
       ]
 
-  -- a group round a sibling stands round the node
+  -- a group round a sibling is round the node
   sibling_round : (i j g : ℕ) → are_siblings nodes i j ≡ true → is_round nodes j g ≡ true → is_round nodes i g ≡ true
   sibling_round i j g siblings round =
       ap (list_any (nat_eq g)) (same_groups nodes table i j (parent_at nodes j) (same_parent (parent_at nodes i) (parent_at nodes j) siblings) refl) ∙ round
 
-  -- where a node is a later sibling on one of the levels round i, the groups round it stand round i
+  -- where a node is a later sibling on one of the levels round i, the groups round it are round i
   pub level_outer : (groups : List ℕ) (i j : ℕ) → groups ≡ groups_round nodes i → list_any (λ k. nat_lt k j && are_siblings nodes k j) (i ∷ groups) ≡ true
       → (g : ℕ) → is_round nodes j g ≡ true → is_round nodes i g ≡ true
   level_outer [] i j is some g round = ⊎_elim

@@ -70,7 +70,7 @@ module _ (nodes : List Node) (table : IsTable nodes) (f : ℕ) (within : f < len
   abbrev reached : ℕ → ℕ
   reached c = reached_node nodes f c
 
-  -- what an entry after f reaches is the node that it stands for
+  -- what an entry after f reaches is its node
   plain_reached : (c n : ℕ) → is_repeat nodes f c ≡ false → f < c → (if is_trigger_at nodes c then c - 1 else c) ≡ n → reached c ≡ n
   plain_reached c n once past is =
       ap (λ b. if b then end_at nodes (c - 1) else (if c == f then 0 else (if is_trigger_at nodes c then c - 1 else c))) once

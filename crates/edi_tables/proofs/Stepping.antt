@@ -1,4 +1,4 @@
--- From an entry to a candidate after it: which groups stand round the candidate.
+-- From an entry to a candidate after it: which groups are round the candidate.
 use Rattle.std.proofs.Common.{◌≡◌, ℕ, ◌+◌, ◌-◌, Bool, true, false, List, [], ◌∷◌, Option, Some, None, map, length, refl, sym, ap, ◌∙◌, ◌⊎◌, inl, inr, ⊎_elim}
 use Rattle.std.specs.Prelude.{nat_eq, ◌||◌, if◌then◌else◌}
 use Rattle.std.specs.List.{All, list_any, range_with_len}
@@ -11,11 +11,11 @@ use Rattle.edi_tables.specs.Walk.{parent_at, is_group_at, is_trigger_at, entry_f
 use Rattle.edi_tables.proofs.TableLaws.{HasTableLaws, table_laws}
 use Rattle.edi_tables.proofs.Walking.{groups_round_none, groups_round_some}
 
--- a group stands round an entry
+-- a group is round an entry
 abbrev pub is_round : List Node → ℕ → ℕ → Bool
 is_round nodes c g = list_any (nat_eq g) (groups_round nodes c)
 
--- each group round c stands round f too, or c is its trigger
+-- each group round c is round f too, or c is its trigger
 abbrev pub Steps : List Node → ℕ → ℕ → Type 0
 Steps nodes f c = (g : ℕ) → is_round nodes c g ≡ true → (is_round nodes f g ≡ true) ⊎ (c ≡ g + 1)
 
@@ -52,7 +52,7 @@ module _ (nodes : List Node) (table : IsTable nodes) where
       (λ same. inl (eqb-true g j same)) (λ further. inr further)
       (or_cases (nat_eq g j) (is_round nodes j g) (sym (round_some (j + 1) j g (laws.trigger_parent j group)) ∙ round))
 
-  -- the first of the groups round a node is its parent, and the others stand round that
+  -- the first of the groups round a node is its parent, and the others are round that
   pub parent_of_round : (i g : ℕ) (groups : List ℕ) (found : Option ℕ) → parent_at nodes i ≡ found → (g ∷ groups) ≡ groups_round nodes i → (found ≡ Some g) × (groups ≡ groups_round nodes g)
   parent_of_round i g groups None up is = absurd (no_member g groups (is ∙ groups_round_none nodes table i up))
   parent_of_round i g groups (Some h) up is =

@@ -22,12 +22,12 @@ pub record HasTableLaws (nodes : List Node) : Type 0 where
   -- it has from 2 to 2,000 nodes
   pub some : 2 ≤ length nodes
   pub small : length nodes ≤ 2000
-  -- UNH stands first and only there, exactly once
+  -- UNH is first and only there, exactly once
   pub first_tag : tag_at nodes 0 ≡ Some (record { octets = codes "UNH" })
   pub first_must : is_must_at nodes 0 ≡ true
   pub first_max : max_at nodes 0 ≡ 1
   pub first_only : (i : ℕ) → has_name (codes "UNH") (tag_at nodes i) ≡ true → i ≡ 0
-  -- UNT stands last and only there, exactly once, outside all groups
+  -- UNT is last and only there, exactly once, outside all groups
   pub last_tag : (i : ℕ) → i + 1 ≡ length nodes → tag_at nodes i ≡ Some (record { octets = codes "UNT" })
   pub last_must : (i : ℕ) → i + 1 ≡ length nodes → is_must_at nodes i ≡ true
   pub last_max : (i : ℕ) → i + 1 ≡ length nodes → max_at nodes i ≡ 1
@@ -36,11 +36,11 @@ pub record HasTableLaws (nodes : List Node) : Type 0 where
   -- a greatest count is from 1 to 999,999
   pub max_low : (i : ℕ) → i < length nodes → 1 ≤ max_at nodes i
   pub max_high : (i : ℕ) → max_at nodes i ≤ 999999
-  -- a parent is a group that stands before what it holds
+  -- a parent is a group that is before what it holds
   pub parent_before : (i g : ℕ) → parent_at nodes i ≡ Some g → g < i
   pub parent_is_group : (i g : ℕ) → parent_at nodes i ≡ Some g → is_group_at nodes g ≡ true
   pub held_within : (i g : ℕ) → parent_at nodes i ≡ Some g → i < length nodes
-  -- directly after a group stands its trigger, a mandatory entry that stands once
+  -- directly after a group is its trigger, a mandatory entry that occurs once
   pub trigger_within : (g : ℕ) → is_group_at nodes g ≡ true → g + 1 < length nodes
   pub trigger_is_entry : (g : ℕ) → is_group_at nodes g ≡ true → is_group_at nodes (g + 1) ≡ false
   pub trigger_must : (g : ℕ) → is_group_at nodes g ≡ true → is_must_at nodes (g + 1) ≡ true
@@ -56,7 +56,7 @@ pub record HasTableLaws (nodes : List Node) : Type 0 where
   -- a node between another and its end ends no later, and is held by that one or by a later group
   pub ends_inside : (i k : ℕ) → i < k → k < end_at nodes i → end_at nodes k ≤ end_at nodes i
   pub held_inside : (i k : ℕ) → i < k → k < end_at nodes i → (h : ℕ) × (i ≤ h) × (parent_at nodes k ≡ Some h)
-  -- at the end of a node stands its next sibling, or its siblings end there
+  -- at the end of a node is its next sibling, or its siblings end there
   pub sibling_at_end : (i : ℕ) → i < length nodes → end_at nodes i < level_end nodes i → parent_at nodes (end_at nodes i) ≡ parent_at nodes i
 
 module _ (rows : List TableRow) (lawful : table_faults rows ≡ []) where

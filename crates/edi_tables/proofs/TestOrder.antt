@@ -67,7 +67,7 @@ end_of_lines : end_at test_order 6 ≡ 12
 unfolding test_order
 end_of_lines = refl
 
--- after QTY stands the group of prices, in the group of lines
+-- after QTY is the group of prices, in the group of lines
 siblings_of_quantity : later_siblings test_order 8 ≡ 9 ∷ []
 unfolding test_order later_siblings
 siblings_of_quantity = refl

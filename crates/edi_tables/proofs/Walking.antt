@@ -35,7 +35,7 @@ or-false : (b : Bool) → (b || false) ≡ b
 or-false true = refl
 or-false false = refl
 
--- whether a node stands after another of one of these levels
+-- whether a node is after another of one of these levels
 abbrev comes_after : List Node → List ℕ → ℕ → Bool
 comes_after nodes levels j = list_any (λ i. nat_lt i j && are_siblings nodes i j) levels
 
@@ -43,7 +43,7 @@ module _ (nodes : List Node) (table : IsTable nodes) where
   laws : HasTableLaws nodes
   laws = table_laws nodes table
 
-  -- a node's siblings don't stand inside it
+  -- a node's siblings aren't inside it
   none_inside : (i k : ℕ) → i < k → k < end_at nodes i → are_siblings nodes i k ≡ false
   none_inside i k past below =
       let held = laws.held_inside i k past below in
@@ -75,7 +75,7 @@ module _ (nodes : List Node) (table : IsTable nodes) where
   later_siblings_none i within last =
       passing_none (are_siblings nodes i) (i + 1) (length nodes) (λ k from below. ⊎_elim (λ inside. none_inside i k (omega arith) inside) (λ later. none_after i k (omega arith) below) (cases_lt k (end_at nodes i)))
 
-  -- another has the one that stands at its end first, and then that one's
+  -- another has the one that is at its end first, and then that one's
   pub later_siblings_next : (i : ℕ) → i < length nodes → end_at nodes i < level_end nodes i → later_siblings nodes i ≡ end_at nodes i ∷ later_siblings nodes (end_at nodes i)
   unfolding later_siblings
   later_siblings_next i within more =
@@ -121,7 +121,7 @@ module _ (nodes : List Node) (table : IsTable nodes) where
   unfolding later_nodes
   later_nodes_passing f = refl
 
-  -- after a node outside all groups stand its later siblings
+  -- after a node outside all groups come its later siblings
   pub later_nodes_none : (f : ℕ) → parent_at nodes f ≡ None → later_nodes nodes f ≡ later_siblings nodes f
   unfolding later_nodes later_siblings
   later_nodes_none f is =
@@ -158,7 +158,7 @@ module _ (nodes : List Node) (table : IsTable nodes) where
       passing_same _ (comes_after nodes (g ∷ groups_round nodes g)) (end_at nodes g) (length nodes) (λ k from below. after_group f g k is from below)
       ∙ sym (passing_skip (comes_after nodes (g ∷ groups_round nodes g)) (g + 1) (end_at nodes g) (length nodes) low (laws.end_within g) (λ k from below. levels_fail g k (omega arith) below))
 
-  -- after another its later siblings, and then what stands after its group
+  -- after another its later siblings, and then what is after its group
   pub later_nodes_some : (f g : ℕ) → parent_at nodes f ≡ Some g → later_nodes nodes f ≡ later_siblings nodes f ++ later_nodes nodes g
   later_nodes_some f g is =
       let low : f + 1 ≤ end_at nodes g = omega (arith, laws.before_parent_end f g is) in

@@ -7,22 +7,22 @@ use Rattle.edi_tables.specs.declared.table.Node.{Node}
 use Rattle.edi_tables.specs.Walk.{tag_at, max_at, is_must_at, is_group_at, is_repeat, groups_round, candidates_of, missing_between}
 use Rattle.edi_tables.specs.Filled.{is_filled}
 
--- going from f to c: a repeated group, or f itself, stands a second time only where its greatest count is 2 or more
-abbrev pub may_stand_again : List Node → ℕ → ℕ → Bool
-may_stand_again nodes f c =
+-- going from f to c: a repeated group, or f itself, comes a second time only if its greatest count is 2 or more
+abbrev pub may_come_again : List Node → ℕ → ℕ → Bool
+may_come_again nodes f c =
     if is_repeat nodes f c
     then nat_le 2 (max_at nodes (c - 1))
     else (if c == f then nat_le 2 (max_at nodes f) else true)
 
 -- a follower of f: a candidate with nothing missing; f itself and a group round f only where a second one is allowed
 abbrev pub is_follower : List Node → ℕ → ℕ → Bool
-is_follower nodes f c = not (is_filled (missing_between nodes f c)) && may_stand_again nodes f c
+is_follower nodes f c = not (is_filled (missing_between nodes f c)) && may_come_again nodes f c
 
 -- the followers of an entry, in processing order
 unfoldable pub followers_of : List Node → ℕ → List ℕ
 followers_of nodes f = filter (is_follower nodes f) (candidates_of nodes f)
 
--- an entry e stands in the front of f: f itself, or a mandatory entry before it, in groups that are mandatory or round
+-- an entry e is in the front of f: f itself, or a mandatory entry before it, in groups that are mandatory or round
 -- f
 abbrev pub is_in_front : List Node → ℕ → ℕ → Bool
 is_in_front nodes f e =
@@ -40,10 +40,11 @@ are_same_tag None b = false
 are_same_tag (Some a) None = false
 are_same_tag (Some a) (Some b) = bytes_eq a.octets b.octets
 
+-- two nodes have one tag; a group has none
 abbrev pub have_same_tag : List Node → ℕ → ℕ → Bool
 have_same_tag nodes a b = are_same_tag (tag_at nodes a) (tag_at nodes b)
 
--- a list of tags, and two lists of entries that it may stand at
+-- a list of tags, and two lists of entries at which it may be placed
 pub record Collision : Type 0 where
   pub tags : List Tag
   pub first : List ℕ

@@ -29,6 +29,7 @@ extent_to closing tags i (Some j) =
     then record { first = i + 1; last = j + 1; closed = true }
     else record { first = i + 1; last = j; closed = false }
 
+-- the extent that the segment at place i opens, if it has the opening tag
 abbrev pub extent_at : Octets → Octets → List Octets → List (Option Tag) → ℕ → Option Extent
 extent_at opening closing stops tags i =
     if has_name opening (tag_in tags i) then Some (extent_to closing tags i (next_of stops tags i)) else None

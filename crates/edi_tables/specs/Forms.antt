@@ -44,15 +44,19 @@ is_repr_formed repr = nat_le 1 repr.max && nat_le repr.max 9999
 abbrev pub is_count_formed : ℕ → Bool
 is_count_formed n = nat_le 1 n && nat_le n 99
 
+-- a data element: its code and its representation have their forms
 abbrev pub is_element_formed : ElementDef → Bool
 is_element_formed element = is_element_code element.code.octets && is_repr_formed element.repr
 
+-- a code list: the code of its data element, and each of its values
 abbrev pub is_list_formed : CodeList → Bool
 is_list_formed list = is_element_code list.element.octets && list_all is_code_value list.values
 
+-- a component of a composite, or an item that is a data element: its code and its representation
 abbrev pub is_part_formed : PartDef → Bool
 is_part_formed part = is_element_code part.code.octets && is_repr_formed part.repr
 
+-- a composite: its code, and its 1 to 99 components
 abbrev pub is_composite_formed : CompositeDef → Bool
 is_composite_formed composite =
     is_composite_code composite.code.octets && is_count_formed (length composite.parts)
@@ -72,6 +76,7 @@ abbrev pub is_item_formed : ItemDef → Bool
 is_item_formed (Alone part reps) = is_part_formed part && is_reps_formed reps
 is_item_formed (Composite code must reps) = is_composite_code code.octets && is_reps_formed reps
 
+-- a segment: its tag, and its 1 to 99 items
 abbrev pub is_segment_formed : SegmentDef → Bool
 is_segment_formed segment =
     is_tag_of segment.tag.octets && is_count_formed (length segment.items) && list_all is_item_formed segment.items
@@ -80,5 +85,6 @@ is_segment_formed segment =
 abbrev pub is_row_formed : TableRow → Bool
 is_row_formed row = elim row.tag [ None ↦ true | Some tag ↦ is_tag_of tag.octets ]
 
+-- a message: its name, and the tags of its rows
 abbrev pub is_message_formed : MessageDef → Bool
 is_message_formed message = is_message_name message.name && list_all is_row_formed message.rows

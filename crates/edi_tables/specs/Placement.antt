@@ -1,4 +1,4 @@
--- Placements: which entries of a segment table the segments of a message may stand at.
+-- Placements: which entries of a segment table the segments of a message may be at.
 use Rattle.std.specs.Prelude.{◌≡◌, ◌<◌, ◌-◌, ◌+◌, ℕ, Bool, true, not, ◌==◌, ◌&&◌, nat_eq, nat_le, List, [], length, take, drop, map, count_by, slice_get, slice_index, Contains, Option, Some, None, codes, if◌then◌else◌}
 use Rattle.std.specs.List.{filter_map, after_last, suffix_len}
 use Rattle.std.specs.Option.{option_eq}
@@ -16,21 +16,23 @@ is_at entry placed = option_eq nat_eq placed (Some entry)
 abbrev pub from_last : {A : Type 0} → (A → Bool) → List A → List A
 from_last passes xs = drop (length xs - suffix_len (λ x. not (passes x)) xs - 1) xs
 
--- the count of an entry: its placements since the last placement of its group's trigger, that one included;
--- outside all groups since the beginning
+-- the placements since the last placement of a group's trigger, that one included; outside all groups all of them
 abbrev pub placed_since : Option ℕ → List (Option ℕ) → List (Option ℕ)
 placed_since None placed = placed
 placed_since (Some group) placed = from_last (is_at (group + 1)) placed
 
+-- the count of an entry: its placements since the last placement of its group's trigger, that one included;
+-- outside all groups since the beginning
 unfoldable pub entry_count : List Node → List (Option ℕ) → ℕ → ℕ
 entry_count nodes placed entry = count_by (is_at entry) (placed_since (parent_at nodes entry) placed)
 
--- the count of a group: the placements of its trigger after the last placement of the trigger of the group round it;
--- outside all groups since the beginning
+-- the placements after the last placement of a group's trigger; outside all groups all of them
 abbrev pub placed_after : Option ℕ → List (Option ℕ) → List (Option ℕ)
 placed_after None placed = placed
 placed_after (Some group) placed = after_last (is_at (group + 1)) placed
 
+-- the count of a group: the placements of its trigger after the last placement of the trigger of the group round it;
+-- outside all groups since the beginning
 unfoldable pub group_count : List Node → List (Option ℕ) → ℕ → ℕ
 group_count nodes placed group = count_by (is_at (group + 1)) (placed_after (parent_at nodes group) placed)
 
@@ -52,7 +54,7 @@ rank_of nodes placed c =
     (if is_over nodes placed c then 1 else 0)
     + (if is_filled (missing_between nodes (last_placed placed) c) then 2 else 0)
 
--- the segments of a message may stand at these entries: UNH at entry 0, and each later one at some candidate after
+-- the segments of a message may be at these entries: UNH at entry 0, and each later one at some candidate after
 -- the one before, with its tag and rank 0
 pub record IsPlacement (nodes : List Node) (tags : List Tag) (entries : List ℕ) : Type 0 where
   pub long : length entries ≡ length tags

@@ -1,4 +1,4 @@
--- Where a walk over the levels of a table stands, and what it has left. Bodies and their invariants need it alone.
+-- Where a walk over the levels of a table is, and what it has left. Bodies and their invariants need it alone.
 use Rattle.std.specs.Prelude.{◌≡◌, ◌<◌, ℕ, Bool, false, ◌&&◌, nat_lt, List, ◌∷◌, length, filter, Option, Some, None}
 use Rattle.edi_tables.specs.declared.table.Node.{Node}
 use Rattle.edi_tables.specs.Rows.{IsTable}

@@ -10,7 +10,7 @@ is_capital x = nat_le 65 x && nat_le x 90
 abbrev pub is_digit : ℕ → Bool
 is_digit x = nat_le 48 x && nat_le x 57
 
--- what stands in a tag: a capital letter or a digit
+-- an octet of a tag: a capital letter or a digit
 abbrev pub is_tag_octet_of : ℕ → Bool
 is_tag_octet_of x = is_capital x || is_digit x
 

@@ -1,4 +1,4 @@
--- Where a segment may stand after another: candidates in a segment table, and what going to one passes.
+-- Where a segment may be after another: candidates in a segment table, and what going to one passes.
 use Rattle.std.specs.Prelude.{◌-◌, ◌+◌, ℕ, Bool, true, false, ◌==◌, ◌&&◌, nat_eq, nat_lt, List, [], ◌∷◌, ◌++◌, length, map, filter, reverse, slice_get, Option, Some, None, if◌then◌else◌}
 use Rattle.std.specs.List.{range_with_len, list_any}
 use Rattle.std.specs.Option.{option_eq}
@@ -9,18 +9,23 @@ use Rattle.edi_tables.specs.declared.table.Node.{Node}
 abbrev pub read_node : {A : Type 0} → A → (Node → A) → List Node → ℕ → A
 read_node default read nodes i = elim (slice_get nodes i) [ None ↦ default | Some node ↦ read node ]
 
+-- the tag of a node; a group has none
 abbrev pub tag_at : List Node → ℕ → Option Tag
 tag_at nodes i = read_node None (λ n. n.tag) nodes i
 
+-- the group that a node is directly in, if it is in one
 abbrev pub parent_at : List Node → ℕ → Option ℕ
 parent_at nodes i = read_node None (λ n. n.parent) nodes i
 
+-- whether a node is mandatory
 abbrev pub is_must_at : List Node → ℕ → Bool
 is_must_at nodes i = read_node false (λ n. n.must) nodes i
 
+-- the greatest count of a node
 abbrev pub max_at : List Node → ℕ → ℕ
 max_at nodes i = read_node 0 (λ n. n.max) nodes i
 
+-- where a node ends: one past its last descendant
 abbrev pub end_at : List Node → ℕ → ℕ
 end_at nodes i = read_node 0 (λ n. n.end) nodes i
 
@@ -28,11 +33,11 @@ end_at nodes i = read_node 0 (λ n. n.end) nodes i
 abbrev pub is_group_at : List Node → ℕ → Bool
 is_group_at nodes i = read_node false (λ n. elim n.tag [ None ↦ true | Some tag ↦ false ]) nodes i
 
--- the trigger of a group is its first child, the node directly after it; a group stands for its trigger
+-- the trigger of a group is its first child, the node directly after it; a group is told by its trigger
 abbrev pub entry_for : List Node → ℕ → ℕ
 entry_for nodes i = if is_group_at nodes i then i + 1 else i
 
--- whether two nodes stand directly in one group, or both in none
+-- whether two nodes are directly in one group, or both in none
 abbrev pub are_siblings : List Node → ℕ → ℕ → Bool
 are_siblings nodes i j = option_eq nat_eq (parent_at nodes i) (parent_at nodes j)
 
@@ -54,6 +59,7 @@ abbrev pub is_trigger_of : Option ℕ → ℕ → Bool
 is_trigger_of None i = false
 is_trigger_of (Some g) i = g + 1 == i
 
+-- whether the node at i is the trigger of its group
 abbrev pub is_trigger_at : List Node → ℕ → Bool
 is_trigger_at nodes i = is_trigger_of (parent_at nodes i) i
 

@@ -1,7 +1,7 @@
-//! Which rows are a segment table, and the nodes that they stand for.
+//! Which rows are a segment table, and the nodes that they make.
 ghost use Rattle.std.specs.Prelude.{◌≡◌, ◌+◌, ◌-◌, ◌<◌, ◌≤◌, [], ◌++◌, Some, length, take, replicate, IfOk, nat_lt, slice_get, if◌then◌else◌};
 ghost use Rattle.std.specs.List.{prefix_len};
-ghost use Rattle.edi_tables.specs.Rows.{has_name, is_group_row, is_frame_row, breaks_frame, breaks_envelope, breaks_depth, breaks_trigger, depth_behind, is_trigger_row, row_faults, table_faults, end_of, nodes_of};
+ghost use Rattle.edi_tables.specs.Rows.{has_name, is_group_row, is_frame_row, breaks_frame, breaks_envelope, breaks_depth, breaks_trigger, depth_after, is_trigger_row, row_faults, table_faults, end_of, nodes_of};
 
 use crate::{Node, RowFault, TableKind, TableRow, Tag};
 use std::alloc::{AllocError, Global};
@@ -76,14 +76,14 @@ fn breaks_frame(rows: &[TableRow], i: usize, row: &TableRow) -> bool
     (i == 0 && !is_frame_row(b"UNH", row)) || (i + 1 == rows.len() && !is_frame_row(b"UNT", row))
 }
 
-/// Whether this is the row of a segment with this tag that stands exactly once, outside all groups.
+/// Whether this is the row of a segment with this tag that occurs exactly once, outside all groups.
 fn is_frame_row(name: &[u8], row: &TableRow) -> bool
     ensures { result ≡ is_frame_row name.now row.now }
 {
     has_name(row.tag, name) && row.must && row.max == 1 && row.depth == 0
 }
 
-/// Whether a service segment stands where none may: UNH after the first row, UNT before the last,
+/// Whether a service segment is where none may: UNH after the first row, UNT before the last,
 /// UNB, UNG, UNE and UNZ anywhere.
 fn breaks_envelope(rows: &[TableRow], i: usize, row: &TableRow) -> bool
     requires { i < length rows.now }
@@ -112,23 +112,19 @@ fn breaks_depth(rows: &[TableRow], i: usize, row: &TableRow) -> bool
     requires { i < length rows.now }
     ensures { result ≡ breaks_depth rows.now i row.now }
 {
-    let allowed = if i == 0 {
-        0
-    } else {
-        depth_behind(&rows[i - 1])
-    };
+    let allowed = if i == 0 { 0 } else { depth_after(&rows[i - 1]) };
     u16::from(row.depth) > allowed
 }
 
 /// How deep the row after this one may be.
-fn depth_behind(row: &TableRow) -> u16
-    ensures { result ≡ depth_behind (Some row.now) }
+fn depth_after(row: &TableRow) -> u16
+    ensures { result ≡ depth_after (Some row.now) }
 {
     let depth = u16::from(row.depth);
     if row.tag.is_none() { depth + 1 } else { depth }
 }
 
-/// Whether a group has no trigger: the row after it is no mandatory segment that stands once, one
+/// Whether a group has no trigger: the row after it is no mandatory segment that occurs once, one
 /// deeper.
 fn breaks_trigger(rows: &[TableRow], i: usize, row: &TableRow) -> bool
     requires { i < length rows.now }

@@ -1,4 +1,4 @@
-//! The candidates after an entry: where the next segment may stand.
+//! The candidates after an entry: where the next segment may be.
 ghost use Rattle.std.specs.Iterator.{YieldsFirst, item_count};
 
 use crate::{Node, levels};

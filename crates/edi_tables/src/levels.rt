@@ -141,7 +141,7 @@ pub fn level_end(nodes: &[Node], i: usize) -> usize
     }
 }
 
-/// The entry that a node stands for: a group stands for its trigger.
+/// The entry of a node: that of a group is its trigger.
 #[inline]
 pub fn entry_for(nodes: &[Node], i: u16) -> u16
     requires { IsNode nodes.now i }

@@ -30,7 +30,7 @@ scripted_opened kind manifest name run begun opening (inl refused) =
     inl (memory_refused, inr (inr refl), refused.1, refused.2, refused.0)
 scripted_opened kind manifest name run begun opening (inr answered) = inr (begun, opening, answered.0, answered.1)
 
--- the words that were read are those of the script that is told of
+-- the words that were read are those of the script that is reported
 pub told_words : (kind kind' : ScriptKind) (manifest name manifest' name' : List ℕ) (asked : Option Asked) (files : Option (List ShelfFile)) (begun : Opened) (P : ScriptKind → Option Asked → Type 0)
     → Some (Script kind manifest name) ≡ asked → asked ≡ Some (Script kind' manifest' name') → IsToldOpening manifest' name' files begun
     → (IsToldOpening manifest name files begun → P kind (Some (Script kind manifest name))) → P kind' asked
@@ -45,7 +45,7 @@ told_words kind kind' manifest name manifest' name' asked files begun P read wor
 
 -- ---- a sink with room
 
--- memory was refused before a script, and that is told
+-- memory was refused before a script, and that is reported
 pub refused_in_room : (kind : ScriptKind) (room : ℕ → Type 0) (directory : Parts) (text : List ℕ) (before : Option (List ℕ)) (made : Outcome) (status : Status)
     → made ≡ memory_refused → ((n : ℕ) → room n → length made.output ≤ n → status ≡ made.status) → IsAnsweredInRoom kind directory text before room status
 refused_in_room Edits room directory text before made status is told = λ cs more same lawful ended short has.

@@ -33,7 +33,7 @@ pub replied_found : {E : Type 0} (printed : Result (List ℕ) E) (dir : Parts) (
 replied_found printed dir text reply findings due is shown put =
     done_or_refused due (replied_to dir text reply) (findings_text findings) (ap replied is) (printed_or_refused printed (findings_text findings) due shown put)
 
--- it was told why a reply isn't led back
+-- it was reported why a reply isn't led back
 pub replied_not : (why : MatchStop) (dir : Parts) (text reply : List ℕ) (due : Outcome) → (why ≡ Memory) ⊎ (match_of dir text reply ≡ Err why)
     → (due ≡ replied (Err why)) ⊎ (due ≡ memory_refused) → (due ≡ replied_to dir text reply) ⊎ (due ≡ memory_refused)
 replied_not why dir text reply due (inl memory) (inl told) = inr (told ∙ ap (λ (w : MatchStop). replied (Err w)) memory)

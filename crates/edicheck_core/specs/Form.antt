@@ -44,10 +44,12 @@ Edit manifest text = Script Edits manifest text
 abbrev pub Session : Octets → Octets → Asked
 Session manifest text = Script Sessions manifest text
 
+-- what a question asks of a text, with the octets of the words that it was read from
 abbrev pub question_shown : asked.Question → Question
 question_shown question.Errors = Errors
 question_shown (question.Answer stamp reference) = Answer stamp reference.now
 
+-- what a form asks for, with the octets of the words that it was read from
 abbrev pub form_shown : Form → Asked
 form_shown form.Help = Help
 form_shown form.Version = Version
@@ -135,6 +137,8 @@ pub record Needs : Type 0 where
   pub shelf : Bool
   pub memory : Bool
 
+-- the input for a listing of a text and for a script, the shelf for what names a manifest, and memory for all but help
+-- and the version; words of no form take nothing
 abbrev pub needs_of : Option Asked → Needs
 needs_of None = record { input = false; shelf = false; memory = false }
 needs_of (Some Help) = record { input = false; shelf = false; memory = false }

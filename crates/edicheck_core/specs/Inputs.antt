@@ -5,7 +5,7 @@ use Rattle.edi_ports.specs.declared.shelf.ShelfFile.{ShelfFile}
 use Rattle.edi_ports.specs.declared.shelf.Shelf as shelf
 use Rattle.edi_ports.specs.declared.source.Source as source
 
--- the files of a shelf and the rest of an input, where these are told, and the counts of their faults
+-- the files of a shelf and the rest of an input, where these are known, and the counts of their faults
 pub record Inputs : Type 0 where
   pub files : Option (List ShelfFile)
   pub shelf_faults : ℕ

@@ -40,7 +40,7 @@ abbrev pub refused_opening : Result Opened Outcome → Option Outcome
 refused_opening (Ok opening) = None
 refused_opening (Err due) = Some due
 
--- what a run comes to by its words and what is told of its inputs; of a script this is the refusal in its place
+-- what a run comes to by its words and what is known of its inputs; for a script this is the refusal in its place
 abbrev pub made_by : Option Asked → Inputs → Option Outcome
 made_by None before = Some no_form
 made_by (Some Help) before = Some (done HELP.now)

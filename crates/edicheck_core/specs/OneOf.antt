@@ -2,7 +2,7 @@
 use Rattle.std.specs.Prelude.{◌≡◌, ◌⊎◌, Option, IfSome}
 use Rattle.run_outcome.specs.Outcome.{Outcome, memory_refused, read_failed}
 
--- what was made: by what is told, where it is told
+-- what was made: something possible, and by what is known of the inputs, where it is known
 abbrev pub IsMade : Type 0 → Option Outcome → Outcome → Type 0
 IsMade Possible made due = Possible × IfSome made (λ m. due ≡ m)
 

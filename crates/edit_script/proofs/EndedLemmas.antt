@@ -50,7 +50,7 @@ ended_none IsGood word end front x bare goes_on ends text more behind is same =
     (λ (on : (rest : List ℕ) × (word v ≡ front ++ x ∷ rest)). goes_on v on.0 is.1.0 on.1)
     (word_begun x end front (word v) more behind bare along)
 
--- words without the octet that ends them are told from each other by what they begin
+-- words without the octet that ends them are told apart by what they begin
 pub ended_once : {V : Type 0} (IsGood : V → Type 0) (word : V → List ℕ) (end : ℕ) → ((v : V) → IsGood v → HasNo end (word v)) → ((v w : V) → IsGood v → IsGood w → word v ≡ word w → v ≡ w) → IsOnce (IsEnded IsGood word end)
 ended_once IsGood word end bare one v w s t more rest first second same =
     let along : word v ++ end ∷ more ≡ word w ++ end ∷ rest = sym (append_assoc (word v) (end ∷ []) more) ∙ ap (λ (xs : List ℕ). xs ++ more) (sym first.1) ∙ same ∙ ap (λ (xs : List ℕ). xs ++ rest) second.1 ∙ append_assoc (word w) (end ∷ []) rest in

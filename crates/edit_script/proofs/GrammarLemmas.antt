@@ -260,7 +260,7 @@ command_chain g = record {
   once = name_once (names_of g);
 }
 
--- commands are told from each other by what they begin: none is a front of another
+-- commands are told apart by what they begin: none is a front of another
 pub command_once : (g : Grammar) → IsOnce (IsTextOf g)
 command_once g =
     chain_once (IsNameText (names_of g)) IsRestText (IsTextOf g) (λ name c. c) (command_chain g) rest_once

@@ -15,7 +15,7 @@ use Rattle.edit_script.specs.Reading.{IsSomeText}
 use Rattle.edit_script.specs.Texts.{names_of, name_text, IsNameText}
 use Rattle.edit_script.proofs.OnceLemmas.{IsOnce, none_after_part}
 
--- ---- names are told from each other by three octets
+-- ---- names are told apart by three octets
 
 named : List ℕ → Option Name
 named (a ∷ b ∷ d ∷ more) =

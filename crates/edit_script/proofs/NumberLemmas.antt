@@ -134,7 +134,7 @@ takes_longer before mid now most n x longer fits is within first next =
     takes_same before now (decimal n ++ x ∷ []) (decimal longer) (sym (one_digit_more n x longer (omega (arith, within, fits)) is))
     (takes_then before mid now (decimal n) (x ∷ []) first next)
 
--- ---- numbers are told from each other
+-- ---- numbers are told apart
 
 pub number_once : (least most end : ℕ) → most < 10 ^ 19 → is_ascii_digit end ≡ false → IsOnce (IsNumberText least most end)
 number_once least most end fits apart =

@@ -1,4 +1,4 @@
--- Commands, parts and bad lines are told from each other, and so is the list of commands that a script begins with.
+-- Commands, parts and bad lines are told apart, and so is the list of commands that a script begins with.
 use Rattle.std.proofs.Common.{◌≡◌, ◌*◌, ◌++◌, ◌≤◌, ℕ, List, [], ◌∷◌, length, decimal, ◌⊎◌, inl, inr, ⊎_elim, refl, sym, ap, ◌∙◌, arith, length-append, append_assoc}
 use Rattle.std.proofs.lemmas.Fmt.{length-decimal-le}
 use Rattle.std.proofs.lemmas.List.{append-nil, append_cancel_left}

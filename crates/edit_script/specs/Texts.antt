@@ -42,9 +42,11 @@ IsNumberText least most end n text = IsInRange least most n × (text ≡ decimal
 abbrev pub IsDigitsText : ℕ → ℕ → Octets → Octets → Type 0
 IsDigitsText n end digits text = IsTrue (has_digits n digits) × (text ≡ digits ++ end ∷ [])
 
+-- a stamp in its form, and the space after it
 abbrev pub IsStampText : Stamp → Octets → Type 0
 IsStampText stamp text = IsStamp stamp × (text ≡ stamp_text stamp ++ 32 ∷ [])
 
+-- a reference in its form, and the LF after it
 abbrev pub IsReferenceText : Octets → Octets → Type 0
 IsReferenceText reference text = IsTrue (is_reference_of reference) × (text ≡ reference ++ 10 ∷ [])
 

@@ -57,7 +57,7 @@ impl ScriptReader {
         reader_of(Grammar::Session, limit)
     }
 
-    /// The next command, whose octets alone are taken. A bad line is told at the first octet that makes it one. Once
+    /// The next command, whose octets alone are taken. A bad line is given at the first octet that makes it one. Once
     /// no octet may be taken the source isn't asked again, so `TooLong` comes there and `CutShort` doesn't. `Fault`
     /// comes only where the source failed. What was taken before a stop is gone.
     pub fn next_command<I: Source>(

@@ -128,7 +128,7 @@ never : (later : Bool) (n : ℕ) (x : Component) (xs : List Component) → surpl
 never true n x xs = refl
 never false n x xs = refl
 
--- the next element is told, or it isn't
+-- the next element is reported, or it isn't
 surplus-step : (low n : ℕ) (xs : List Component) → IsInOrder low xs → told_by (n + 1) (values_in xs (n + 1)) ++ surplus_elements (n + 1) xs ≡ surplus_elements n xs
 surplus-step low n [] order = refl
 surplus-step low n (x ∷ xs) order = elim (cases_Bool (has_octet x.octets)) [

@@ -24,7 +24,7 @@ at-most-two Less = omega arith
 at-most-two Equal = omega arith
 at-most-two Greater = omega arith
 
--- of two codes that ascend, the first doesn't stand after a value where the second doesn't
+-- of two codes that ascend, the first isn't after a value where the second isn't
 ranked : (a b value : List ℕ) → is_before a b ≡ true → (o : Ordering) → slice_cmp nat_cmp b value ≡ o → ordering_index (slice_cmp nat_cmp a value) ≤ ordering_index o
 ranked a b value before Less is =
     let less : slice_cmp nat_cmp a value ≡ Less = nat_list_cmp_total.trans a b value (less-from-before _ before) is in
@@ -61,7 +61,7 @@ module _ (value : List ℕ) where
         | inr back ↦ is-told (get_or codes k d) Greater (parts.1 k d back lt)
       ]))
 
--- a code that goes on where a value ends stands after it
+-- a code that goes on where a value ends is after it
 pub longer-after : (rest octets : List ℕ) → 1 ≤ length rest → octets ≡ [] → Greater ≡ slice_cmp nat_cmp rest octets
 longer-after [] octets some none = absurd (omega (arith, some))
 longer-after (x ∷ xs) octets some none = ap (slice_cmp nat_cmp (x ∷ xs)) (sym none)

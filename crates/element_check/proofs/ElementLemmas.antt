@@ -40,7 +40,7 @@ flat_map-empty : {X Y : Type 0} (f : X → List Y) (xs : List X) → ((x : X) �
 flat_map-empty f [] h = refl
 flat_map-empty f (x ∷ xs) h = ap (λ ys. ys ++ flat_map f xs) (h x) ∙ flat_map-empty f xs h
 
--- kinds that are told are those that are broken
+-- kinds that are reported are those that are broken
 told-filter : (element component : ℕ) (f : Kind → Bool) (ks : List Kind) → told_errors element component (map (λ k. (k, f k)) ks) ≡ map (error_at element component) (filter f ks)
 told-filter element component f [] = refl
 told-filter element component f (k ∷ ks) =

@@ -1,4 +1,4 @@
--- Errors that are told one after another.
+-- Errors that are reported one after another.
 use Rattle.std.proofs.Common.{◌≡◌, ◌+◌, ◌<◌, List, ◌++◌, length, sym, ◌∙◌, ap, arith, length-append, append_assoc}
 use Rattle.std.specs.Prelude.{Result, Ok, Err, OnErr, OnOk}
 use Rattle.element_check.specs.declared.error.LocalError.{LocalError}
@@ -29,7 +29,7 @@ module _ (old now more rest total : List LocalError) where
   next_step next same next_is = ap (λ (xs : List LocalError). xs ++ rest) next_is ∙ append_assoc now more rest ∙ same
 
 module _ (old a b total : List LocalError) (all : a ++ b ≡ total) where
-  -- errors in two parts: both were told
+  -- errors in two parts: both were reported
   pub both_told : (now next : List LocalError) → now ≡ old ++ a → next ≡ now ++ b → next ≡ old ++ total
   both_told now next now_is next_is = next_is ∙ ap (λ (xs : List LocalError). xs ++ b) now_is ∙ append_assoc old a b ∙ ap (λ (xs : List LocalError). old ++ xs) all
 

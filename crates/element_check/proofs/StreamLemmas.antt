@@ -53,7 +53,7 @@ surplus_components-full old now total element c vs v ws empty same steps empty_i
     ∙ sym (ap (λ (xs : List (List ℕ)). now ++ surplus_components element c xs) steps) ∙ same)
     full
 
--- the next element past the last one is told
+-- the next element past the last one is reported
 surplus_elements-first : (n : ℕ) (x : Component) (xs : List Component) (empty : Bool) → n < x.element → empty ≡ eqb (length x.octets) 0 → empty ≡ false
     → surplus_elements n (x ∷ xs) ≡ error_at x.element 0 TooManyElements ∷ surplus_elements x.element xs
 surplus_elements-first n x xs empty past empty_is filled =
@@ -187,7 +187,7 @@ pub after_front-none : (element : ℕ) (xs : List Component) → front_values el
 after_front-none element [] none = refl
 after_front-none element (x ∷ xs) none = after_none-cond (eqb x.element element) x.octets (front_values element xs) x xs (after_front element xs) none
 
--- nothing is told where no test was failed
+-- nothing is reported where no test was failed
 pub told-none : (element component : ℕ) (results : List (Kind × Bool)) → list_any (λ test. test.1) results ≡ false → told_errors element component results ≡ []
 told-none element component [] none = refl
 told-none element component (p ∷ ps) none =

@@ -84,6 +84,7 @@ is_broken_part rules (Composite code must reps) values (Some part, value) Missin
 is_broken_part rules (Composite code must reps) values (Some part, value) kind =
     is_failed rules part (list_in rules (parts_of rules code.octets) values part) value kind
 
+-- the rule of a kind is broken at a component of an element, by its number; never at an element past the last item
 abbrev pub is_broken_at : SegmentRules → Option ItemDef → List Octets → ℕ → Kind → Bool
 is_broken_at rules None values component kind = false
 is_broken_at rules (Some item) values component kind =

@@ -39,6 +39,7 @@ parts_by version None code = unwrap_or (service_parts_of version code) []
 parts_by version (Some parts) code =
     unwrap_or (option_map (λ composite. composite.parts) (named_in composite_name parts.composites code)) []
 
+-- the parts of a composite, by its code, in a segment with these rules
 unfoldable pub parts_of : SegmentRules → Octets → List PartDef
 parts_of rules code = parts_by rules.context.version rules.directory code
 
@@ -47,5 +48,6 @@ abbrev pub list_by : Option Directory → Octets → Option CodeList
 list_by None element = None
 list_by (Some parts) element = named_in list_name parts.lists element
 
+-- the code list of a data element, if one is loaded, in a segment with these rules
 unfoldable pub list_of : SegmentRules → Octets → Option CodeList
 list_of rules element = list_by rules.directory element

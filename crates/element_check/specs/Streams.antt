@@ -57,11 +57,12 @@ first_value (v ∷ vs) = v
 abbrev pub is_first_filled : List Octets → Bool
 is_first_filled values = has_octet (first_value values)
 
+-- the values after the first
 abbrev pub later_values : List Octets → List Octets
 later_values [] = []
 later_values (v ∷ vs) = vs
 
--- the kinds that are told of a component
+-- the errors of a component: one of each kind whose test fails
 abbrev pub told_errors : ℕ → ℕ → List (Kind × Bool) → List LocalError
 told_errors element component [] = []
 told_errors element component (p ∷ ps) = when p.1 (error_at element component p.0) ++ told_errors element component ps
@@ -72,6 +73,7 @@ pub record PartRules : Type 0 where
   pub segment : SegmentRules
   pub named : Bool
 
+-- the same, for a segment with these rules and a composite that names a list or doesn't
 abbrev pub part_rules : SegmentRules → Bool → PartRules
 part_rules segment named = record { segment = segment; named = named }
 
@@ -99,12 +101,14 @@ parts_errors rules element c (part ∷ parts) values =
     part_errors rules element c part (first_value values)
     ++ parts_errors rules element (c + 1) parts (later_values values)
 
+-- the errors of a composite: those of its parts, if any value of it is filled; else `missing`, if it is mandatory
 abbrev pub composite_errors : SegmentRules → ℕ → Bool → List PartDef → List Octets → List LocalError
 composite_errors rules element must parts values =
     if list_any has_octet values
     then parts_errors (part_rules rules (is_list_named parts values)) element 1 parts values
     else when must (error_at element 0 Missing)
 
+-- the errors of a stand-alone data element: those of its one value, and each filled component after it
 abbrev pub alone_errors : SegmentRules → ℕ → PartDef → List Octets → List LocalError
 alone_errors rules element part values =
     part_errors (part_rules rules false) element 0 part (first_value values)

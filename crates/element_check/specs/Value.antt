@@ -28,13 +28,14 @@ is_mark s x = (x == 46 || x == 44 || x == s.mark) && not (is_service_character s
 abbrev pub is_sign : Service → ℕ → Bool
 is_sign s x = x == 45 || is_mark s x
 
--- the length of a value that is compared with its representation: the number of its octets,
--- those of a number without `-` and marks
+-- an octet that the length of a value of this class counts: each, but in a number neither `-` nor a mark
 abbrev pub is_counted : Service → Class → ℕ → Bool
 is_counted s A x = true
 is_counted s An x = true
 is_counted s N x = not (is_sign s x)
 
+-- the length of a value that is compared with its representation: the number of its octets,
+-- those of a number without `-` and marks
 abbrev pub counted_length : Service → Class → Octets → ℕ
 counted_length s class value = length (filter (is_counted s class) value)
 
@@ -44,6 +45,7 @@ is_foreign s A x = is_digit x
 is_foreign s N x = not (is_digit x) && not (is_sign s x)
 is_foreign s An x = false
 
+-- a value has an octet that its class doesn't admit
 abbrev pub has_foreign : Service → Class → Octets → Bool
 has_foreign s class value = list_any (is_foreign s class) value
 
@@ -67,6 +69,7 @@ is_unsigned s value =
 unfoldable pub is_decimal : Service → Octets → Bool
 is_decimal s value = is_unsigned s (without_minus value)
 
+-- class n, whose values are numbers
 abbrev pub is_numeric : Class → Bool
 is_numeric A = false
 is_numeric N = true

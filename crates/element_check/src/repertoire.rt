@@ -15,7 +15,7 @@ pub(crate) fn admits(level: Level, octet: u8) -> bool
     }
 }
 
-// Its signs and its digits stand side by side, but for `#` and `$`, which it lacks.
+// Its signs and its digits are side by side, but for `#` and `$`, which it lacks.
 #[tactic(auto, unfolding(crate::specs::Repertoire::is_in_level_a))]
 fn is_in_level_a(octet: u8) -> bool
     ensures { result ≡ is_in_level_a_of octet }

@@ -116,7 +116,7 @@ fn is_slice_listed(list: &CodeList, octets: &[u8]) -> bool
         .is_ok()
 }
 
-/// How a code stands to a value in octet order. The octets of the value are read up to the first that differs.
+/// How a code compares with a value in octet order. The octets of the value are read up to the first that differs.
 fn order_of<O: Octets>(code: &[u8], value: &Value<'_, O>) -> Ordering
     ensures { result ≡ slice_cmp nat_cmp code.now (octets_of value.now) }
 {

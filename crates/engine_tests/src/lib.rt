@@ -1,6 +1,6 @@
 //! Tests of public calls of the engine, with edits in the middle of a long text.
 //!
-//! They stand in a crate of their own, over the proved libraries: a crate with tests in it is proved twice.
+//! They are in a crate of their own, over the proved libraries: a crate with tests in it is proved twice.
 #![tactic(auto)]
 
 #[cfg(test)]

@@ -1,4 +1,4 @@
--- The message and the group at a place, told by its kind and by what is open before it.
+-- The message and the group at a place, given by its kind and by what is open before it.
 use Rattle.std.proofs.Common.{◌≡◌, ℕ, ◌<◌, Bool, true, false, not, cond, List, ◌&&◌, Option, Some, None, length, refl, sym, ap, ◌∙◌}
 use Rattle.std.specs.Prelude.{codes}
 use Rattle.std.specs.Option.{option_map, option_map_or}

@@ -1,4 +1,4 @@
--- How a group goes on after its UNG, told by the heads to come.
+-- How a group goes on after its UNG, given by the heads to come.
 use Rattle.std.proofs.Common.{◌≡◌, ℕ, ◌+◌, ◌-◌, ◌<◌, ◌≤◌, Bool, true, false, not, cond, List, Option, Some, None, length, refl, sym, ap, subst, ◌∙◌, inl, inr, arith}
 use Rattle.std.specs.Prelude.{find, is_some, ◌==◌, codes}
 use Rattle.std.specs.Option.{option_map, option_map_or, option_and_then}

@@ -1,4 +1,4 @@
--- How the errors of a text are told segment by segment.
+-- How the errors of a text are reported segment by segment.
 use Rattle.std.proofs.Common.{◌≡◌, ℕ, zero, suc, ◌+◌, ◌<◌, List, [], ◌∷◌, ◌++◌, Option, Some, length, drop, sym, ap, subst, ◌∙◌, not, arith, add-one, append_assoc, append-nil, length-drop}
 use Rattle.std.specs.Prelude.{slice_get, is_some}
 use Rattle.std.specs.List.{range_with_len, flat_map}

@@ -1,4 +1,4 @@
--- Each rule on a segment, told by what is known there.
+-- Each rule on a segment, given by what is known there.
 use Rattle.std.proofs.Common.{◌≡◌, ℕ, ◌+◌, ◌<◌, Bool, true, false, not, cond, List, [], ◌&&◌, ◌||◌, Option, Some, None, length, refl, sym, ap, ◌∙◌}
 use Rattle.std.specs.Prelude.{is_some, ◌==◌, codes}
 use Rattle.std.specs.Option.{option_map, option_map_or, option_copied}

@@ -27,10 +27,11 @@ places_of name tags a b = filter (is_at name tags) (range_with_len a (b - a))
 abbrev pub count_at : Octets → List (Option Tag) → ℕ → ℕ → ℕ
 count_at name tags a b = length (places_of name tags a b)
 
--- how many groups, and how many messages, open before place i
+-- how many groups open before place i
 abbrev pub groups_before : List (Option Tag) → ℕ → ℕ
 groups_before tags i = count_at (codes "UNG") tags 0 i
 
+-- how many messages open before place i
 abbrev pub messages_before : List (Option Tag) → ℕ → ℕ
 messages_before tags i = count_at (codes "UNH") tags 0 i
 
@@ -101,6 +102,7 @@ abbrev pub counted_at_end : List (Option Tag) → ℕ → ℕ
 counted_at_end tags i =
     if groups_before tags i == 0 then messages_before tags i else groups_before tags i
 
+-- the number that the first UNZ has to give; no other segment has to give it
 abbrev pub count_due_at_end : List (Option Tag) → ℕ → Option ℕ
 count_due_at_end tags i = if is_end tags i then Some (counted_at_end tags i) else None
 

@@ -38,6 +38,7 @@ pub record HeadPlace : Type 0 where
   pub start : ℕ
   pub kind : HeadKind
 
+-- where a head is, without what it says
 abbrev pub head_place_of : Head → HeadPlace
 head_place_of head = record { segment = head.segment; start = head.start; kind = head.kind }
 

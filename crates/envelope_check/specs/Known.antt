@@ -14,35 +14,42 @@ use Rattle.envelope_check.specs.declared.head.SegmentMark.{SegmentMark}
 use Rattle.envelope_check.specs.declared.known.Known.{Known}
 use Rattle.envelope_check.specs.Envelope.{gives, error_with}
 
+-- which of the six kinds a segment is, if it is a head
 abbrev pub kind_in : Option Head → Option HeadKind
 kind_in head = option_map (λ h. h.kind) head
 
+-- UNB, which opens an interchange
 abbrev pub is_unb : HeadKind → Bool
 is_unb Unb = true
 is_unb _ = false
 
+-- UNG, which opens a functional group
 abbrev pub is_ung : HeadKind → Bool
 is_ung Ung = true
 is_ung _ = false
 
+-- UNH, which opens a message
 abbrev pub is_unh : HeadKind → Bool
 is_unh Unh = true
 is_unh _ = false
 
+-- UNZ, which closes an interchange
 abbrev pub is_unz : HeadKind → Bool
 is_unz Unz = true
 is_unz _ = false
 
+-- UNE, which closes a functional group
 abbrev pub is_une : HeadKind → Bool
 is_une Une = true
 is_une _ = false
 
--- a group ends at the next head of these
+-- a group ends at the next head of such a kind: any but UNH and UNT
 abbrev pub ends_group : HeadKind → Bool
 ends_group Unh = false
 ends_group Unt = false
 ends_group _ = true
 
+-- any kind but UNT, which closes a message
 abbrev pub is_no_unt : HeadKind → Bool
 is_no_unt Unt = false
 is_no_unt _ = true
@@ -61,15 +68,17 @@ heads_after (head ∷ after) k = if head.segment == k then after else head ∷ a
 abbrev pub first_unb : List Head → Option Head
 first_unb heads = elim (head_here heads 1) [ None ↦ None | Some head ↦ if is_unb head.kind then Some head else None ]
 
+-- a head of such a kind is among these
 abbrev pub has_kind : (HeadKind → Bool) → List Head → Bool
 has_kind is heads = list_any (λ head. is head.kind) heads
 
--- the open message and the open group after a segment
+-- the open message after a segment, as its UNH: a UNH opens one, and any other head ends it
 abbrev pub message_after : Option HeadKind → Option Head → Option Head → Option Head
 message_after None head before = before
 message_after (Some Unh) head before = head
 message_after (Some _) head before = None
 
+-- the open group after a segment, as its UNG: a UNG opens one, and UNE, UNZ and UNB end it
 abbrev pub group_after : Option HeadKind → Option Head → Option Head → Option Head
 group_after (Some Ung) head before = head
 group_after (Some Une) head before = None
@@ -77,11 +86,12 @@ group_after (Some Unz) head before = None
 group_after (Some Unb) head before = None
 group_after _ head before = before
 
--- how many segments the open message has, and how many messages the open group, after a segment
+-- how many segments the open message has after a segment: one at its UNH, and one more at any other
 abbrev pub message_segments_after : Option HeadKind → ℕ → ℕ
 message_segments_after (Some Unh) n = 1
 message_segments_after _ n = n + 1
 
+-- how many messages the open group has after a segment: none at its UNG, and one more at each UNH
 abbrev pub group_messages_after : Option HeadKind → ℕ → ℕ
 group_messages_after (Some Ung) n = 0
 group_messages_after (Some Unh) n = n + 1
@@ -116,6 +126,7 @@ pub record IsKnownAfter (old : Known) (head : Option Head) (new : Known) : Type 
   pub groups : new.groups ≡ counted_after is_ung (kind_in head) old.groups
   pub messages : new.messages ≡ counted_after is_unh (kind_in head) old.messages
 
+-- a UNB that isn't the first segment, and isn't after the end
 abbrev pub second_unb_by : Option HeadKind → ℕ → Bool → Bool
 second_unb_by (Some Unb) segments ended = not (segments == 0) && not ended
 second_unb_by _ segments ended = false
@@ -127,32 +138,39 @@ has_place_by (Some Unt) in_message in_group = in_message
 has_place_by (Some Une) in_message in_group = in_group
 has_place_by (Some _) in_message in_group = true
 
+-- not after the end, and with no such place
 abbrev pub outside_by : Option HeadKind → Bool → Bool → Bool → Bool
 outside_by kind ended in_message in_group = not ended && not (has_place_by kind in_message in_group)
 
+-- the first UNZ, without a UNG and without a UNH before it
 abbrev pub empty_interchange_by : Option HeadKind → Bool → ℕ → ℕ → Bool
 empty_interchange_by (Some Unz) ended groups messages = not ended && groups == 0 && messages == 0
 empty_interchange_by _ ended groups messages = false
 
+-- a UNH in no group, in a text that has a UNG somewhere
 abbrev pub mixed_by : Option HeadKind → Bool → Bool → Bool
 mixed_by (Some Unh) in_group has_groups = not in_group && has_groups
 mixed_by _ in_group has_groups = false
 
--- the head that ends a group, and the first head in it that is no UNT
+-- the kind of the first of the later heads that ends a group
 abbrev pub group_end : List Head → Option HeadKind
 group_end after = kind_in (find (λ head. ends_group head.kind) after)
 
+-- the kind of the first of the later heads that isn't a UNT
 abbrev pub next_but_unt : List Head → Option HeadKind
 next_but_unt after = kind_in (find (λ head. is_no_unt head.kind) after)
 
+-- a UNG whose group no UNE closes
 abbrev pub lacks_une_by : Option HeadKind → Option HeadKind → Bool
 lacks_une_by (Some Ung) end = not (option_map_or is_une end false)
 lacks_une_by _ end = false
 
+-- a UNG whose group has no message: no UNH is the next head that isn't a UNT
 abbrev pub empty_group_by : Option HeadKind → Option HeadKind → Bool
 empty_group_by (Some Ung) next = not (option_map_or is_unh next false)
 empty_group_by _ next = false
 
+-- a UNH in a group whose type isn't that of the group
 abbrev pub other_type_by : Option HeadKind → Option Head → Option Head → Bool
 other_type_by (Some Unh) (Some head) (Some group) = not (bytes_eq head.name group.name)
 other_type_by _ _ _ = false
@@ -164,9 +182,12 @@ by_closing (Some Une) message group interchange = group
 by_closing (Some Unz) message group interchange = interchange
 by_closing _ message group interchange = None
 
+-- what the first UNZ counts: the groups before it or, if there are none, the messages before it
 abbrev pub counted_by : ℕ → ℕ → ℕ
 counted_by groups messages = if groups == 0 then messages else groups
 
+-- the number that a closing segment has to give: that of its message's segments, of its group's messages, or that at
+-- the end
 abbrev pub count_due_by : Option HeadKind → Known → Option ℕ
 count_due_by kind known =
     by_closing kind
@@ -174,19 +195,23 @@ count_due_by kind known =
     (if is_some known.group then Some known.group_messages else None)
     (if known.ended then None else Some (counted_by known.groups known.messages))
 
+-- a closing segment whose count isn't the number that it has to give
 abbrev pub miscounts_by : Option Head → Option ℕ → Bool
 miscounts_by None due = false
 miscounts_by (Some head) due = option_map_or (λ n. not (gives head.count n)) due false
 
+-- the head that opened what a closing segment closes: a message, a group or the interchange
 abbrev pub opening_by : Option HeadKind → Known → Option Head
 opening_by kind known =
     by_closing kind (option_copied known.message) (option_copied known.group)
     (if known.ended then None else option_copied known.interchange)
 
+-- a closing segment whose reference isn't that of the opening one
 abbrev pub refers_elsewhere_by : Option Head → Option Head → Bool
 refers_elsewhere_by None opening = false
 refers_elsewhere_by (Some head) opening = option_map_or (λ o. not (bytes_eq head.reference o.reference)) opening false
 
+-- a UNH for whose message the directory has no table
 abbrev pub lacks_table_by : Option Head → Bool
 lacks_table_by None = false
 lacks_table_by (Some head) = is_unh head.kind && not head.tabled

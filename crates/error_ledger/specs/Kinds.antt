@@ -10,6 +10,7 @@ pub record KindRow : Type 0 where
   pub word : Octets
   pub code : ℕ
 
+-- a row with this number, this word and this code
 abbrev pub row : ℕ → Octets → ℕ → KindRow
 row number word code = record { number = number; word = word; code = code }
 

@@ -32,6 +32,7 @@ abbrev pub put_before : {X : Type 0} → (X → X → Bool) → X → List X →
 put_before below new [] = new ∷ []
 put_before below new (x ∷ xs) = if below x new then x ∷ put_before below new xs else new ∷ x ∷ xs
 
+-- the members of a list in order; those of which neither is below the other stay as they were
 abbrev pub sorted_by : {X : Type 0} → (X → X → Bool) → List X → List X
 sorted_by below [] = []
 sorted_by below (x ∷ xs) = put_before below x (sorted_by below xs)

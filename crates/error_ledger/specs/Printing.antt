@@ -70,6 +70,7 @@ lines_at k tag Untabled = (codes "? " ++ numbered k tag) ∷ []
 lines_at k tag Unplaced = (codes "! " ++ numbered k tag) ∷ []
 lines_at k tag (Placed entry depth opens) = opening_lines depth opens ++ placed_line k tag entry depth ∷ []
 
+-- the lines of a segment in the printed tree
 abbrev pub tree_lines : TreeLine → List Octets
 tree_lines t = lines_at t.segment t.tag t.place
 
@@ -88,5 +89,6 @@ abbrev pub LiesInWhatItOpens : TreePlace → Type 0
 LiesInWhatItOpens (Placed entry depth opens) = IfSome opens (λ _. 1 ≤ depth)
 LiesInWhatItOpens _ = ⊤
 
+-- a segment lies in the group that it opens, if it opens one
 abbrev pub IsWellPlaced : TreeLine → Type 0
 IsWellPlaced t = LiesInWhatItOpens t.place

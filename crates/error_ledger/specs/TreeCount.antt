@@ -4,6 +4,7 @@ use Rattle.error_ledger.specs.declared.tree.TreeLine.{TreeLine}
 use Rattle.error_ledger.specs.declared.tree.TreePlace.{TreePlace}
 use Rattle.error_ledger.specs.declared.tree.TreePlace.TheVariants.{Placed}
 
+-- a segment that is placed so opens a group
 abbrev pub opens_at : TreePlace → Bool
 opens_at (Placed entry depth opens) = is_some opens
 opens_at _ = false

@@ -1,4 +1,4 @@
--- What is empty where something else is: pieces that stand end to end, and what passes tests.
+-- What is empty where something else is: pieces that are end to end, and what passes tests.
 use Rattle.std.proofs.Common.{◌≡◌, Bool, true, List, [], ◌∷◌, ◌++◌, map, inl, inr, refl, sym, ap, ◌∙◌}
 use Rattle.std.specs.Prelude.{filter}
 use Rattle.std.specs.List.{flat_map}

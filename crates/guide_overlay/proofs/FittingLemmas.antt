@@ -66,7 +66,7 @@ item_within item (Some (Node i change)) says = tt
 item_within item (Some (Part i must)) says = tt
 item_within item (Some (Value value)) says = tt
 
--- no value of details that differ stands twice
+-- no value of details that differ occurs twice
 pub values_once : (details : List Detail) → AllPairs (λ earlier later. is_same_detail later earlier ≡ false) details → twice_in value_name (values_in details) ≡ []
 values_once details apart = none-from-apart value_name (values_in details) (values_apart details apart)
 

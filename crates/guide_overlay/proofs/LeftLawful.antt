@@ -9,7 +9,7 @@ use Rattle.edi_tables.specs.declared.segment.TableRow.{TableRow}
 use Rattle.edi_tables.specs.declared.table.Node.{Node}
 use Rattle.edi_tables.specs.declared.table.TableKind.{TableKind}
 use Rattle.edi_tables.specs.declared.table.TableKind.TheVariants.{NoUnhUnt, EnvelopeTag, BadMax, BadDepth, TooDeep, NoTrigger}
-use Rattle.edi_tables.specs.Rows.{has_name, is_group_row, is_frame_row, breaks_frame, breaks_envelope, breaks_max, depth_behind, row_before, breaks_depth, is_trigger_row, breaks_trigger, when, row_faults, depth_at, parent_of, table_faults, nodes_of}
+use Rattle.edi_tables.specs.Rows.{has_name, is_group_row, is_frame_row, breaks_frame, breaks_envelope, breaks_max, depth_after, row_before, breaks_depth, is_trigger_row, breaks_trigger, when, row_faults, depth_at, parent_of, table_faults, nodes_of}
 use Rattle.edi_tables.specs.Walk.{is_group_at}
 use Rattle.edi_tables.proofs.Depths.{parent_of_some, parent_of_at_none}
 use Rattle.edi_tables.proofs.Faults.{KeepsRules, no_first_fault, no_faults_of_place}
@@ -60,7 +60,7 @@ guard_none : (here : Bool) (kept : Bool) → (here ≡ true → kept ≡ true) �
 guard_none true kept holds = not_from_true kept (holds refl)
 guard_none false kept holds = refl
 
-behind : (row : TableRow) (group : Bool) → is_group_row row ≡ group → depth_behind (Some row) ≡ (if group then row.depth + 1 else row.depth)
+behind : (row : TableRow) (group : Bool) → is_group_row row ≡ group → depth_after (Some row) ≡ (if group then row.depth + 1 else row.depth)
 behind row group is = ap (λ (b : Bool). if b then row.depth + 1 else row.depth) is
 
 at_least : (group : Bool) (depth : ℕ) → depth ≤ (if group then depth + 1 else depth)
@@ -184,7 +184,7 @@ module _ (rows : List TableRow) (lines : TableChange) (lawful : table_faults row
         ∙ trigger_row_kept row.depth (row_at rows (to (i + 1))) (row_at narrowed (i + 1)) (narrowed_changed rows lines narrower (i + 1) next.0) there)
 
   -- a row that is left is no deeper than the row before it allows
-  depth_by : (k : ℕ) → k + 1 < many → (found : Option ℕ) → parent_of narrowed (k + 1) ≡ found → depth_at narrowed (k + 1) ≤ depth_behind (Some (row_at narrowed k))
+  depth_by : (k : ℕ) → k + 1 < many → (found : Option ℕ) → parent_of narrowed (k + 1) ≡ found → depth_at narrowed (k + 1) ≤ depth_after (Some (row_at narrowed k))
   depth_by k within None is =
       let outer : parent_of rows (to (k + 1)) ≡ None = parent_left rows lines lawful narrower (k + 1) within ∙ ap (option_map to) is in
       let none = outside_rows rows lawful (to (k + 1)) (parent_of_at_none rows (to (k + 1)) outer) in
@@ -214,8 +214,8 @@ module _ (rows : List TableRow) (lines : TableChange) (lawful : table_faults row
       let is : row_before narrowed (k + 1) ≡ Some (row_at narrowed k) =
       ap (λ b. if b then None else slice_get narrowed ((k + 1) - 1)) (ne_eqb (k + 1) 0 (λ none. omega arith))
       ∙ ap (slice_get narrowed) (let back : (k + 1) - 1 ≡ k = omega arith in back) ∙ at_row narrowed k (in_narrowed rows lines lawful narrower k (omega arith)) in
-      ap (λ (found : Option TableRow). nat_lt (depth_behind found) (row_at narrowed (k + 1)).depth) is
-      ∙ le-ltb (depth_behind (Some (row_at narrowed k))) (row_at narrowed (k + 1)).depth
+      ap (λ (found : Option TableRow). nat_lt (depth_after found) (row_at narrowed (k + 1)).depth) is
+      ∙ le-ltb (depth_after (Some (row_at narrowed k))) (row_at narrowed (k + 1)).depth
       (omega (arith, depth_by k here (parent_of narrowed (k + 1)) refl, same_depth (k + 1) here)))
 
   keeps_all : (i : ℕ) → i < many → KeepsRules narrowed i (row_at narrowed i)

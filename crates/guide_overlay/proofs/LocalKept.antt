@@ -31,7 +31,7 @@ use Rattle.element_check.specs.Value.{fails, is_unlisted}
 use Rattle.guide_overlay.specs.Stricter.{BothOr, IsStricter, IsStricterComposite, IsStricterItem, IsStricterList, IsStricterPart, IsStricterSegment}
 use Rattle.guide_overlay.proofs.Emptied.{none_joined, none_mapped, passing_emptied, pieces_emptied}
 
--- related members stand at the same places
+-- related members are at the same places
 module _ {A : Type 0} (R : A → A → Type 0) where
   along_at : (xs ys : List A) → AllZip R xs ys → (i : ℕ) → BothOr R (slice_get xs i) (slice_get ys i)
   along_at [] [] along i = tt

@@ -42,7 +42,7 @@ module _ {A : Type 0} (name : A → Octets) (R : A → A → Type 0) where
       either x y along.0.1 (named_in name xs wanted) (named_in name ys wanted) (named_along xs ys along.1 wanted)
       (bytes_eq (name x) wanted) (bytes_eq (name y) wanted) (ap (λ n. bytes_eq n wanted) along.0.0)
 
--- what is made of each member stands at the member's place
+-- what is made of each member is at the member's place
 module _ {A : Type 0} (R : A → A → Type 0) where
   pub along_made : (made : A → A) (xs : List A) → ((x : A) → Contains xs x → R x (made x)) → AllZip R xs (map made xs)
   along_made made [] each = tt

@@ -22,7 +22,7 @@ use Rattle.guide_overlay.specs.Kept.{detail_seen, last_seen, sections_after, wit
 abbrev section : Topic → List ℕ → List Detail → Section
 section topic name details = record { topic = topic; name = name; details = details }
 
--- a detail at the end is under the head in front where no head stands between
+-- a detail at the end is under the head in front where no head comes between
 details_push : (lines : List GuideLine) (detail : Detail) → sections_of lines ≡ [] → details_in_front (lines ++ Under detail ∷ []) ≡ details_in_front lines ++ detail ∷ []
 details_push [] detail none = refl
 details_push (Under d ∷ lines) detail none = ap (λ more. d ∷ more) (details_push lines detail none)

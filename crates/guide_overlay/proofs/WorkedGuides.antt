@@ -60,7 +60,7 @@ order = order_with
 abbrev line : List ℕ → List ℕ → List ℕ
 line octets file = octets ++ 10 ∷ file
 
--- the group is mandatory and stands once, the second item of BGM is mandatory, and one code is kept
+-- the group is mandatory and occurs once, the second item of BGM is mandatory, and one code is kept
 all_kinds : narrow_of order
     (line (codes "table TSTORD") (line (codes "node 3 M 1") (line (codes "segment BGM")
     (line (codes "item 2 M 1") (line (codes "codes 1001") (codes "keep 220"))))))

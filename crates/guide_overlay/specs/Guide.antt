@@ -58,22 +58,26 @@ is_named OfSegment name = is_tag_of name
 is_named OfComposite name = is_composite_code name
 is_named OfCodes name = is_element_code name
 
+-- a head with its name, if its word is one of the four and the name has its form
 abbrev pub head_by : Octets → Option Topic → Option GuideLine
 head_by name None = None
 head_by name (Some topic) = if is_named topic name then Some (Head topic name) else None
 
+-- an item of a segment with its status and its greatest number of repetitions, if all three are there
 abbrev pub item_by : Option ℕ → Option Bool → Option ℕ → Option GuideLine
 item_by (Some item) (Some must) (Some reps) = Some (Under (Item item must reps))
 item_by (Some item) (Some must) None = None
 item_by (Some item) None reps = None
 item_by None must reps = None
 
+-- a node of a table that is kept, with its status and its greatest count, if all three are there
 abbrev pub node_by : Option ℕ → Option Bool → Option ℕ → Option GuideLine
 node_by (Some node) (Some must) (Some max) = Some (Under (Node node (Keep must max)))
 node_by (Some node) (Some must) None = None
 node_by (Some node) None max = None
 node_by None must max = None
 
+-- a part of a composite with its status, if both are there
 abbrev pub part_by : Option ℕ → Option Bool → Option GuideLine
 part_by (Some part) (Some must) = Some (Under (Part part must))
 part_by (Some part) None = None
@@ -157,12 +161,12 @@ is_known dir OfSegment name = is_some (named_in segment_name dir.segments name)
 is_known dir OfComposite name = is_some (named_in composite_name dir.composites name)
 is_known dir OfCodes name = is_some (named_in element_name dir.elements name)
 
--- a head names something of the directory, and stands once
+-- a head names something of the directory, and occurs once
 abbrev pub head_kinds : Parts → List Section → Topic → Octets → List GuideKind
 head_kinds dir sections topic name =
     when (not (is_known dir topic name)) UnknownName ++ when (list_any (is_section_of topic name) sections) Twice
 
--- what a detail stands under
+-- what a detail comes under
 abbrev pub topic_of : Detail → Topic
 topic_of (Node node change) = OfTable
 topic_of (Item item must reps) = OfSegment
@@ -180,10 +184,11 @@ is_same_detail (Part i must) other =
 is_same_detail (Value v) other =
     elim other [ Node j change ↦ false | Item j must reps ↦ false | Part j must ↦ false | Value w ↦ bytes_eq v w ]
 
--- a status that is no weaker, and a count from 1 to the base's
+-- a status that is no weaker: mandatory, where the base's is
 abbrev pub is_no_weaker : Bool → Bool → Bool
 is_no_weaker base must = not base || must
 
+-- a count from 1 to the base's
 abbrev pub is_no_greater : ℕ → ℕ → Bool
 is_no_greater base most = nat_lt 0 most && nat_le most base
 
@@ -197,6 +202,7 @@ abbrev pub is_item_must : ItemDef → Bool
 is_item_must (Alone part reps) = part.must
 is_item_must (Composite code must reps) = must
 
+-- a status and a number of repetitions narrow an item: no weaker, and from 1 to the base's
 abbrev pub is_item_narrower : Bool → ℕ → ItemDef → Bool
 is_item_narrower must reps item = is_no_weaker (is_item_must item) must && is_no_greater (reps_of item) reps
 
@@ -227,7 +233,7 @@ base_kinds dir name (Part i must) =
     (option_and_then (λ composite. member_of composite.parts i) (named_in composite_name dir.composites name))
 base_kinds dir name (Value value) = value_kinds value (named_in list_name dir.lists name)
 
--- a detail stands under a head of its kind, once, and narrows what the base has
+-- a detail comes under a head of its kind, once, and narrows what the base has
 abbrev pub detail_kinds : Parts → Option Section → Detail → List GuideKind
 detail_kinds dir None detail = BadLine ∷ []
 detail_kinds dir (Some section) detail =
@@ -255,6 +261,7 @@ pub record GuideFault : Type 0 where
   pub line : ℕ
   pub kind : GuideKind
 
+-- the fault of a line that breaks this rule, by the number of the line
 abbrev pub fault_at : Line → GuideKind → GuideFault
 fault_at line kind = record { line = line.number; kind = kind }
 
@@ -271,13 +278,14 @@ abbrev pub details_for : List Section → Topic → Octets → List Detail
 details_for sections topic name =
     elim (find (is_section_of topic name) sections) [ None ↦ [] | Some section ↦ section.details ]
 
--- what they say of nodes
+-- what a detail says of a node, if it is of one
 abbrev pub node_change : Detail → Option (ℕ × NodeChange)
 node_change (Node node change) = Some (node, change)
 node_change (Item item must reps) = None
 node_change (Part part must) = None
 node_change (Value value) = None
 
+-- what details say of the nodes of a table
 abbrev pub changes_in : List Detail → TableChange
 changes_in details = filter_map node_change details
 
@@ -299,15 +307,18 @@ item_by_line item (Some (Node i change)) = item
 item_by_line item (Some (Part i must)) = item
 item_by_line item (Some (Value value)) = item
 
+-- a detail is of the item of that number
 abbrev pub is_item : ℕ → Detail → Bool
 is_item i (Item j must reps) = j == i
 is_item i (Node j change) = false
 is_item i (Part j must) = false
 is_item i (Value value) = false
 
+-- an item, with its number, as the first detail of that number has it
 abbrev pub narrowed_item : List Detail → ℕ × ItemDef → ItemDef
 narrowed_item details p = item_by_line p.1 (find (is_item p.0) details)
 
+-- a segment whose items the guide narrows
 abbrev pub narrowed_segment : List Section → SegmentDef → SegmentDef
 narrowed_segment sections segment = record segment {
   items = map (narrowed_item (details_for sections OfSegment (segment_name segment))) (enumerate_from 1 segment.items);
@@ -321,28 +332,32 @@ part_by_line part (Some (Node i change)) = part
 part_by_line part (Some (Item i must reps)) = part
 part_by_line part (Some (Value value)) = part
 
+-- a detail is of the part of that number
 abbrev pub is_part : ℕ → Detail → Bool
 is_part i (Part j must) = j == i
 is_part i (Node j change) = false
 is_part i (Item j must reps) = false
 is_part i (Value value) = false
 
+-- a part, with its number, as the first detail of that number has it
 abbrev pub narrowed_part : List Detail → ℕ × PartDef → PartDef
 narrowed_part details p = part_by_line p.1 (find (is_part p.0) details)
 
+-- a composite whose parts the guide narrows
 abbrev pub narrowed_composite : List Section → CompositeDef → CompositeDef
 narrowed_composite sections composite = record composite {
   parts = map (narrowed_part (details_for sections OfComposite (composite_name composite)))
       (enumerate_from 1 composite.parts);
 }
 
--- the values that are kept
+-- the value that a detail keeps, if it is of one
 abbrev pub value_kept : Detail → Option Octets
 value_kept (Value value) = Some value
 value_kept (Node node change) = None
 value_kept (Item item must reps) = None
 value_kept (Part part must) = None
 
+-- the values that details keep, in their order
 abbrev pub values_in : List Detail → List Octets
 values_in details = filter_map value_kept details
 

@@ -1,4 +1,4 @@
--- What the lines and sections of a guide stand for, as a body keeps them.
+-- What the lines and sections of a guide mean, as a body keeps them.
 use Rattle.std.specs.Prelude.{◌≡◌, Bool, true, List, [], ◌∷◌, ◌++◌, map, Option, Some, None}
 use Rattle.std.specs.List.{list_all}
 use Rattle.std.specs.Borrow.{Bor}
@@ -44,6 +44,7 @@ abbrev pub section_seen : SectionText → Section
 section_seen section =
     record { topic = section.topic; name = section.name.now; details = map detail_seen section.details.items }
 
+-- the section of the head that was read last, with the details under it; none where no head was read
 abbrev pub last_seen : Option (Topic × Bor Octets) → List Detail → List Section
 last_seen None details = []
 last_seen (Some head) details = record { topic = head.0; name = head.1.now; details = details } ∷ []

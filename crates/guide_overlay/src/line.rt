@@ -149,7 +149,7 @@ fn read_topic(word: &[u8]) -> Option<Topic>
 }
 
 impl DetailText<'_> {
-    /// Whether it stands under a head of that topic.
+    /// Whether it comes under a head of that topic.
     pub(crate) fn is_under(self, topic: Topic) -> bool
         ensures { result ≡ is_same_topic topic (topic_of (detail_seen self.entry)) }
     {

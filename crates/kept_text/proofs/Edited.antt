@@ -1,4 +1,4 @@
--- Where the rerun of an edit ends, told of the modes after numbers of segments: so no more segments are placed again
+-- Where the rerun of an edit ends, said of the modes after numbers of segments: so no more segments are placed again
 -- than it has.
 use Rattle.std.proofs.Common.{◌≡◌, ℕ, ◌+◌, ◌-◌, ◌<◌, ◌≤◌, true, false, List, length, get_or, drop, Option, Some, None, inl, inr, sym, ap, ◌∙◌, subst, arith}
 use Rattle.std.specs.Prelude.{nat_le}

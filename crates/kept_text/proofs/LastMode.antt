@@ -35,7 +35,7 @@ pub last_mode_at : (before : Mode) (records : List Kept) (k : ℕ) (kept : Kept)
 last_mode_at before records k kept is =
     last_mode_more before (take k records) (take (k + 1) records) kept (take_one_more records k kept is)
 
--- a mode told of these records is the one of records that are the same
+-- a mode given by these records is the one of records that are the same
 pub last_mode_same : (before mode : Mode) (told read : List Kept) → mode ≡ last_mode before told → told ≡ read
     → mode ≡ last_mode before read
 last_mode_same before mode told read is same = is ∙ ap (last_mode before) same

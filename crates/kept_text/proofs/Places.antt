@@ -1,4 +1,4 @@
--- Where stretches start, told of ascending ends, and the ends that are below a place.
+-- Where stretches start, said of ascending ends, and the ends that are below a place.
 use Rattle.std.proofs.Common.{◌≡◌, ℕ, zero, suc, ◌+◌, ◌<◌, ◌≤◌, ltb, List, [], ◌∷◌, length, take, Some, inl, inr, refl, sym, ap, ◌∙◌, subst, arith}
 use Rattle.std.specs.Prelude.{map}
 use Rattle.std.specs.List.{filter, slice_get}

@@ -64,7 +64,7 @@ module _ (dir : Parts) (text : List ℕ) (edit : Edit) (within : edit.at + edit.
       let after = told.after in
       omega arith
 
-  -- the records told up to there end at a boundary of the text before
+  -- the records given up to there end at a boundary of the text before
   pub old_boundary : (e j : ℕ) → IsTold e j
       → slice_get (boundaries_of (service_of text) text) j ≡ Some (e + 1 - length edit.put + edit.cut)
   old_boundary e j told =

@@ -8,6 +8,7 @@ use Rattle.segment_records.specs.WalkedSegments.{kept_in}
 use Rattle.kept_text.specs.declared.kept.KeptText.TheInside.{Inside}
 use Rattle.edi_octets.specs.declared.octets.TheConstants.{LONGEST_TEXT}
 
+-- what is seen of a kept text: the directory that it is checked by, and the text itself
 abbrev pub reading : Inside → Reading
 reading k = record { directory = k.directory.now; text = k.text }
 

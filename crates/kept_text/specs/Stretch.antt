@@ -18,6 +18,7 @@ abbrev pub ends_moved : Service → Octets → Edit → List ℕ
 ends_moved s text edit =
     map (λ end. end - edit.cut + length edit.put) (filter (λ end. nat_le (edit.at + edit.cut) end) (ends_of s text))
 
+-- a place is one of these
 abbrev pub is_among : List ℕ → ℕ → Bool
 is_among places place = list_any (λ other. other == place) places
 

@@ -27,10 +27,11 @@ abbrev pub node_lines_from : ℕ → List TableRow → Octets
 node_lines_from k [] = []
 node_lines_from k (row ∷ rows) = node_line k row ++ node_lines_from (k + 1) rows
 
--- a list, separated by single spaces
+-- tags, separated by single spaces
 abbrev pub tags_shown : List Tag → Octets
 tags_shown tags = join_with_byte 32 (map (λ tag. tag.octets) tags)
 
+-- the numbers of entries, separated by single spaces
 abbrev pub entries_shown : List ℕ → Octets
 entries_shown entries = join_with_byte 32 (map decimal entries)
 

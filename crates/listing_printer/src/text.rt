@@ -25,7 +25,7 @@ pub enum Detail {
     Values,
 }
 
-/// The printed form of a text, in two parts: the head tells how many lines of segments follow.
+/// The printed form of a text, in two parts: the head says how many lines of segments follow.
 #[derive(Debug, Drop)]
 pub struct PrintedText {
     pub head: Chunk,

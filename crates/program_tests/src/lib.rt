@@ -1,6 +1,6 @@
 //! Tests of public calls of the program: scripts, a drill, runs over objects that fail, and large texts.
 //!
-//! They stand in a crate of their own, over the proved libraries: a crate with tests in it is proved twice.
+//! They are in a crate of their own, over the proved libraries: a crate with tests in it is proved twice.
 #![tactic(auto)]
 
 #[cfg(test)]

@@ -47,7 +47,7 @@ room_both before between now First Next head rest first next n has fits =
     let same : n - length head - length rest ≡ n - length (head ++ rest) = omega (arith, length-append head rest) in
     (last.0, subst now same last.1)
 
--- a function tells whether all of a part was put
+-- a function says whether all of a part was put
 pub put_at : (before now : Option (List ℕ)) (octets : List ℕ) (whole : Bool) (told : Bool) → whole ≡ told → IsPutOut before now octets whole → IsPutOut before now octets told
 put_at before now octets whole told is put = subst (λ (b : Bool). IsPutOut before now octets b) is put
 

@@ -11,7 +11,7 @@ use Rattle.run_outcome.specs.Outcome.{Outcome, memory_refused, read_failed}
 use Rattle.run_outcome.specs.Refusal.{refusal, unread}
 use Rattle.edi_octets.specs.declared.octets.TheConstants.{LONGEST_TEXT}
 
--- what is loaded by a manifest, where the files are told
+-- what is loaded by a manifest, where the files are given
 abbrev pub IsLoaded : Octets → Option (List ShelfFile) → Result Directory Refusal → Type 0
 IsLoaded manifest files loaded = (told : List ShelfFile) → files ≡ Some told → load_of told manifest ≡ loaded
 
@@ -21,7 +21,7 @@ IsUnloaded manifest files Failed due =
     ((why : Refusal) × IsLoaded manifest files (Err why) × (due ≡ refusal why))
     ⊎ ((due ≡ read_failed) × Failed) ⊎ (due ≡ memory_refused)
 
--- what is read under a name, where the files are told
+-- what is read under a name, where the files are given
 abbrev pub IsFileRead : Octets → Option (List ShelfFile) → Result Octets Unread → Type 0
 IsFileRead name files read = IfSome files (λ told. octets_named LONGEST_TEXT told name ≡ read)
 

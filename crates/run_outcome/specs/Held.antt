@@ -3,7 +3,7 @@ use Rattle.std.specs.Prelude.{ℕ, Option}
 use Rattle.edi_tables.specs.Octets.{Octets}
 use Rattle.edi_ports.specs.declared.sink.Sink as sink
 
--- the octets that a sink holds, where it tells them, and the count of its faults
+-- the octets that a sink holds, where it gives them, and the count of its faults
 pub record Held : Type 0 where
   pub octets : Option Octets
   pub faults : ℕ

@@ -26,13 +26,13 @@ opened name (Ok dir) (Ok text) = Ok (record { directory = dir; text = text })
 abbrev pub opened_by : Octets → Octets → List ShelfFile → Result Opened Outcome
 opened_by manifest name files = opened name (load_of files manifest) (octets_named LONGEST_TEXT files name)
 
--- what is begun with, by the files, where they are told
+-- what is begun with, by the files, where they are given
 abbrev pub IsOpening : Octets → Octets → Option (List ShelfFile) → Result Opened Outcome → Type 0
 IsOpening manifest name files begun =
     ((loaded : Result Directory Refusal) × (read : Result Octets Unread) × (begun ≡ opened name loaded read))
     × IfSome files (λ told. begun ≡ opened_by manifest name told)
 
--- the files are told, and this is begun with
+-- the files are given, and this is begun with
 abbrev pub IsToldOpening : Octets → Octets → Option (List ShelfFile) → Opened → Type 0
 IsToldOpening manifest name files begun =
     (told : List ShelfFile) × (files ≡ Some told) × (opened_by manifest name told ≡ Ok begun)

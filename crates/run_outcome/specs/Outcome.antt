@@ -17,7 +17,7 @@ done output = record { status = Done; output = output }
 abbrev pub found : Octets → Outcome
 found output = record { status = Found; output = output }
 
--- a refusal: one line that tells it
+-- a refusal: one line that says it
 abbrev pub refused : Status → Octets → Outcome
 refused status text = record { status = status; output = text ++ 10 ∷ [] }
 

@@ -3,6 +3,7 @@ use Rattle.std.specs.Prelude.{ℕ}
 use Rattle.run_outcome.specs.declared.status.Status.{Status}
 use Rattle.run_outcome.specs.declared.status.Status.TheVariants.{Done, Found, Words, BadDirectory, ReadFault, WriteFault, BadScript, TooLarge, Memory, Absent}
 
+-- the number of a status, which is the program's exit status
 abbrev pub number_of : Status → ℕ
 number_of Done = 0
 number_of Found = 1

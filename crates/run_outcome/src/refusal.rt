@@ -30,7 +30,7 @@ pub fn refuse(alloc: Global, why: &Refusal) -> Made
     }
 }
 
-/// That there are no octets under a name, unless memory was refused for the line that tells it.
+/// That there are no octets under a name, unless memory was refused for the line that says it.
 pub fn refuse_unread(alloc: Global, name: &[u8], why: Unread) -> Made
     ensures { (result ≡ unread name.now why) ⊎ (result ≡ memory_refused) }
 {
@@ -44,7 +44,7 @@ pub fn refuse_unread(alloc: Global, name: &[u8], why: Unread) -> Made
     }
 }
 
-/// That the named file breaks a rule at a line, told after these words, unless memory was refused for the line that tells it.
+/// That the named file breaks a rule at a line, said after these words, unless memory was refused for saying so.
 pub fn refuse_rule(alloc: Global, words: &[u8], name: &[u8], line: u32, rule: &[u8]) -> Made
     ensures { (result ≡ rule_broken words.now name.now line rule.now) ⊎ (result ≡ memory_refused) }
 {

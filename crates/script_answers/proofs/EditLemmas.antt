@@ -1,4 +1,4 @@
--- What an editor answers, told of the text and the directory that it was made with.
+-- What an editor answers, said of the text and the directory that it was made with.
 use Rattle.std.proofs.Common.{◌≡◌, ◌∙◌, ◌≤◌, ℕ, List, length, Option, subst}
 use Rattle.dir_compile.specs.Directory.{Directory}
 use Rattle.edit_script.specs.Script.{AreCommands}

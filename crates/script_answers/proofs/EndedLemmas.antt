@@ -92,7 +92,7 @@ left_stop g (d ∷ cs) more mid now reader after why lawful ended same short nex
 
 -- ---- what a stop says of causes
 
--- a stop is told as a read fault only where its source failed, and as a write fault only where the sink did
+-- a stop is reported as a read fault only where its source failed, and as a write fault only where the sink did
 pub stop_caused : (Failed SinkFailed : Type 0) (why : ScriptStop) (put held' : Held) (status : Status) → (why ≡ stop.Fault → Failed) → (HasRisen put.faults held'.faults → SinkFailed) → IsFinish (stopped_by why) put held' status → IsCaused Failed SinkFailed status
 stop_caused Failed SinkFailed why put held' status failed sunk finish =
     ⊎_elim

@@ -98,7 +98,7 @@ roomy_taken {S} g IsStep state end next before mid now reader after first room r
     let commands : AreCommands g (c ∷ one.0) = subst (AreCommands g) one.1 is.lawful in
     room_taken g room room' IsStep end next c one.0 replies commands.1 (subst (HasRoomFor room IsStep end) one.1 is.room_is) answered
 
--- where the input doesn't fail the script stops for want of memory alone, and that is told
+-- where the input doesn't fail the script stops for want of memory alone, and that is reported
 pub roomy_stopped : {S : Type 0} (g : Grammar) (IsStep : Step S) (state end : S) (before mid now : Option (List ℕ)) (reader after : Reader) (first room : ℕ → Type 0) (why : ScriptStop) (status : Status) → HasReplies g IsStep → StillRoomy g IsStep state end before mid reader.left first room → IsNext mid now (in_grammar g reader) after (Err why) → (why ≡ stop.Fault → ⊥) → ((n : ℕ) → room n → length (stopped_by why).output ≤ n → status ≡ (stopped_by why).status) → (cs : List Command) (more : List ℕ) → before ≡ Some (script_text cs ++ more) → AreCommands g cs → IsEnded cs → length (script_text cs) ≤ longest_script → HasRoomFor first IsStep state cs → (status ≡ Done) ⊎ (status ≡ Memory)
 roomy_stopped {S} g IsStep state end before mid now reader after first room why status replies still next unfailed told cs more same lawful ended short has =
     let is = still cs more same lawful ended short has in

@@ -176,7 +176,7 @@ stopped_row {S} g IsStep state Failed why status account is stopped =
     row_of stop.Fault stopped = (stop.Fault, refl, stopped)
     row_of stop.Memory stopped = (stop.Memory, refl, stopped)
 
--- no command was taken, and why was told, or the sink failed there
+-- no command was taken, and why was reported, or the sink failed there
 pub run_stopped : {S : Type 0} (g : Grammar) (IsStep : Step S) (state end : S) (Failed : Type 0) (reader after : Reader) (before mid now held : Option (List ℕ)) (put held' : Held) (why : ScriptStop) (status : Status) → IsProgress g IsStep state end reader before mid held put.octets → IsNext mid now (in_grammar g reader) after (Err why) → (why ≡ stop.Fault → Failed) → IsFinish (stopped_by why) put held' status → IsRun g IsStep state Failed status before now held held'.octets
 run_stopped {S} g IsStep state end Failed reader after None mid now held put held' why status p next failed finish = tt
 run_stopped {S} g IsStep state end Failed reader after (Some whole) mid now None put held' why status p next failed finish = tt
@@ -211,7 +211,7 @@ run_stopped {S} g IsStep state end Failed reader after (Some whole) mid now (Som
 pub answered_told : {S : Type 0} (IsStep : Step S) (state : S) (c : Command) (next : S) (IsTaken IsTold : List ℕ → Type 0) → ((reply : List ℕ) → IsTaken reply → IsTold reply) → IsAnswered IsStep state c next IsTaken → IsAnswered IsStep state c next IsTold
 answered_told {S} IsStep state c next IsTaken IsTold tells answered = (answered.0, answered.1, tells answered.0 answered.2)
 
--- what was put of a reply, and how much room is left, where it is told whether all of it was put
+-- what was put of a reply, and how much room is left, where it is known whether all of it was put
 pub put_told : {S : Type 0} (IsStep : Step S) (state : S) (c : Command) (next : S) (held held' : Option (List ℕ)) (room room' : ℕ → Type 0) (whole told : Bool) → whole ≡ told → IsAnswered IsStep state c next (λ (reply : List ℕ). IsPutOut held held' reply whole × TakesAll room room' whole reply) → IsAnswered IsStep state c next (λ (reply : List ℕ). IsPutOut held held' reply told)
 put_told {S} IsStep state c next held held' room room' whole told is answered =
     answered_told IsStep state c next (λ (reply : List ℕ). IsPutOut held held' reply whole × TakesAll room room' whole reply) (λ (reply : List ℕ). IsPutOut held held' reply told) (λ reply taken. subst (λ (b : Bool). IsPutOut held held' reply b) is taken.0) answered

@@ -1,4 +1,4 @@
--- What a session answers, told of the text and the directory that it was made with.
+-- What a session answers, said of the text and the directory that it was made with.
 use Rattle.std.proofs.Common.{◌≡◌, ◌≤◌, ℕ, List, length, Option, ap, subst}
 use Rattle.dir_compile.specs.Directory.{Directory}
 use Rattle.edi_history.specs.Past.{begun}

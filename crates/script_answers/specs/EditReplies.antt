@@ -30,6 +30,7 @@ some_reply dir text Undo lawful = absurd lawful
 some_reply dir text Redo lawful = absurd lawful
 some_reply dir text (Batch edits) lawful = absurd lawful
 
+-- each command of an edit has a reply, on whatever text
 pub edit_replies : HasReplies Edit IsEditStep
 edit_replies before c lawful =
     let told = some_reply before.directory before.text c lawful in

@@ -28,7 +28,7 @@ counted word octets = word ++ codes " " ++ decimal (length octets) ++ 10 ∷ (oc
 abbrev pub no_memory : Octets
 no_memory = line_of (codes "no memory")
 
--- an edit that is made is told by the length of its text; one that isn't, by why
+-- an edit that is made is reported by the length of its text; one that isn't, by why
 abbrev pub edit_reply : Option EditStop → Octets → Octets
 edit_reply None text = line_of (codes "ok " ++ decimal (length text))
 edit_reply (Some Range) text = line_of (codes "no range")

@@ -27,6 +27,7 @@ some_session_reply dir past Redo lawful = (back_reply (codes "no redo") (redo_of
 some_session_reply dir past (Batch edits) lawful =
     (batch_reply (batch_stop past.text edits) (text_after_batch past.text edits), refl)
 
+-- each command of a session has a reply, on whatever text and past of it
 pub session_replies : HasReplies Session IsSessionStep
 session_replies before c lawful =
     let told = some_session_reply before.directory before.past c lawful in

@@ -13,7 +13,7 @@ use Rattle.edi_history.specs.Reading.{PastReading}
 use Rattle.kept_text.specs.Edit.{text_with}
 use Rattle.script_answers.specs.Reply.{IsReply, edit_reply, line_of, no_memory}
 
--- a text that came back is told by its length; where there was none, these words are
+-- a text that came back is reported by its length; where there was none, these words are the reply
 abbrev pub back_reply : Octets → Option Past → Octets
 back_reply words None = line_of words
 back_reply words (Some past) = edit_reply None past.text
@@ -24,8 +24,8 @@ stop_words Range = codes "no range "
 stop_words TooLong = codes "no limit "
 stop_words Memory = codes "no memory "
 
--- a batch that is made is told by the length of its text; one that isn't, by the number of its first edit that isn't
--- made, and why
+-- a batch that is made is reported by the length of its text; one that isn't, by the number of its first edit that
+-- isn't made, and why
 abbrev pub batch_reply : Option (ℕ × EditStop) → Octets → Octets
 batch_reply None text = edit_reply None text
 batch_reply (Some stop) text = line_of (stop_words stop.1 ++ decimal stop.0)

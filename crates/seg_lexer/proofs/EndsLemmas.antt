@@ -1,4 +1,4 @@
--- The ends of a text read forwards, so that they can be told of a text in two parts.
+-- The ends of a text read forwards, so that they can be given for a text in two parts.
 use Rattle.std.proofs.Common.{◌≡◌, ℕ, zero, suc, ◌+◌, ◌-◌, ◌<◌, ◌≤◌, Bool, true, false, not, ◌&&◌, cond, eqb, ltb, List, [], ◌∷◌, ◌++◌, length, get_or, take, drop, Option, refl, sym, ap, ◌∙◌, subst, arith, length-append, length-drop}
 use Rattle.std.specs.Prelude.{map, ⊤}
 use Rattle.std.specs.List.{filter, range_with_len}
@@ -14,7 +14,7 @@ use Rattle.seg_lexer.proofs.ForwardLemmas.{after-is}
 use Rattle.seg_lexer.proofs.PlacesLemmas.{map-cond}
 use Rattle.seg_lexer.proofs.ReleasedLemmas.{is_released-more, is_released-start}
 
--- the places of the unreleased octets t of a list that begins at place a, where its first octet is released (b) or isn't
+-- the places of the unreleased octets t of a list that begins at place a, where its first octet is released (b) or not
 abbrev pub found : Option ℕ → ℕ → Bool → ℕ → List ℕ → List ℕ
 found release t b a [] = []
 found release t b a (x ∷ xs) = cond (eqb x t && not b) (a ∷ found release t (releases release b x) (a + 1) xs) (found release t (releases release b x) (a + 1) xs)

@@ -43,6 +43,7 @@ pub record PlacedComponent : Type 0 where
   pub place : Stretch
   pub octets : Octets
 
+-- a component without its place
 abbrev pub unplaced : PlacedComponent → Component
 unplaced f =
     record { element = f.element; repetition = f.repetition; component = f.component; octets = f.octets }

@@ -41,7 +41,7 @@ rest_of sp xs (Some p) = fields_from sp xs p.element p.component p.at
 abbrev pub component_to : Option ℕ → Octets → ComponentPlace → ℕ → PlacedComponent
 component_to release xs p stop = component_in release xs p.element (p.component, record { from = p.at; to = stop })
 
--- the component whose numbers a place has, where it stands in the text, and its value
+-- the component whose numbers a place has, with the stretch of the text that it is, and its value
 abbrev pub placed_at : ComponentPlace → Stretch → Octets → PlacedComponent
 placed_at p place octets =
     record { element = p.element; repetition = 1; component = p.component; place = place; octets = octets }

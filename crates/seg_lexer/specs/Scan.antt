@@ -14,22 +14,24 @@ is_sought (Two a b) x = x == a || x == b
 abbrev pub is_free : Option ℕ → Sought → Octets → ℕ → ℕ → Bool
 is_free release sought xs a i = is_sought sought (slice_index xs i) && not (is_released release xs a i)
 
+-- place i is one that a scan from place a on looks for
 abbrev pub IsFree : Option ℕ → Sought → Octets → ℕ → ℕ → Type 0
 IsFree release sought xs a i = is_free release sought xs a i ≡ true
 
--- the octet after x is released, where x itself is (b) or isn't
+-- x releases the next octet: it is the release character and isn't released itself
 abbrev pub releases : Option ℕ → Bool → ℕ → Bool
-releases release b x = is_release release x && not b
+releases release was_released x = is_release release x && not was_released
 
--- the octet after these is released, where the first of them is (b) or isn't
+-- the octet after these is released, where the first of them was released or wasn't
 abbrev pub released_after : Option ℕ → Bool → Octets → Bool
-released_after release b [] = b
-released_after release b (x ∷ xs) = released_after release (releases release b x) xs
+released_after release was_released [] = was_released
+released_after release was_released (x ∷ xs) = released_after release (releases release was_released x) xs
 
--- place k of a part is sought, and isn't released where the part's first octet is (b) or isn't
+-- the octet at place k of a part is sought and isn't released, where the part's first octet was released or wasn't
 abbrev pub is_free_in : Option ℕ → Sought → Bool → Octets → ℕ → Bool
-is_free_in release sought b part k =
-    is_sought sought (slice_index part k) && not (released_after release b (take k part))
+is_free_in release sought was_released part k =
+    is_sought sought (slice_index part k) && not (released_after release was_released (take k part))
 
+-- place k of a part is one that a scan looks for, where the octet at its front is released or isn't
 abbrev pub IsFreeIn : Option ℕ → Sought → Bool → Octets → ℕ → Type 0
-IsFreeIn release sought b part k = is_free_in release sought b part k ≡ true
+IsFreeIn release sought was_released part k = is_free_in release sought was_released part k ≡ true

@@ -3,6 +3,7 @@ use Rattle.std.specs.Prelude.{ℕ, ◌+◌, ◌-◌, Bool, List, filter, slice_r
 use Rattle.std.specs.List.{range_with_len}
 use Rattle.edi_tables.specs.Octets.{Octets}
 
+-- a stretch: the places from `from` up to `to`, which isn't one of them
 pub record Stretch : Type 0 where
   pub from : ℕ
   pub to : ℕ

@@ -74,7 +74,7 @@ module _ (dir : Parts) (directory : IsDirectory dir) (segments : List Segment) (
   abbrev told_in : Position → List Fault
   told_in position = map (λ error. error.fault) (faults_in dir segments i position)
 
-  -- what is told by the step and by the end
+  -- what is reported by the step and by the end
   abbrev step_told : Mode → List Fault
   step_told before = step_faults before segment (step_of dir before segment)
 
@@ -191,7 +191,7 @@ module _ (dir : Parts) (directory : IsDirectory dir) (segments : List Segment) (
   abbrev before_is : Mode
   before_is = mode_open dir segments i (message_opened tags i)
 
-  -- where no message is open, nothing is told
+  -- where no message is open, nothing is reported
   inner_held : (held : Option ℕ) → message_opened tags i ≡ held → message_opened tags (i + 1) ≡ held
       → Tests segment.tag false false false false
       → told_in (position_held dir segments held)
@@ -205,7 +205,7 @@ module _ (dir : Parts) (directory : IsDirectory dir) (segments : List Segment) (
   closing_held None is tests = refl
   closing_held (Some a) is tests = closing_told a (table_opened dir segments a) refl is tests
 
-  -- nothing is told at an end after which it is outside
+  -- nothing is reported at an end after which it is outside
   end_outside : (faults : List Fault) → faults ≡ faults ++ end_told Outside
   end_outside faults =
       sym (append-nil faults) ∙ ap (λ (more : List Fault). faults ++ more) (sym (quiet (ends_after tags i)))

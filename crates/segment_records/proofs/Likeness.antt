@@ -77,7 +77,7 @@ module _ (dir : Parts) (directory : IsDirectory dir) (context : Context) (segmen
   tag_here : tag_in tags i ≡ segment.tag
   tag_here = tag_is dir segments i segment is
 
-  -- faults are told alike
+  -- faults are reported alike
   told_alike : (nodes : List Node) (faults : List Fault) → map (fault_line nodes (i + 1) segment) faults ≡ fault_lines nodes seen faults
   told_alike nodes faults =
       let one : (fault : Fault) → fault_line nodes (i + 1) segment fault ≡ fault_line nodes (i + 1) (as_segment seen) fault =

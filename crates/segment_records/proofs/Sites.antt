@@ -1,4 +1,4 @@
--- What the extents of messages say at a place, told by its tag and by what is open before it.
+-- What the extents of messages say at a place, given by its tag and by what is open before it.
 use Rattle.std.proofs.Common.{◌≡◌, ℕ, ◌+◌, ◌<◌, Bool, true, not, cond, List, ◌&&◌, Option, Some, None, length, ap, subst, ◌∙◌, add-one}
 use Rattle.std.specs.Option.{option_map}
 use Rattle.edi_tables.specs.declared.tag.Tag.{Tag}

@@ -33,6 +33,7 @@ error_with k mark element component found = record {
   missing = None;
 }
 
+-- an error of segment k, with the segment's own mark, at a component of an element
 abbrev pub error_of : ℕ → Segment → ℕ → ℕ → Kind → ErrorLine
 error_of k segment element component found = error_with k (mark_of segment) element component found
 
@@ -78,10 +79,11 @@ structure_lines dir segments i segment =
 abbrev pub is_unknown : Octets → List Octets → Bool
 is_unknown value known = has_octet value && not (list_any (bytes_eq value) known)
 
--- the levels and the versions of the syntax
+-- the levels of the syntax (0001): UNOA to UNOF
 abbrev pub levels : List Octets
 levels = codes "UNOA" ∷ codes "UNOB" ∷ codes "UNOC" ∷ codes "UNOD" ∷ codes "UNOE" ∷ codes "UNOF" ∷ []
 
+-- the versions of the syntax (0002): 1 to 3
 abbrev pub versions : List Octets
 versions = codes "1" ∷ codes "2" ∷ codes "3" ∷ []
 

@@ -54,6 +54,7 @@ abbrev pub missing_at_end : Directory → Mode → List ℕ
 missing_at_end dir (Within table pairs) = missing_past (nodes_at dir table) (entry_in pairs)
 missing_at_end dir mode = []
 
+-- what is wrong at place i where a message ends after it: each node that is missing then
 abbrev pub end_faults : Directory → List (Option Tag) → ℕ → Mode → List Fault
 end_faults dir tags i after = if ends_after tags i then map Missing (missing_at_end dir after) else []
 

@@ -62,6 +62,7 @@ structure_seen dir seen = step_lines dir seen.before seen ++ end_lines dir seen
 abbrev pub local_seen : SeenSegment → List ErrorLine
 local_seen seen = map (local_line seen.number (as_segment seen)) seen.kept.local
 
+-- the errors of a segment: those of the structure at it, and its local errors
 abbrev pub lines_seen : Directory → SeenSegment → List ErrorLine
 lines_seen dir seen = structure_seen dir seen ++ local_seen seen
 

@@ -6,15 +6,17 @@ use Rattle.segment_records.specs.Records.{Kept}
 use Rattle.segment_records.specs.declared.record.Faults.{Faults}
 use Rattle.segment_records.specs.declared.record.Record.TheInside.{Inside}
 
--- the local errors, and the missing nodes, that are kept: none where nothing is
+-- the local errors that are kept: none where no faults are
 abbrev pub local_in : {A : Type 0} → Option (Box Faults A) → List LocalError
 local_in None = []
 local_in (Some faults) = faults.value.local.items
 
+-- the missing nodes that are kept: none where no faults are
 abbrev pub missing_in : {A : Type 0} → Option (Box Faults A) → List ℕ
 missing_in None = []
 missing_in (Some faults) = faults.value.missing.items
 
+-- what is kept of a segment, as its record has it
 abbrev pub seen : Inside → Kept
 seen r = record {
   octets = r.octets;

@@ -58,9 +58,11 @@ group_seen service text seen =
     group_head_of (record { first = seen.number; last = seen.number; closed = false })
     (components_seen service text seen)
 
+-- a group whose last segment is this one
 abbrev pub group_ended : GroupHead → ℕ → GroupHead
 group_ended head last = record head { last = last }
 
+-- how segments open, close and stop functional groups: UNG opens one, UNE closes it, and UNE, UNG, UNZ and UNB stop it
 abbrev pub group_spans : Service → Octets → Spanning SeenSegment GroupHead
 group_spans service text = record {
   opens = λ seen. has_name (codes "UNG") seen.kept.tag;
@@ -71,10 +73,11 @@ group_spans service text = record {
   ended = group_ended;
 }
 
--- how many groups have begun with a segment, and the place of the one that is open after it
+-- how many groups have begun with a segment, itself included: a UNG begins one
 abbrev pub begun_by : Option Tag → ℕ → ℕ
 begun_by tag begun = if has_name (codes "UNG") tag then begun + 1 else begun
 
+-- the place of the group that is open after a segment: UNG opens the next one, and UNE, UNZ and UNB leave none open
 abbrev pub group_by : Option Tag → ℕ → Option ℕ → Option ℕ
 group_by tag begun group = if has_name (codes "UNG") tag then Some begun else (if stops_group tag then None else group)
 
@@ -91,9 +94,12 @@ message_seen service text group seen =
     message_head_of group (record { first = seen.number; last = seen.number; closed = false })
     (components_seen service text seen)
 
+-- a message whose last segment is this one
 abbrev pub message_ended : MessageHead → ℕ → MessageHead
 message_ended head last = record head { last = last }
 
+-- how segments, each with its group, open, close and stop messages: UNH opens one, UNT closes it, and UNT, UNH, UNE,
+-- UNG, UNZ and UNB stop it
 abbrev pub message_spans : Service → Octets → Spanning (Option ℕ × SeenSegment) MessageHead
 message_spans service text = record {
   opens = λ p. has_name (codes "UNH") p.1.kept.tag;

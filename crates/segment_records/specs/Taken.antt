@@ -6,6 +6,7 @@ use Rattle.segment_records.specs.declared.step.Step.{Step as TakenStep}
 use Rattle.segment_records.specs.Segments.{Segment}
 use Rattle.segment_records.specs.Steps.{Step}
 
+-- a step as it was taken: the entry, what is missing, whether it is one too many, and the mode after it
 abbrev pub taken : TakenStep → Step
 taken step = record { entry = step.entry; missing = step.missing.items; over = step.over; after = step.after }
 

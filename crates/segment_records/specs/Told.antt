@@ -24,6 +24,7 @@ tabled_seen seen _ = false
 abbrev pub components_seen : Service → Octets → SeenSegment → List Component
 components_seen service text seen = components_at service text (as_segment seen).start (as_segment seen).end
 
+-- a segment as a head of this kind, with the values that its text gives
 abbrev pub head_seen : Service → Octets → SeenSegment → HeadKind → Head
 head_seen service text seen kind = record {
   segment = seen.number;
@@ -35,9 +36,11 @@ head_seen service text seen kind = record {
   tabled = tabled_seen seen kind;
 }
 
+-- the mark of a segment: its first octet and its tag
 abbrev pub mark_seen : SeenSegment → SegmentMark
 mark_seen seen = record { start = (as_segment seen).start; tag = seen.kept.tag }
 
+-- the member of the tree for a segment: its number, its tag and its place
 abbrev pub line_in_tree : Directory → SeenSegment → TreeLine
 line_in_tree dir seen = record {
   segment = seen.number;

@@ -12,10 +12,11 @@ use Rattle.edi_tables.specs.declared.segment.ItemDef.TheVariants.{Alone, Composi
 use Rattle.edi_tables.specs.declared.segment.SegmentDef.{SegmentDef}
 use Rattle.edi_tables.specs.declared.segment.TableRow.{TableRow}
 
--- the two statuses: mandatory and conditional
+-- the status `M`: mandatory
 abbrev pub M : Bool
 M = true
 
+-- the status `C`: conditional
 abbrev pub C : Bool
 C = false
 
@@ -24,9 +25,11 @@ pub record Length : Type 0 where
   pub exact : Bool
   pub max : ℕ
 
+-- a fixed length: exactly so many octets
 abbrev pub exactly : ℕ → Length
 exactly n = record { exact = true; max = n }
 
+-- a variable length: up to so many octets
 abbrev pub up_to : ℕ → Length
 up_to n = record { exact = false; max = n }
 
@@ -169,10 +172,11 @@ service_segments =
     composite (codes "S011") M ∷ [])
     ∷ []
 
--- a row of a segment table: a segment, and a group
+-- the row of a segment in a segment table: its tag, its status, its greatest count and its depth
 abbrev pub segment_row : Octets → Bool → ℕ → ℕ → TableRow
 segment_row tag must max depth = record { tag = Some (record { octets = tag }); must = must; max = max; depth = depth }
 
+-- the row of a group, which has no tag: its status, its greatest count and its depth
 abbrev pub group_row : Bool → ℕ → ℕ → TableRow
 group_row must max depth = record { tag = None; must = must; max = max; depth = depth }
 

@@ -49,7 +49,7 @@ macro_rules! part {
     };
 }
 
-/// A data element that stands alone in a segment, without repetitions.
+/// A stand-alone data element of a segment, without repetitions.
 #[macro_export]
 macro_rules! alone {
     ($($word:tt)+) => { edi_tables::ItemDef::Alone { part: $crate::part!($($word)+), reps: 1 } };

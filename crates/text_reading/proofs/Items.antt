@@ -48,7 +48,7 @@ pub record Passes (context : Context) (repr : Repr) (value : List ℕ) : Type 0 
   pub long : nat_lt repr.max (counted_length context.service repr.class value) ≡ false
   pub short : (repr.exact && nat_lt (counted_length context.service repr.class value) repr.max) ≡ false
 
--- a value may stand at a part: it is filled where the part is mandatory, and passes the tests where it is filled
+-- a value may occur at a part: it is filled where the part is mandatory, and passes the tests where it is filled
 pub record IsGoodValue (context : Context) (must : Bool) (repr : Repr) (value : List ℕ) : Type 0 where
   pub filled : must ≡ true → has_octet value ≡ true
   pub passes : has_octet value ≡ true → Passes context repr value
@@ -75,7 +75,7 @@ abbrev pub is_must : ItemDef → Bool
 is_must (Alone part reps) = part.must
 is_must (Composite code must reps) = must
 
--- elements may stand at items; items past the last element are conditional
+-- elements may occur at items; items past the last element are conditional
 abbrev pub AreGoodElements : Context → List ItemDef → List Element → Type 0
 AreGoodElements context [] [] = Unit {0}
 AreGoodElements context [] (e ∷ es) = ⊥
@@ -256,7 +256,7 @@ pub read-numbered : (s : Segment) → components_read s ≡ all_numbered 0 (list
 read-numbered s = read-from 0 (alone s.tag ∷ trimmed is_empty_element s.elements)
     ∙ ap (λ (vs : List (List ℕ)). all_numbered 0 (vs ∷ map (λ e. values_read (trimmed is_empty_value e)) (trimmed is_empty_element s.elements))) (alone-read s.tag)
 
--- a segment is lawful: its tag is that of a service segment, and its elements may stand at the items of this
+-- a segment is lawful: its tag is that of a service segment, and its elements may occur at the items of this
 pub record IsLawful (context : Context) (s : Segment) : Type 0 where
   pub tag : is_tag_of s.tag ≡ true
   pub items : List ItemDef

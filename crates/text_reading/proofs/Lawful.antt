@@ -80,7 +80,7 @@ code_few _ = lit< tt
 pub code_number : (e : ErrorLine) → IsNumber 3 (code_told e)
 code_number e = let few = code_few e.kind in decimal_number 3 (code_of e.kind) (omega arith) (omega arith) (omega arith)
 
--- a tag that is told has three octets
+-- a tag that is given has three octets
 record IsThree (tag : List ℕ) : Type 0 where
   octets : list_all is_tag_octet_of tag ≡ true
   three : length tag ≡ 3

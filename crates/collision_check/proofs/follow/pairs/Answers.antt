@@ -4,7 +4,7 @@ use Rattle.std.specs.Option.{ForSome}
 use Rattle.std.proofs.lemmas.List.{append-nil}
 use Rattle.edi_tables.specs.Filled.{is_filled}
 use Rattle.edi_tables.specs.Walk.{missing_between, reached_node}
-use Rattle.edi_tables.specs.Collisions.{is_follower, may_stand_again}
+use Rattle.edi_tables.specs.Collisions.{is_follower, may_come_again}
 use Rattle.edi_tables.proofs.Rising.{rising_pairs}
 use Rattle.collision_check.specs.Marks.{number_at}
 use Rattle.collision_check.proofs.Meeting.{MeetsNumber, IsMet, met_begin, met_inside, met_skip, met_take, met_stop, met_all, number_read, number_marked, length-numbers}
@@ -42,11 +42,11 @@ loop-candidate-preserved-in-Continue-1 c =
     let nodes = c.args.table.now in
     let within = met_inside nodes c.args.entry c.in-Some.candidate c.loop-candidate.candidate-iterator c.next.new.self c.loop-candidate.pairs.items c.loop-candidate.marks c.in-Some.ensures.steps c.loop-candidate.invariant in
     let missing : is_filled (missing_between nodes c.args.entry c.in-Some.candidate) ≡ false = sym c.misses.ensures ∙ c.if-misses.false in
-    let again : may_stand_again nodes c.args.entry c.in-Some.candidate ≡ true = sym c.may_stand_again.ensures ∙ c.if-may_stand_again.true in
+    let again : may_come_again nodes c.args.entry c.in-Some.candidate ≡ true = sym c.may_come_again.ensures ∙ c.if-may_come_again.true in
     let meets : MeetsNumber c.args.entry c.in-Some.candidate c.loop-candidate.marks (c.first_met.new.marks, c.first_met.result) (number_at nodes c.in-Some.candidate) =
     subst (MeetsNumber c.args.entry c.in-Some.candidate c.loop-candidate.marks (c.first_met.new.marks, c.first_met.result)) (number_read nodes c.args.numbers.now c.in-Some.candidate c.requires.numbers within) (c.first_met.ensures.first, c.first_met.ensures.marks) in
     met_take nodes c.args.entry c.in-Some.candidate c.loop-candidate.candidate-iterator c.next.new.self c.loop-candidate.pairs.items c.push.new.self.items c.loop-candidate.marks c.first_met.new.marks c.first_met.result
-    c.in-Some.ensures.steps within (ap (λ b. not b && may_stand_again nodes c.args.entry c.in-Some.candidate) missing ∙ again) meets
+    c.in-Some.ensures.steps within (ap (λ b. not b && may_come_again nodes c.args.entry c.in-Some.candidate) missing ∙ again) meets
     (c.in_ok-push.ensures.items ∙ ap (λ found. c.loop-candidate.pairs.items ++ first_pair found c.in-Some.candidate) (sym c.in-Some-first_met.is)) c.loop-candidate.invariant
 
 pub loop-candidate-preserved-in_default : goal.loop-candidate-preserved-in_default
@@ -54,11 +54,11 @@ loop-candidate-preserved-in_default c =
     let nodes = c.args.table.now in
     let within = met_inside nodes c.args.entry c.in-Some.candidate c.loop-candidate.candidate-iterator c.next.new.self c.loop-candidate.pairs.items c.loop-candidate.marks c.in-Some.ensures.steps c.loop-candidate.invariant in
     let missing : is_filled (missing_between nodes c.args.entry c.in-Some.candidate) ≡ false = sym c.misses.ensures ∙ c.if-misses.false in
-    let again : may_stand_again nodes c.args.entry c.in-Some.candidate ≡ true = sym c.may_stand_again.ensures ∙ c.if-may_stand_again.true in
+    let again : may_come_again nodes c.args.entry c.in-Some.candidate ≡ true = sym c.may_come_again.ensures ∙ c.if-may_come_again.true in
     let meets : MeetsNumber c.args.entry c.in-Some.candidate c.loop-candidate.marks (c.first_met.new.marks, c.first_met.result) (number_at nodes c.in-Some.candidate) =
     subst (MeetsNumber c.args.entry c.in-Some.candidate c.loop-candidate.marks (c.first_met.new.marks, c.first_met.result)) (number_read nodes c.args.numbers.now c.in-Some.candidate c.requires.numbers within) (c.first_met.ensures.first, c.first_met.ensures.marks) in
     met_take nodes c.args.entry c.in-Some.candidate c.loop-candidate.candidate-iterator c.next.new.self c.loop-candidate.pairs.items c.loop-candidate.pairs.items c.loop-candidate.marks c.first_met.new.marks c.first_met.result
-    c.in-Some.ensures.steps within (ap (λ b. not b && may_stand_again nodes c.args.entry c.in-Some.candidate) missing ∙ again) meets
+    c.in-Some.ensures.steps within (ap (λ b. not b && may_come_again nodes c.args.entry c.in-Some.candidate) missing ∙ again) meets
     (sym (append-nil c.loop-candidate.pairs.items) ∙ ap (λ found. c.loop-candidate.pairs.items ++ first_pair found c.in-Some.candidate) (sym c.in_default.is)) c.loop-candidate.invariant
 
 pub returns-then-misses : goal.returns-then-misses
@@ -71,9 +71,9 @@ returns-then-misses c = record {
 pub loop-candidate-preserved : goal.loop-candidate-preserved
 loop-candidate-preserved c =
     let missing : is_filled (missing_between c.args.table.now c.args.entry c.in-Some.candidate) ≡ false = sym c.misses.ensures ∙ c.if-misses.false in
-    let again : may_stand_again c.args.table.now c.args.entry c.in-Some.candidate ≡ false = sym c.may_stand_again.ensures ∙ c.if-may_stand_again.false in
+    let again : may_come_again c.args.table.now c.args.entry c.in-Some.candidate ≡ false = sym c.may_come_again.ensures ∙ c.if-may_come_again.false in
     met_skip c.args.table.now c.args.entry c.in-Some.candidate c.loop-candidate.candidate-iterator c.next.new.self c.loop-candidate.pairs.items c.loop-candidate.marks
-    c.in-Some.ensures.steps (ap (λ b. not b && may_stand_again c.args.table.now c.args.entry c.in-Some.candidate) missing ∙ again) c.loop-candidate.invariant
+    c.in-Some.ensures.steps (ap (λ b. not b && may_come_again c.args.table.now c.args.entry c.in-Some.candidate) missing ∙ again) c.loop-candidate.invariant
 
 pub returns : goal.returns
 returns c = record {

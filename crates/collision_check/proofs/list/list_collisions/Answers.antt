@@ -14,7 +14,7 @@ use Rattle.collision_check.proofs.Ambiguous.{All-unmap, collisions_ambiguous}
 use Rattle.collision_check.proofs.Single.{at_most_one}
 use Rattle.collision_check.proofs.list.list_collisions.Goals as goal
 
--- a mark that tells nothing
+-- a mark that says nothing
 no_mark : (count from n : ℕ) → mark_at (map (λ _. None) (range_with_len from count)) n ≡ None
 no_mark zero from n = refl
 no_mark (suc count) from zero = refl

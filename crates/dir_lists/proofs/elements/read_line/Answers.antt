@@ -1,6 +1,6 @@
 use Rattle.std.proofs.Common.{sym, ap, ◌∙◌}
 use Rattle.edi_octets.specs.Left.{line_shown}
-use Rattle.dir_lists.specs.Elements.{repr_behind_word}
+use Rattle.dir_lists.specs.Elements.{repr_after_word}
 use Rattle.dir_lists.proofs.ElementLemmas.{line-text, line-repr}
 use Rattle.dir_lists.proofs.elements.read_line.Goals as goal
 
@@ -10,4 +10,4 @@ returns-then-not-begins_with c = λ earlier is any.
 
 pub returns-in-Some : goal.returns-in-Some
 returns-in-Some c = λ earlier is any.
-    line-repr earlier (line_shown c.args.line.now) c.args.found is any c.in-Some.repr (sym c.begins_with.ensures ∙ c.if-not-begins_with.false) (sym c.is_some.ensures ∙ c.if-is_some.false) (sym c.in-Some.is ∙ c.read_behind_word.ensures ∙ ap repr_behind_word c.fields.ensures)
+    line-repr earlier (line_shown c.args.line.now) c.args.found is any c.in-Some.repr (sym c.begins_with.ensures ∙ c.if-not-begins_with.false) (sym c.is_some.ensures ∙ c.if-is_some.false) (sym c.in-Some.is ∙ c.read_behind_word.ensures ∙ ap repr_after_word c.fields.ensures)

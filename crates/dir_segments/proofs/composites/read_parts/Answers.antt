@@ -4,7 +4,7 @@ use Rattle.edi_tables.specs.declared.element.PartDef.{PartDef}
 use Rattle.edi_octets.specs.Left.{line_shown, body_left}
 use Rattle.dir_segments.specs.Composites.{part_lines, parts_in}
 use Rattle.edi_octets.specs.Profile.{position_of}
-use Rattle.dir_segments.specs.Parts.{is_item_line, fields_behind, part_in, part_faults, count_faults}
+use Rattle.dir_segments.specs.Parts.{is_item_line, fields_past_position, part_in, part_faults, count_faults}
 use Rattle.dir_segments.proofs.StopLemmas.{placed, placed_none, placed_value}
 use Rattle.dir_segments.proofs.FrontLemmas.{read_more, read_stops}
 use Rattle.dir_segments.proofs.PartLemmas.{part_lines-item}
@@ -19,7 +19,7 @@ returns-in_err-position c =
     let item : is_item_line line ≡ true = sym c.is_item_line.ensures ∙ c.if-not-is_item_line.false in
     let here = ap part_lines c.in-Some.ensures.steps ∙ part_lines-item line later item in
     let tail = count_faults (line_shown c.args.entry.now.head) (length (part_lines body)) in
-    rw (err.1, err.2) (read_stops part_faults position_of (λ l. part_in (fields_behind l)) placed (λ (parts : Vec PartDef Global). parts.items) c.in_err-position.field-0.0 (part_lines body) (part_lines (body_left c.loop-line.line-iterator)) line (part_lines later) c.loop-line.before c.loop-line.parts.items tail (position_of line, part_in (fields_behind line)) (parts_in body) c.loop-line.invariant here c.in_err-position.ensures)
+    rw (err.1, err.2) (read_stops part_faults position_of (λ l. part_in (fields_past_position l)) placed (λ (parts : Vec PartDef Global). parts.items) c.in_err-position.field-0.0 (part_lines body) (part_lines (body_left c.loop-line.line-iterator)) line (part_lines later) c.loop-line.before c.loop-line.parts.items tail (position_of line, part_in (fields_past_position line)) (parts_in body) c.loop-line.invariant here c.in_err-position.ensures)
 
 pub loop-line-preserved : goal.loop-line-preserved
 loop-line-preserved c =
@@ -30,7 +30,7 @@ loop-line-preserved c =
     let here = ap part_lines c.in-Some.ensures.steps ∙ part_lines-item line later item in
     let read : ℕ × PartDef = (c.in_ok-position.position, c.in_ok-position.part) in
     let faults = part_faults c.loop-line.before line in
-    let none = placed_none read faults (position_of line) (part_in (fields_behind line)) c.in_ok-position.ensures in
-    let value = placed_value read faults (position_of line) (part_in (fields_behind line)) c.in_ok-position.ensures in
+    let none = placed_none read faults (position_of line) (part_in (fields_past_position line)) c.in_ok-position.ensures in
+    let value = placed_value read faults (position_of line) (part_in (fields_past_position line)) c.in_ok-position.ensures in
     let pushed : c.push.new.self.items ≡ c.loop-line.parts.items ++ c.in_ok-position.part ∷ [] = search rules in
-    rw pushed (read_more part_faults position_of (λ l. part_in (fields_behind l)) (part_lines body) (part_lines (body_left c.loop-line.line-iterator)) line (part_lines later) c.loop-line.before c.loop-line.parts.items c.in_ok-position.position c.in_ok-position.part c.loop-line.invariant here none value.0 value.1)
+    rw pushed (read_more part_faults position_of (λ l. part_in (fields_past_position l)) (part_lines body) (part_lines (body_left c.loop-line.line-iterator)) line (part_lines later) c.loop-line.before c.loop-line.parts.items c.in_ok-position.position c.in_ok-position.part c.loop-line.invariant here none value.0 value.1)

@@ -5,7 +5,7 @@ use Rattle.edi_tables.specs.declared.segment.ItemDef.{ItemDef}
 use Rattle.edi_tables.specs.declared.segment.ItemDef.TheVariants.{Alone}
 use Rattle.edi_octets.specs.Left.{line_shown}
 use Rattle.edi_octets.specs.Profile.{position_of}
-use Rattle.dir_segments.specs.Parts.{is_placed, fields_behind, is_element_form, is_composite_form, part_with, status_fault, element_fault, fault_list}
+use Rattle.dir_segments.specs.Parts.{is_placed, fields_past_position, is_element_form, is_composite_form, part_with, status_fault, element_fault, fault_list}
 use Rattle.dir_segments.specs.Repetitions.{item_fields, reps_in, IsElementItem, IsCompositeItem}
 use Rattle.dir_segments.specs.Segments.{line_faults, item_in, alone_item, composite_item}
 use Rattle.dir_segments.proofs.FieldLemmas.{some_where}
@@ -19,9 +19,9 @@ returns-in_err-part c =
     let line = line_shown c.args.line.now in
     let position = some_where (is_placed line) (position_of line) c.in-Some.position c.in-Some.ensures in
     let item = c.in-Some-read_element_item.item in
-    let fields = fields_behind line in
+    let fields = fields_past_position line in
     let Read : List (List ℕ) → Type 0 = λ behind. (is_element_form (item_fields behind) ≡ true) × IsElementItem item behind in
-    let read : Read fields = subst Read c.fields_behind-fields.ensures c.in-Some-read_element_item.ensures in
+    let read : Read fields = subst Read c.fields_past_position-fields.ensures c.in-Some-read_element_item.ensures in
     rw (err.1, err.2) (stops_same (λ (part : PartDef). Some part) (placed {A = ItemDef}) c.in_err-part.field-0.0 (fault_list line (element_fault c.args.before line item.element.must item.element.repr)) (line_faults c.args.before line (item_fields fields)) (part_with item.element.code item.element.must item.element.repr) (position_of line, item_in (item_fields fields) (reps_in fields)) (element_line-faults c.args.before line fields position.0 item read) c.in_err-part.ensures)
 
 pub returns-in-Some-read_element_item : goal.returns-in-Some-read_element_item
@@ -29,9 +29,9 @@ returns-in-Some-read_element_item c =
     let line = line_shown c.args.line.now in
     let position = some_where (is_placed line) (position_of line) c.in-Some.position c.in-Some.ensures in
     let item = c.in-Some-read_element_item.item in
-    let fields = fields_behind line in
+    let fields = fields_past_position line in
     let Read : List (List ℕ) → Type 0 = λ behind. (is_element_form (item_fields behind) ≡ true) × IsElementItem item behind in
-    let read : Read fields = subst Read c.fields_behind-fields.ensures c.in-Some-read_element_item.ensures in
+    let read : Read fields = subst Read c.fields_past_position-fields.ensures c.in-Some-read_element_item.ensures in
     let faults = fault_list line (element_fault c.args.before line item.element.must item.element.repr) in
     let due = part_with item.element.code item.element.must item.element.repr in
     let some = λ (part : PartDef). Some part in
@@ -53,8 +53,8 @@ returns-in_err-item c =
     let line = line_shown c.args.line.now in
     let position = some_where (is_placed line) (position_of line) c.in-Some.position c.in-Some.ensures in
     let item = c.in-Some-read_composite_item.composite in
-    let fields = fields_behind line in
-    let same = c.fields_behind-fields.ensures in
+    let fields = fields_past_position line in
+    let same = c.fields_past_position-fields.ensures in
     let other : is_element_form (item_fields fields) ≡ false = ap (λ behind. is_element_form (item_fields behind)) (sym same) ∙ c.in_default-read_element_item.ensures in
     let Read : List (List ℕ) → Type 0 = λ behind. (is_composite_form (item_fields behind) ≡ true) × IsCompositeItem item behind in
     let read : Read fields = subst Read same c.in-Some-read_composite_item.ensures in
@@ -65,8 +65,8 @@ returns c =
     let line = line_shown c.args.line.now in
     let position = some_where (is_placed line) (position_of line) c.in-Some.position c.in-Some.ensures in
     let item = c.in-Some-read_composite_item.composite in
-    let fields = fields_behind line in
-    let same = c.fields_behind-fields.ensures in
+    let fields = fields_past_position line in
+    let same = c.fields_past_position-fields.ensures in
     let other : is_element_form (item_fields fields) ≡ false = ap (λ behind. is_element_form (item_fields behind)) (sym same) ∙ c.in_default-read_element_item.ensures in
     let Read : List (List ℕ) → Type 0 = λ behind. (is_composite_form (item_fields behind) ≡ true) × IsCompositeItem item behind in
     let read : Read fields = subst Read same c.in-Some-read_composite_item.ensures in

@@ -7,7 +7,7 @@ use Rattle.edi_tables.specs.First.{IsVerdict, unless_faulty}
 use Rattle.edi_octets.specs.DirStop.{fault_in}
 use Rattle.edi_octets.specs.Left.{line_shown, body_left}
 use Rattle.edi_octets.specs.Profile.{position_of}
-use Rattle.dir_segments.specs.Parts.{Passes, fields_behind, is_composite_form}
+use Rattle.dir_segments.specs.Parts.{Passes, fields_past_position, is_composite_form}
 use Rattle.dir_segments.specs.Repetitions.{item_fields, reps_in}
 use Rattle.dir_segments.specs.Segments.{item_in, item_end_faults, line_faults, details_of, detail_faults, repeated_parts}
 use Rattle.dir_segments.proofs.StopLemmas.{placed, placed_none, placed_value, no_faults, value_given, passed, gives, stops}
@@ -18,8 +18,8 @@ returns-in_err-position c =
     let err = err_from_is_err_and c.from_residual.result c.from_residual.ensures.1 in
     let known = c.args.known.now.composites.now in
     let line = line_shown c.args.line.now in
-    let fields = item_fields (fields_behind line) in
-    let reps = reps_in (fields_behind line) in
+    let fields = item_fields (fields_past_position line) in
+    let reps = reps_in (fields_past_position line) in
     let details = details_of (body_left c.args.behind) in
     let first = line_faults c.args.before line fields in
     let second = flat_map (detail_faults (is_composite_form fields)) details in
@@ -31,8 +31,8 @@ returns-in_err-repeated c =
     let err = err_from_is_err_and c.from_residual-in_err-repeated.result c.from_residual-in_err-repeated.ensures.1 in
     let known = c.args.known.now.composites.now in
     let line = line_shown c.args.line.now in
-    let fields = item_fields (fields_behind line) in
-    let reps = reps_in (fields_behind line) in
+    let fields = item_fields (fields_past_position line) in
+    let reps = reps_in (fields_past_position line) in
     let details = details_of (body_left c.args.behind) in
     let first = line_faults c.args.before line fields in
     let second = flat_map (detail_faults (is_composite_form fields)) details in
@@ -50,8 +50,8 @@ returns-in_err-judge_end c =
     let err = err_from_is_err_and c.from_residual-in_err-judge_end.result c.from_residual-in_err-judge_end.ensures.1 in
     let known = c.args.known.now.composites.now in
     let line = line_shown c.args.line.now in
-    let fields = item_fields (fields_behind line) in
-    let reps = reps_in (fields_behind line) in
+    let fields = item_fields (fields_past_position line) in
+    let reps = reps_in (fields_past_position line) in
     let details = details_of (body_left c.args.behind) in
     let first = line_faults c.args.before line fields in
     let second = flat_map (detail_faults (is_composite_form fields)) details in
@@ -77,8 +77,8 @@ pub returns : goal.returns
 returns c =
     let known = c.args.known.now.composites.now in
     let line = line_shown c.args.line.now in
-    let fields = item_fields (fields_behind line) in
-    let reps = reps_in (fields_behind line) in
+    let fields = item_fields (fields_past_position line) in
+    let reps = reps_in (fields_past_position line) in
     let details = details_of (body_left c.args.behind) in
     let first = line_faults c.args.before line fields in
     let second = flat_map (detail_faults (is_composite_form fields)) details in

@@ -10,7 +10,7 @@ check_composite-requires-clause-short g c =
     let few : length c.parts.result.now ≤ 99 = parts_of-few c.args.rules.now _ _ c.parts.ensures.lawful c.parts.ensures.parts in
     omega arith
 
--- a stand-alone item is told by its part, whatever its number of repetitions is
+-- a stand-alone item is given by its part, whatever its number of repetitions is
 pub returns-in-Alone-clause-ok : goal.returns-in-Alone-clause-ok
 returns-in-Alone-clause-ok g c =
     subst (λ (item : ItemDef). OnOk c.check_alone.result (c.check_alone.new.errors ≡ c.args.errors.now ++ item_errors c.args.rules.now c.args.element item (values_left c.args.element c.args.values.now)))

@@ -2,7 +2,7 @@ use Rattle.std.proofs.Common.{◌≡◌, ◌+◌, ◌++◌, ◌<◌, ◌^◌, dr
 use Rattle.element_check.specs.Streams.{after_front, components_ahead, part_rules, parts_errors, values_left}
 use Rattle.element_check.proofs.element.check_parts.Given as goal
 
--- what is left to be told comes after what was told
+-- what is left to be reported comes after what was reported
 abbrev pub invariant-loop-part : goal.invariant-loop-part
 invariant-loop-part g l = record {
   same : l.errors ++ parts_errors (part_rules l.rules l.named) l.element l.component (drop l.part-index l.parts) (values_left l.element l.values)

@@ -2,7 +2,7 @@ use Rattle.std.proofs.Common.{◌≡◌, ◌+◌, ◌++◌, ◌<◌, ◌^◌, le
 use Rattle.element_check.specs.Streams.{after_front, components_ahead, surplus_components, values_left}
 use Rattle.element_check.proofs.element.check_surplus.Given as goal
 
--- what is left to be told comes after what was told
+-- what is left to be reported comes after what was reported
 abbrev pub invariant-loop-value : goal.invariant-loop-value
 invariant-loop-value g l = record {
   same : l.errors ++ surplus_components l.element l.component (values_left l.element l.values) ≡ l.initial.errors ++ surplus_components l.element l.fn.first (values_left l.element l.initial.values);

@@ -1,5 +1,5 @@
 use Rattle.kept_text.proofs.stretch.locate.Given as goal
 
--- the counter of a call that counts nothing stands for the ledger of its blank
+-- the counter of a call that counts nothing is seen as the ledger of its blank
 abbrev pub ghosts-locate_counted : goal.ghosts-locate_counted
 ghosts-locate_counted a = record { name = a.blank.name; parts = a.blank.parts }

@@ -8,7 +8,7 @@ use Rattle.std.proofs.lemmas.List.{drop_more}
 use Rattle.indexmap.specs.IndexMap.{IndexMap, Updates, get}
 use Rattle.contrl_segments.specs.declared.summary.GroupHead.{GroupHead}
 use Rattle.contrl_segments.specs.declared.summary.MessageHead.{MessageHead}
-use Rattle.contrl_match.specs.Index.{group_seen, message_seen, same_message, same_reference}
+use Rattle.contrl_match.specs.Index.{group_seen, found_head, same_message, same_reference}
 
 -- the first group with a reference among those from a place on
 abbrev pub group_from : List GroupHead → ℕ → List ℕ → Option (ℕ × GroupHead)
@@ -29,7 +29,7 @@ module _ {S : Type 0} where
   HasGroups map groups i = (q : Bor (List ℕ)) → option_map group_seen (get same_reference map q) ≡ group_from groups i q.now
 
   abbrev pub HasMessages : IndexMap (Option ℕ × Bor (List ℕ)) (Bor MessageHead) S → List MessageHead → ℕ → Type 0
-  HasMessages map messages i = (q : Option ℕ × Bor (List ℕ)) → option_map message_seen (get same_message map q) ≡ message_from messages i q.0 q.1.now
+  HasMessages map messages i = (q : Option ℕ × Bor (List ℕ)) → option_map found_head (get same_message map q) ≡ message_from messages i q.0 q.1.now
 
   -- one place further to the front
   pub group-next : (groups : List GroupHead) (i j : ℕ) (group : Bor GroupHead) (reference : Bor (List ℕ)) (m n : IndexMap (Bor (List ℕ)) (ℕ × Bor GroupHead) S)
@@ -50,8 +50,8 @@ module _ {S : Type 0} where
   message-next messages i j message key m n within at grouped named next so_far updates q =
       let by : Option ℕ → List ℕ → Option MessageHead → Option MessageHead = λ g r o. cond (option_eq nat_eq g q.0 && bytes_eq r q.1.now) (Some message.now) o in
       let first : drop i messages ≡ message.now ∷ drop (i + 1) messages = drop_more messages i message.now within ∙ ap (λ (h : MessageHead). h ∷ drop (i + 1) messages) (sym at) in
-      ap (option_map message_seen) (updates.0 q)
-      ∙ (seen-chosen message_seen (same_message key q) message (get same_message m q)
+      ap (option_map found_head) (updates.0 q)
+      ∙ (seen-chosen found_head (same_message key q) message (get same_message m q)
       ∙ (ap (by key.0 key.1.now) (so_far q ∙ ap (λ (k : ℕ). message_from messages k q.0 q.1.now) (sym next))
       ∙ (ap (λ (g : Option ℕ). by g key.1.now (message_from messages (i + 1) q.0 q.1.now)) grouped
       ∙ (ap (λ (r : List ℕ). by message.now.group r (message_from messages (i + 1) q.0 q.1.now)) named

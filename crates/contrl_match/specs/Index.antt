@@ -14,8 +14,8 @@ abbrev pub group_seen : ℕ × Bor GroupHead → ℕ × GroupHead
 group_seen p = (p.0, p.1.now)
 
 -- what is seen of a message that is found
-abbrev pub message_seen : Bor MessageHead → MessageHead
-message_seen m = m.now
+abbrev pub found_head : Bor MessageHead → MessageHead
+found_head m = m.now
 
 -- two references are the same
 abbrev pub same_reference : Bor Octets → Bor Octets → Bool
@@ -36,4 +36,4 @@ abbrev pub IsMessageIndex : {S : Type 0}
     → IndexMap (Option ℕ × Bor Octets) (Bor MessageHead) S → List MessageHead → Type 0
 IsMessageIndex map messages =
     (key : Option ℕ × Bor Octets)
-    → option_map message_seen (get same_message map key) ≡ message_named messages key.0 key.1.now
+    → option_map found_head (get same_message map key) ≡ message_named messages key.0 key.1.now

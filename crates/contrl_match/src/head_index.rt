@@ -2,7 +2,7 @@
 ghost use Rattle.std.specs.Prelude.{◌≡◌, IfOk};
 ghost use Rattle.std.specs.Option.{option_map};
 ghost use Rattle.contrl_match.specs.Spots.{group_named, message_named};
-ghost use Rattle.contrl_match.specs.Index.{IsGroupIndex, IsMessageIndex, group_seen, message_seen};
+ghost use Rattle.contrl_match.specs.Index.{IsGroupIndex, IsMessageIndex, group_seen, found_head};
 
 use contrl_segments::{GroupHead, MessageHead, Summary};
 use indexmap::IndexMap;
@@ -43,7 +43,7 @@ impl<'s> HeadIndex<'s> {
 
     /// The first message with this reference in the group at a place, or in none.
     pub fn message(&self, group: Option<usize>, reference: &[u8]) -> Option<&'s MessageHead>
-        ensures { option_map message_seen result
+        ensures { option_map found_head result
             ≡ message_named self.now.summary.now.messages group reference.now }
     {
         let found = self.messages.get(&(group, reference))?;

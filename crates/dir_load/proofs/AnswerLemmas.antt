@@ -9,7 +9,7 @@ use Rattle.dir_load.specs.declared.stop.Refusal.TheVariants.{File}
 use Rattle.dir_load.specs.declared.stop.LoadStop.{LoadStop}
 use Rattle.dir_load.specs.declared.stop.LoadStop.TheVariants.{Refused, Fault, Memory}
 use Rattle.dir_load.specs.Load.{and_then, map_err}
-use Rattle.dir_load.specs.Stop.{IsStopAt, file_fault_in, refusal_in}
+use Rattle.dir_load.specs.Stop.{IsStopAtFile, file_fault_in, refusal_in}
 
 -- who stops as a part did answers for the whole, where the part's fault is that of the whole
 pub Answers-stopped : {X Y A B E F : Type 0} (view : X → A) (shown : Y → B) (fault_in : E → Option F) (stop : E) (part : Result A F) (whole : Result B F) → ((fault : F) → part ≡ Err fault → whole ≡ Err fault) → IsVerdict view fault_in (Err stop) part → IsVerdict shown fault_in (Err stop) whole
@@ -25,7 +25,7 @@ Answers-and_then view shown fault_in stop part next given =
     Answers-stopped view shown fault_in stop part (and_then part next) (λ fault is. ap (λ r. and_then r next) is) given
 
 -- a stop at the file of that name reports the file's refusal
-pub Answers-at_file : {X Y A : Type 0} (view : X → A) (shown : Y → A) (name : List ℕ) (read : FileStop) (stop : LoadStop) (file : Result A FileFault) → IsStopAt name read stop → IsVerdict view file_fault_in (Err read) file → IsVerdict shown refusal_in (Err stop) (map_err (File name) file)
+pub Answers-at_file : {X Y A : Type 0} (view : X → A) (shown : Y → A) (name : List ℕ) (read : FileStop) (stop : LoadStop) (file : Result A FileFault) → IsStopAtFile name read stop → IsVerdict view file_fault_in (Err read) file → IsVerdict shown refusal_in (Err stop) (map_err (File name) file)
 Answers-at_file view shown name (file.Refused fault) (Refused refusal) due is given = rw (given, is) refl
 Answers-at_file view shown name (file.Refused fault) Fault due is given = absurd is
 Answers-at_file view shown name (file.Refused fault) Memory due is given = tt

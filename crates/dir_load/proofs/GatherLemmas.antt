@@ -23,7 +23,7 @@ use Rattle.dir_load.specs.declared.stop.Refusal.TheVariants.{File}
 use Rattle.dir_load.specs.declared.stop.LoadStop.{LoadStop}
 use Rattle.dir_load.specs.declared.stop.LoadStop.TheVariants.{Refused, Fault, Memory}
 use Rattle.dir_load.specs.Gathered.{joined}
-use Rattle.dir_load.specs.Load.{Found, and_then, composites_of, file_after, file_by, file_on, found_by, found_on, map_err, nothing, refusals_in, refusals_of}
+use Rattle.dir_load.specs.Load.{Found, and_then, composites_of, file_after, file_by, found_in_file, found_by, found_on, map_err, nothing, refusals_in, refusals_of}
 use Rattle.dir_load.specs.Stop.{refusal_in}
 
 -- a segment file has no composites, whatever composites are known
@@ -49,7 +49,7 @@ module _ (files : List ShelfFile) where
   composites-from earlier [] = refl
   composites-from earlier (line ∷ lines) =
       ap (λ here. here ++ flat_map (λ p. (result_unwrap_or (file_after files p.0 p.1) nothing).composites) (with_earlier_from (earlier ++ line ∷ []) lines)) (composites-known line.kind (composites_of files earlier) line.name)
-      ∙ ap (λ later. (result_unwrap_or (file_on files [] line) nothing).composites ++ later) (composites-from (earlier ++ line ∷ []) lines)
+      ∙ ap (λ later. (result_unwrap_or (found_in_file files [] line) nothing).composites ++ later) (composites-from (earlier ++ line ∷ []) lines)
 
   module _ (earlier : List FileLine) (line : FileLine) where
     -- one more line
@@ -59,8 +59,8 @@ module _ (files : List ShelfFile) where
         rw (judged-push (λ p. (file p).elements) earlier line, judged-push (λ p. (file p).lists) earlier line, judged-push (λ p. (file p).composites) earlier line, judged-push (λ p. (file p).segments) earlier line, judged-push (λ p. (file p).messages) earlier line) refl
 
     -- what the file of a line gave was added
-    pub added-turn : (old new : Found) → old ≡ found_on files earlier → result_map_both (joined old) (λ (f : FileFault). f) (file_on files old.composites line) ≡ Ok new → (refusals_in line.name (file_after files earlier line) ≡ []) × (new ≡ found_on files (earlier ++ line ∷ []))
-    added-turn old new held added = by (file_after files earlier line) refl (ap (λ composites. result_map_both (joined old) (λ (f : FileFault). f) (file_on files composites line)) known ∙ added)
+    pub added-turn : (old new : Found) → old ≡ found_on files earlier → result_map_both (joined old) (λ (f : FileFault). f) (found_in_file files old.composites line) ≡ Ok new → (refusals_in line.name (file_after files earlier line) ≡ []) × (new ≡ found_on files (earlier ++ line ∷ []))
+    added-turn old new held added = by (file_after files earlier line) refl (ap (λ composites. result_map_both (joined old) (λ (f : FileFault). f) (found_in_file files composites line)) known ∙ added)
       where
         known : composites_of files earlier ≡ old.composites
         known = sym (ap (λ (f : Found). f.composites) held ∙ composites-from [] earlier)
@@ -72,15 +72,15 @@ module _ (files : List ShelfFile) where
         by (Err broken) is made = cc
 
     -- the file of a line is refused
-    pub refused-turn : (old : Found) → old ≡ found_on files earlier → (refusal : Refusal) → map_err (File line.name) (file_on files old.composites line) ≡ Err refusal → refusals_in line.name (file_after files earlier line) ≡ refusal ∷ []
-    refused-turn old held refusal is = by (file_after files earlier line) (ap (λ known. map_err (File line.name) (file_on files known line)) (sym (ap (λ (f : Found). f.composites) held ∙ composites-from [] earlier)) ∙ is)
+    pub refused-turn : (old : Found) → old ≡ found_on files earlier → (refusal : Refusal) → map_err (File line.name) (found_in_file files old.composites line) ≡ Err refusal → refusals_in line.name (file_after files earlier line) ≡ refusal ∷ []
+    refused-turn old held refusal is = by (file_after files earlier line) (ap (λ known. map_err (File line.name) (found_in_file files known line)) (sym (ap (λ (f : Found). f.composites) held ∙ composites-from [] earlier)) ∙ is)
       where
         by : (file : Result Found FileFault) → map_err (File line.name) file ≡ Err refusal → refusals_in line.name file ≡ refusal ∷ []
         by (Ok found) told = cc
         by (Err broken) told = let e : File line.name broken ≡ refusal = cc in ap (λ r. r ∷ []) e
 
 -- nothing is refused so far, and the next file stops: the reading of all stops so
-pub Answers-turn : (files : List ShelfFile) (lines : List FileLine) (i : ℕ) (line : FileLine) → i < length lines → line ≡ get_or lines i line → (old : Found) → refusals_of files (take i lines) ≡ [] → old ≡ found_on files (take i lines) → {X Y A : Type 0} (view : X → Found) (shown : Y → A) (all : A) (stop : LoadStop) → IsVerdict view refusal_in (Err stop) (map_err (File line.name) (file_on files old.composites line)) → IsVerdict shown refusal_in (Err stop) (unless_faulty (refusals_of files lines) all)
+pub Answers-turn : (files : List ShelfFile) (lines : List FileLine) (i : ℕ) (line : FileLine) → i < length lines → line ≡ get_or lines i line → (old : Found) → refusals_of files (take i lines) ≡ [] → old ≡ found_on files (take i lines) → {X Y A : Type 0} (view : X → Found) (shown : Y → A) (all : A) (stop : LoadStop) → IsVerdict view refusal_in (Err stop) (map_err (File line.name) (found_in_file files old.composites line)) → IsVerdict shown refusal_in (Err stop) (unless_faulty (refusals_of files lines) all)
 Answers-turn files lines i line lt is old none held view shown all (Refused refusal) given =
     let judge : List FileLine × FileLine → List Refusal = λ p. refusals_in p.1.name (file_after files p.0 p.1) in
     let whole : lines ≡ take i lines ++ line ∷ drop (i + 1) lines = sym (take-append-drop i lines) ∙ ap (λ later. take i lines ++ later) (rw add-one (rw is (drop-cons lines i line lt))) in

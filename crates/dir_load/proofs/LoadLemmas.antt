@@ -30,12 +30,12 @@ use Rattle.dir_load.specs.declared.stop.LoadStop.TheVariants.{Refused, Fault, Me
 use Rattle.dir_load.specs.declared.stop.Refusal.TheVariants.{File, Store}
 use Rattle.dir_load.specs.Load.{Found, and_then, found_on, lines_under, load_of, load_with, map_err, octets_under, parts_refusal, parts_with, refusals_of, store_under}
 use Rattle.dir_load.specs.Manifest.{manifest_in}
-use Rattle.dir_load.specs.Stop.{IsStopAt, IsStopIn, compile_stop, grammar_stop, refusal_in, unread_stop}
+use Rattle.dir_load.specs.Stop.{IsStopAtFile, IsStopIn, compile_stop, grammar_stop, refusal_in, unread_stop}
 use Rattle.dir_load.proofs.AnswerLemmas.{Answers-and_then}
 
 module _ {Y : Type 0} (shown : Y → Parts) (files : List ShelfFile) (name : List ℕ) where
   -- the manifest was not read
-  pub Answers-unread : {X : Type 0} (view : X → List ℕ) (stop : NamedStop) (told : LoadStop) → IsStopAt name (unread_stop stop) told → IsVerdict view unread_in (Err stop) (octets_named 4194304 files name) → IsVerdict shown refusal_in (Err told) (load_of files name)
+  pub Answers-unread : {X : Type 0} (view : X → List ℕ) (stop : NamedStop) (told : LoadStop) → IsStopAtFile name (unread_stop stop) told → IsVerdict view unread_in (Err stop) (octets_named 4194304 files name) → IsVerdict shown refusal_in (Err told) (load_of files name)
   unfolding load_of
   Answers-unread view (named.Unread why) (Refused refusal) is given =
       ap (λ r. and_then (map_err (λ w. File name (unread w)) r) (octets_under files name)) given ∙ ap Err (sym is)
@@ -68,7 +68,7 @@ module _ {Y : Type 0} (shown : Y → Parts) (files : List ShelfFile) (name : Lis
     Answers-no_store view store.Memory told is given = rw is tt
 
     -- the lines are at fault
-    pub Answers-no_lines : {X : Type 0} (view : X → Manifest) (stop : DirStop) (told : LoadStop) → IsStopAt name (grammar_stop stop) told → IsVerdict view grammar.fault_in (Err stop) (manifest_in octets) → IsVerdict shown refusal_in (Err told) (lines_under files name octets)
+    pub Answers-no_lines : {X : Type 0} (view : X → Manifest) (stop : DirStop) (told : LoadStop) → IsStopAtFile name (grammar_stop stop) told → IsVerdict view grammar.fault_in (Err stop) (manifest_in octets) → IsVerdict shown refusal_in (Err told) (lines_under files name octets)
     Answers-no_lines view (dir.Fault fault) (Refused refusal) is given =
         ap (λ r. and_then (map_err (λ f. File name (Grammar f)) r) (load_with files)) given ∙ ap Err (sym is)
     Answers-no_lines view (dir.Fault fault) Fault is given = absurd is

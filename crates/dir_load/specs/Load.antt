@@ -74,16 +74,16 @@ found_by Segments known octets = map_ok (λ found. record nothing { segments = f
 found_by Message known octets = map_ok (λ found. record nothing { messages = found ∷ [] }) (message_in octets)
 
 -- what the file of a line gives, where these composites are known
-abbrev pub file_on : List ShelfFile → List CompositeDef → FileLine → Result Found FileFault
-file_on files known line = file_by (found_by line.kind known) files line.name
+abbrev pub found_in_file : List ShelfFile → List CompositeDef → FileLine → Result Found FileFault
+found_in_file files known line = file_by (found_by line.kind known) files line.name
 
 -- the composites of the files of these lines
 abbrev pub composites_of : List ShelfFile → List FileLine → List CompositeDef
-composites_of files lines = flat_map (λ line. (result_unwrap_or (file_on files [] line) nothing).composites) lines
+composites_of files lines = flat_map (λ line. (result_unwrap_or (found_in_file files [] line) nothing).composites) lines
 
 -- what the file of a line gives after these lines: the composites of all files before it are known
 abbrev pub file_after : List ShelfFile → List FileLine → FileLine → Result Found FileFault
-file_after files earlier line = file_on files (composites_of files earlier) line
+file_after files earlier line = found_in_file files (composites_of files earlier) line
 
 -- the definitions of one kind in the files of these lines, in their order
 abbrev pub members_of : {A : Type 0} → (Found → List A) → List ShelfFile → List FileLine → List A

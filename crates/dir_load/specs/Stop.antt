@@ -47,12 +47,12 @@ compile_stop (compile.Fault kind name) = Refused (Parts kind name)
 compile_stop compile.Memory = Memory
 
 -- a stop at the file of this name, as one of loading; there may be no memory for the name
-abbrev pub IsStopAt : Octets → FileStop → LoadStop → Type 0
-IsStopAt name (file.Refused fault) (Refused refusal) = refusal ≡ File name fault
-IsStopAt name (file.Refused fault) Fault = ⊥
-IsStopAt name (file.Refused fault) Memory = Unit {0}
-IsStopAt name file.Fault stop = stop ≡ Fault
-IsStopAt name file.Memory stop = stop ≡ Memory
+abbrev pub IsStopAtFile : Octets → FileStop → LoadStop → Type 0
+IsStopAtFile name (file.Refused fault) (Refused refusal) = refusal ≡ File name fault
+IsStopAtFile name (file.Refused fault) Fault = ⊥
+IsStopAtFile name (file.Refused fault) Memory = Unit {0}
+IsStopAtFile name file.Fault stop = stop ≡ Fault
+IsStopAtFile name file.Memory stop = stop ≡ Memory
 
 -- a stop in the store of this name, as one of loading; there may be no memory for the name
 abbrev pub IsStopIn : Octets → StoreStop → LoadStop → Type 0

@@ -6,7 +6,7 @@ ghost use Rattle.edi_ports.specs.declared.shelf.ShelfFile.{ShelfFile};
 ghost use Rattle.edi_ports.specs.Faults.{IsFair};
 ghost use Rattle.dir_load.specs.declared.stop.FileFault.TheVariants.{Grammar};
 ghost use Rattle.dir_load.specs.Gathered.{Appends, IsFormed, found_of, joined};
-ghost use Rattle.dir_load.specs.Load.{file_on, found_by, found_on, nothing, parts_with, refusals_of};
+ghost use Rattle.dir_load.specs.Load.{found_in_file, found_by, found_on, nothing, parts_with, refusals_of};
 ghost use Rattle.dir_load.specs.Stop.{file_fault_in, refusal_in};
 ghost use Rattle.edi_octets.specs.declared.octets.TheConstants.{LONGEST_TEXT};
 
@@ -79,7 +79,7 @@ impl Gathered {
         ensures adds { (files : Members ShelfFile) → S.files shelf.old ≡ Some files
             → IsVerdict (λ _. found_of self.new) file_fault_in result
             (result_map_both (joined (found_of self.old)) (λ fault. fault)
-            (file_on files self.old.composites.items line.now)) }
+            (found_in_file files self.old.composites.items line.now)) }
         ensures formed { (most : ℕ) → IsFormed most self.old
             → OnOk result (IsFormed (most + 1) self.new) }
         ensures files { S.files shelf.new ≡ S.files shelf.old }

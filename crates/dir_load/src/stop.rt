@@ -109,11 +109,11 @@ impl From<CompileStop> for LoadStop {
 }
 
 impl FileStop {
-    ghost use Rattle.dir_load.specs.Stop.{IsStopAt};
+    ghost use Rattle.dir_load.specs.Stop.{IsStopAtFile};
 
     /// The stop of loading at the file of that name. Where there is no memory for the name, it is that.
     pub fn at_file(self, alloc: Global, name: &[u8]) -> LoadStop
-        ensures { IsStopAt name.now self result }
+        ensures { IsStopAtFile name.now self result }
     {
         match self {
             FileStop::Refused(fault) => match Chunk::of(alloc, name) {

@@ -3,7 +3,7 @@ use Rattle.std.proofs.Common.{◌+◌, ◌*◌, ◌<◌, ◌≤◌, ℕ, length,
 use Rattle.std.specs.Prelude.{decimal}
 use Rattle.std.proofs.lemmas.Fmt.{length-decimal-le}
 use Rattle.std.proofs.lemmas.List.{length-append}
-use Rattle.drill_maker.specs.Interchange.{closing_text, end_text, head_text, interchange_text, line_count, line_text, lines_text, message_text, messages_text, opening_text}
+use Rattle.drill_maker.specs.Interchange.{closing_text, end_text, head_text, interchange_text, line_count, line_text, lines_text, drill_message, messages_text, opening_text}
 use Rattle.drill_maker.proofs.RangeLemmas.{range_length}
 
 decimal_four : (n : ℕ) → n < 10000 → length (decimal n) ≤ 4
@@ -40,8 +40,8 @@ lines_short i lines few three =
     let each : length (lines_text i lines) ≤ lines * 30 = range_length (λ j. line_text j (i + j)) 30 lines 1 (1 + lines) (omega arith) (λ j from below. line_short j (i + j) (omega arith) (omega arith)) in
     omega arith
 
-message_short : (x i : ℕ) → i < 1000 → length (message_text x i) ≤ 180
-unfolding message_text
+message_short : (x i : ℕ) → i < 1000 → length (drill_message x i) ≤ 180
+unfolding drill_message
 message_short x i few =
     let three : line_count x i ≤ 3 = omega arith in
     let head : length (head_text (i + 1)) ≤ 70 = head_short (i + 1) (omega arith) in
@@ -53,6 +53,6 @@ message_short x i few =
 pub interchange_short : (n x : ℕ) → n ≤ 1000 → length (interchange_text n x) < 200000
 unfolding interchange_text opening_text
 interchange_short n x few =
-    let messages : length (messages_text n x) ≤ n * 180 = range_length (message_text x) 180 n 0 n (omega arith) (λ i from below. message_short x i (omega arith)) in
+    let messages : length (messages_text n x) ≤ n * 180 = range_length (drill_message x) 180 n 0 n (omega arith) (λ i from below. message_short x i (omega arith)) in
     let closing : length (closing_text n) ≤ 20 = closing_short n (omega arith) in
     simp length-append (omega arith)

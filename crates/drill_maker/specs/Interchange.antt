@@ -34,12 +34,12 @@ abbrev pub lines_text : ℕ → ℕ → Octets
 lines_text i lines = flat_map (λ j. line_text j (i + j)) (range_with_len 1 lines)
 
 -- message i, from 0, with the reference i + 1
-unfoldable pub message_text : ℕ → ℕ → Octets
-message_text x i = head_text (i + 1) ++ lines_text i (line_count x i) ++ end_text (line_count x i) (i + 1)
+unfoldable pub drill_message : ℕ → ℕ → Octets
+drill_message x i = head_text (i + 1) ++ lines_text i (line_count x i) ++ end_text (line_count x i) (i + 1)
 
 -- n messages for the number x, one after the other
 abbrev pub messages_text : ℕ → ℕ → Octets
-messages_text n x = flat_map (message_text x) (range_with_len 0 n)
+messages_text n x = flat_map (drill_message x) (range_with_len 0 n)
 
 -- the interchange of n messages for the number x, without line ends
 unfoldable pub interchange_text : ℕ → ℕ → Octets

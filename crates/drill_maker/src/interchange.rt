@@ -1,6 +1,6 @@
 //! The interchange of a drill.
 ghost use Rattle.std.specs.Prelude.{◌≡◌, ◌++◌, ◌<◌, ◌≤◌, IfOk, OnOk, length};
-ghost use Rattle.drill_maker.specs.Interchange.{closing_text, end_text, head_text, interchange_text, line_text, lines_text, message_text, messages_text, opening_text};
+ghost use Rattle.drill_maker.specs.Interchange.{closing_text, end_text, head_text, interchange_text, line_text, lines_text, drill_message, messages_text, opening_text};
 
 use edi_octets::put_decimal;
 use edi_tables::Chunk;
@@ -53,11 +53,11 @@ fn put_closing(out: &mut Chunk, n: u64) -> Result<(), AllocError>
 }
 
 // Message `i`, from 0.
-#[tactic(auto, unfolding(crate::specs::Interchange::message_text))]
+#[tactic(auto, unfolding(crate::specs::Interchange::drill_message))]
 fn put_message(out: &mut Chunk, x: u64, i: u64) -> Result<(), AllocError>
     requires few { i < 1000 }
     requires small { x ≤ 999999999 }
-    ensures { OnOk result (out.new ≡ out.old ++ message_text x i) }
+    ensures { OnOk result (out.new ≡ out.old ++ drill_message x i) }
 {
     let reference = i + 1;
     let lines = 1 + (i + x) % 3;

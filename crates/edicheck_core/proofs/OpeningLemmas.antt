@@ -10,12 +10,12 @@ use Rattle.dir_load.specs.Load.{load_of}
 use Rattle.run_outcome.specs.Outcome.{Outcome, memory_refused}
 use Rattle.run_outcome.specs.Opening.{IsOpening, IsUnopened, Opened, opened}
 use Rattle.edicheck_core.specs.Form.{Question}
-use Rattle.edicheck_core.specs.About.{asked_about, told_of}
+use Rattle.edicheck_core.specs.About.{asked_about, answer_about}
 use Rattle.edicheck_core.specs.OneOf.{IsOneOf}
 
 -- what a question comes to with what was begun with
 abbrev pub told_after : Question → Result Opened Outcome → Outcome
-told_after question (Ok begun) = told_of question begun.directory begun.text
+told_after question (Ok begun) = answer_about question begun.directory begun.text
 told_after question (Err due) = due
 
 asked_about-opened : (question : Question) (name : List ℕ) (loaded : Result Parts Refusal) (read : Result (List ℕ) Unread)
@@ -44,7 +44,7 @@ asked question manifest name (Some told) begun Failed due opening is =
 
 -- the answer to a question, unless memory was refused
 pub asked_opened : (question : Question) (manifest name : List ℕ) (files : Option (List ShelfFile)) (directory : Parts) (text : List ℕ) (Failed : Type 0) (due : Outcome)
-    → IsOpening manifest name files (Ok (record { directory = directory; text = text })) → (due ≡ told_of question directory text) ⊎ (due ≡ memory_refused)
+    → IsOpening manifest name files (Ok (record { directory = directory; text = text })) → (due ≡ answer_about question directory text) ⊎ (due ≡ memory_refused)
     → IsAsked question manifest name files Failed due
 asked_opened question manifest name files directory text Failed due opening (inl made) =
     asked question manifest name files (Ok (record { directory = directory; text = text })) Failed due opening made

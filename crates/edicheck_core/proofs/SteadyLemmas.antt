@@ -9,7 +9,7 @@ use Rattle.contrl_writer.specs.declared.answer.Contrl.TheVariants.{Octets, NoUnb
 use Rattle.run_outcome.specs.Outcome.{Outcome, memory_refused}
 use Rattle.run_outcome.specs.declared.status.Status.TheVariants.{Done, Found, Memory, ReadFault}
 use Rattle.edicheck_core.specs.Form.{Question, Errors, Answer}
-use Rattle.edicheck_core.specs.About.{answered, found_if, told_of}
+use Rattle.edicheck_core.specs.About.{answered, found_if, answer_about}
 
 pub done_fails : Done ≡ ReadFault → ⊥
 done_fails is = cc
@@ -29,11 +29,11 @@ answered-steady (Octets octets) failed = done_fails failed
 answered-steady NoUnb failed = found_fails failed
 answered-steady BadUnb failed = found_fails failed
 
-told-steady : (question : Question) (directory : Parts) (text : List ℕ) → (told_of question directory text).status ≡ ReadFault → ⊥
+told-steady : (question : Question) (directory : Parts) (text : List ℕ) → (answer_about question directory text).status ≡ ReadFault → ⊥
 told-steady Errors directory text failed = found_if-steady (errors_of directory text) _ failed
 told-steady (Answer stamp reference) directory text failed = answered-steady (contrl_to directory text stamp reference) failed
 
 -- the answer to a question doesn't come to a read fault
-pub told_of-steady : (question : Question) (directory : Parts) (text : List ℕ) (due : Outcome) → (due ≡ told_of question directory text) ⊎ (due ≡ memory_refused) → due.status ≡ ReadFault → ⊥
-told_of-steady question directory text due (inl made) failed = told-steady question directory text (sym (ap (λ (o : Outcome). o.status) made) ∙ failed)
-told_of-steady question directory text due (inr refused) failed = memory_fails (sym (ap (λ (o : Outcome). o.status) refused) ∙ failed)
+pub answer_about-steady : (question : Question) (directory : Parts) (text : List ℕ) (due : Outcome) → (due ≡ answer_about question directory text) ⊎ (due ≡ memory_refused) → due.status ≡ ReadFault → ⊥
+answer_about-steady question directory text due (inl made) failed = told-steady question directory text (sym (ap (λ (o : Outcome). o.status) made) ∙ failed)
+answer_about-steady question directory text due (inr refused) failed = memory_fails (sym (ap (λ (o : Outcome). o.status) refused) ∙ failed)

@@ -42,11 +42,11 @@ answered NoUnb = found (codes "no unb" ++ 10 ∷ [])
 answered BadUnb = found (codes "bad unb" ++ 10 ∷ [])
 
 -- the answer to a question about a text
-abbrev pub told_of : Question → Directory → Octets → Outcome
-told_of Errors directory text = checked_text directory text
-told_of (Answer stamp reference) directory text = answered (contrl_to directory text stamp reference)
+abbrev pub answer_about : Question → Directory → Octets → Outcome
+answer_about Errors directory text = checked_text directory text
+answer_about (Answer stamp reference) directory text = answered (contrl_to directory text stamp reference)
 
 -- for a question about the text of that name
 abbrev pub asked_about : Question → Octets → Result Directory Refusal → Result Octets Unread → Outcome
 asked_about question name loaded read =
-    after_loading (λ directory. after_reading name (told_of question directory) read) loaded
+    after_loading (λ directory. after_reading name (answer_about question directory) read) loaded

@@ -10,7 +10,7 @@ ghost use Rattle.dir_load.specs.Load.{load_of};
 ghost use Rattle.run_outcome.specs.Outcome.{memory_refused};
 ghost use Rattle.edicheck_core.specs.Form.{question_shown};
 ghost use Rattle.edicheck_core.specs.Lawful.{IsLawfulQuestion};
-ghost use Rattle.edicheck_core.specs.About.{asked_about, told_of};
+ghost use Rattle.edicheck_core.specs.About.{asked_about, answer_about};
 ghost use Rattle.edicheck_core.specs.OneOf.{IsOneOf};
 ghost use Rattle.edi_octets.specs.declared.octets.TheConstants.{LONGEST_TEXT};
 
@@ -49,7 +49,7 @@ fn tell(alloc: Global, question: Question<'_>, opening: OpenedText) -> Made
     requires lawful { IsLawfulQuestion (question_shown question) }
     requires short { length opening.text.items ≤ LONGEST_TEXT }
     ensures { (result
-        ≡ told_of (question_shown question.entry) opening.directory opening.text.items)
+        ≡ answer_about (question_shown question.entry) opening.directory opening.text.items)
         ⊎ (result ≡ memory_refused) }
 {
     let OpenedText { directory, text } = opening;

@@ -3,7 +3,7 @@ ghost use Rattle.std.specs.Prelude.{◌≡◌, ◌≢◌, ◌⊎◌, ◌≤◌, 
 ghost use Rattle.edi_ports.specs.Faults.{HasRisen};
 ghost use Rattle.run_outcome.specs.Held.{held_of};
 ghost use Rattle.run_outcome.specs.Outcome.{Outcome};
-ghost use Rattle.script_answers.specs.Ran.{left_of};
+ghost use Rattle.script_answers.specs.Ran.{left_of_input};
 ghost use Rattle.run_outcome.specs.Opening.{IsToldOpening, Opened};
 ghost use Rattle.edicheck_core.specs.Answer.{IsScripted};
 ghost use Rattle.edicheck_core.specs.Due.{HasFailed};
@@ -90,8 +90,8 @@ fn answer_opened<I: Source, O: Sink>(
 ) -> Status
     requires { length octets.now ≤ LONGEST_TEXT }
     ensures run { IsScriptBegun kind directory.now octets.now (record {
-      input_before = left_of I.Source input.old;
-      input_after = left_of I.Source input.new;
+      input_before = left_of_input I.Source input.old;
+      input_after = left_of_input I.Source input.new;
       sink_before = held_of O.Sink out.old;
       sink_after = held_of O.Sink out.new;
       status = result;
@@ -144,8 +144,8 @@ fn edit_counted<L: Ledger, M: Ledger, I: Source, O: Sink>(
     requires placing_parts { placing.parts ≡ M.parts }
     requires placing_some { 0 < placing.parts }
     ensures run { IsScriptBegun Edits directory.now octets.now (record {
-      input_before = left_of I.Source input.old;
-      input_after = left_of I.Source input.new;
+      input_before = left_of_input I.Source input.old;
+      input_after = left_of_input I.Source input.new;
       sink_before = held_of O.Sink out.old;
       sink_after = held_of O.Sink out.new;
       status = result;
@@ -189,8 +189,8 @@ fn session_counted<L: Ledger, M: Ledger, I: Source, O: Sink>(
     requires placing_parts { placing.parts ≡ M.parts }
     requires placing_some { 0 < placing.parts }
     ensures run { IsScriptBegun Sessions directory.now octets.now (record {
-      input_before = left_of I.Source input.old;
-      input_after = left_of I.Source input.new;
+      input_before = left_of_input I.Source input.old;
+      input_after = left_of_input I.Source input.new;
       sink_before = held_of O.Sink out.old;
       sink_after = held_of O.Sink out.new;
       status = result;

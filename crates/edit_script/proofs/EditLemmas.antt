@@ -8,7 +8,7 @@ use Rattle.edit_script.specs.declared.command.EditSpec.{EditSpec}
 use Rattle.edit_script.specs.declared.name.Name.TheVariants.{Replace}
 use Rattle.edit_script.specs.declared.stop.Halt.{Halt}
 use Rattle.edit_script.specs.Beginnings.{IsPartOf}
-use Rattle.edit_script.specs.Command.{IsEdit, edit_text, edits_text}
+use Rattle.edit_script.specs.Command.{IsEditSpec, edit_text, edits_text}
 use Rattle.edit_script.specs.Reading.{Supply, IsSomeText, Reads}
 use Rattle.edit_script.specs.Rest.{edit_rest, IsEditRest, IsEditText, IsEditsText}
 use Rattle.edit_script.specs.Texts.{name_text, IsNameText, IsNumberText, IsPutText}
@@ -56,7 +56,7 @@ edit_rest_once =
 abbrev pub no_edit : EditSpec
 no_edit = record { at = 0; cut = 0; put = [] }
 
-pub no_edit_good : IsEdit no_edit
+pub no_edit_good : IsEditSpec no_edit
 no_edit_good = (omega arith, omega arith, omega arith)
 
 pub edit_chain : IsChain (IsNameText (Replace ∷ [])) (λ name. IsEditRest) IsEditText (λ name e. e)
@@ -73,15 +73,15 @@ edit_chain = record {
 pub edit_once : IsOnce IsEditText
 edit_once = chain_once (IsNameText (Replace ∷ [])) (λ name. IsEditRest) IsEditText (λ name e. e) edit_chain (λ name. edit_rest_once)
 
-edits_same : (es fs : List EditSpec) (more rest : List ℕ) → All IsEdit es → All IsEdit fs → length es ≡ length fs → edits_text es ++ more ≡ edits_text fs ++ rest → es ≡ fs
+edits_same : (es fs : List EditSpec) (more rest : List ℕ) → All IsEditSpec es → All IsEditSpec fs → length es ≡ length fs → edits_text es ++ more ≡ edits_text fs ++ rest → es ≡ fs
 edits_same [] [] more rest first second long same = refl
 edits_same [] (f ∷ fs) more rest first second long same = absurd (omega arith)
 edits_same (e ∷ es) [] more rest first second long same = absurd (omega arith)
 edits_same (e ∷ es) (f ∷ fs) more rest first second long same =
     let along : edit_text e ++ (edits_text es ++ more) ≡ edit_text f ++ (edits_text fs ++ rest) = sym (append_assoc (edit_text e) (edits_text es) more) ∙ same ∙ append_assoc (edit_text f) (edits_text fs) rest in
-    let one = edit_once e f (edit_text e) (edit_text f) (edits_text es ++ more) (edits_text fs ++ rest) (All-head IsEdit e es first, refl) (All-head IsEdit f fs second, refl) along in
+    let one = edit_once e f (edit_text e) (edit_text f) (edits_text es ++ more) (edits_text fs ++ rest) (All-head IsEditSpec e es first, refl) (All-head IsEditSpec f fs second, refl) along in
     let tails = append_cancel_left (edit_text e) (edits_text es ++ more) (edits_text fs ++ rest) (along ∙ ap (λ (xs : List ℕ). xs ++ (edits_text fs ++ rest)) (sym one.1)) in
-    let others = edits_same es fs more rest (All-tail IsEdit e es first) (All-tail IsEdit f fs second) (omega arith) tails in
+    let others = edits_same es fs more rest (All-tail IsEditSpec e es first) (All-tail IsEditSpec f fs second) (omega arith) tails in
     cc (one.0, others)
 
 pub edits_once : (n : ℕ) → IsOnce (IsEditsText n)
@@ -91,7 +91,7 @@ edits_once n v w s t more rest first second same =
 
 pub edits_fill : (n : ℕ) → (edits : List EditSpec) × (text : List ℕ) × IsEditsText n edits text
 edits_fill n =
-    (replicate n no_edit, edits_text (replicate n no_edit), (length-replicate n no_edit, All-replicate IsEdit n no_edit no_edit_good, refl))
+    (replicate n no_edit, edits_text (replicate n no_edit), (length-replicate n no_edit, All-replicate IsEditSpec n no_edit no_edit_good, refl))
 
 edits_append : (es fs : List EditSpec) → edits_text (es ++ fs) ≡ edits_text es ++ edits_text fs
 edits_append [] fs = refl
@@ -102,13 +102,13 @@ edits_append (e ∷ es) fs =
 first_splits : (n m : ℕ) (edits : List EditSpec) (text : List ℕ) → m ≡ n + 1 → IsEditsText m edits text → (e : EditSpec) × (es : List EditSpec) × (s : List ℕ) × (t : List ℕ) × IsEditText e s × IsEditsText n es t × (edits ≡ e ∷ es) × (text ≡ s ++ t)
 first_splits n m [] text long is = absurd (omega (arith, is.0))
 first_splits n m (e ∷ es) text long is =
-    (e, es, edit_text e, edits_text es, (All-head IsEdit e es is.1, refl), (omega (arith, is.0), All-tail IsEdit e es is.1, refl), refl, is.2)
+    (e, es, edit_text e, edits_text es, (All-head IsEditSpec e es is.1, refl), (omega (arith, is.0), All-tail IsEditSpec e es is.1, refl), refl, is.2)
 
 pub edits_first : (n m : ℕ) → m ≡ n + 1 → IsChain IsEditText (λ e. IsEditsText n) (IsEditsText m) (λ e es. e ∷ es)
 edits_first n m long = record {
   joins = λ e es s t first next. (
     omega (arith, next.0),
-    All-cons IsEdit e es first.0 next.1,
+    All-cons IsEditSpec e es first.0 next.1,
     ap (λ (xs : List ℕ). xs ++ t) first.1 ∙ ap (λ (xs : List ℕ). edit_text e ++ xs) next.2,
   );
   splits = λ edits text is. first_splits n m edits text long is;
@@ -121,7 +121,7 @@ pub edits_split : (i j n : ℕ) → n ≡ i + j → IsChain (IsEditsText i) (λ 
 edits_split i j n long = record {
   joins = λ es fs s t first next. (
     omega (arith, first.0, next.0, length-append es fs),
-    All-append IsEdit es fs first.1 next.1,
+    All-append IsEditSpec es fs first.1 next.1,
     ap (λ (xs : List ℕ). xs ++ t) first.2 ∙ ap (λ (xs : List ℕ). edits_text es ++ xs) next.2 ∙ sym (edits_append es fs),
   );
   splits = λ edits text is. (
@@ -129,8 +129,8 @@ edits_split i j n long = record {
     drop i edits,
     edits_text (take i edits),
     edits_text (drop i edits),
-    (length-take-le i edits (omega (arith, is.0)), All-take IsEdit i edits is.1, refl),
-    (omega (arith, is.0, length-drop i edits), All-drop IsEdit i edits is.1, refl),
+    (length-take-le i edits (omega (arith, is.0)), All-take IsEditSpec i edits is.1, refl),
+    (omega (arith, is.0, length-drop i edits), All-drop IsEditSpec i edits is.1, refl),
     sym (take-append-drop i edits),
     is.2 ∙ ap edits_text (sym (take-append-drop i edits)) ∙ edits_append (take i edits) (drop i edits),
   );
@@ -141,15 +141,15 @@ edits_split i j n long = record {
 pub edits_part_empty : (n : ℕ) → 0 < n → IsPartOf (IsSomeText (IsEditsText n)) []
 edits_part_empty zero some = absurd (omega arith)
 edits_part_empty (suc n) some =
-    (edits_text (replicate (suc n) no_edit), omega arith, (replicate (suc n) no_edit, (length-replicate (suc n) no_edit, All-replicate IsEdit (suc n) no_edit no_edit_good, refl)))
+    (edits_text (replicate (suc n) no_edit), omega arith, (replicate (suc n) no_edit, (length-replicate (suc n) no_edit, All-replicate IsEditSpec (suc n) no_edit no_edit_good, refl)))
 
 -- one edit more, and it alone
 pub edits_none : IsEditsText 0 [] []
-edits_none = (refl, All-nil IsEdit, refl)
+edits_none = (refl, All-nil IsEditSpec, refl)
 
 pub one_edit : (before now : Supply) (e : EditSpec) → Reads IsEditText before now (Ok e) → Reads (IsEditsText 1) before now (Ok (e ∷ []))
 one_edit before now e is =
-    (is.0, is.1, (refl, All-cons IsEdit e [] is.2.0 (All-nil IsEdit), is.2.1 ∙ sym (append-nil (edit_text e))))
+    (is.0, is.1, (refl, All-cons IsEditSpec e [] is.2.0 (All-nil IsEditSpec), is.2.1 ∙ sym (append-nil (edit_text e))))
 
 -- ---- edits that are read one after the other
 

@@ -12,7 +12,7 @@ use Rattle.edit_script.specs.declared.grammar.Grammar.TheVariants.{Edit, Session
 use Rattle.edit_script.specs.declared.name.Name.{Name}
 use Rattle.edit_script.specs.declared.name.Name.TheVariants.{Replace, Errors, Tree, Contrl, Text, End, Undo, Redo, Batch}
 use Rattle.edit_script.specs.declared.stop.Halt.{Halt}
-use Rattle.edit_script.specs.Command.{edits_text, command_text, IsEdit, IsCommand, IsTextOf}
+use Rattle.edit_script.specs.Command.{edits_text, command_text, IsEditSpec, IsCommand, IsTextOf}
 use Rattle.edit_script.specs.Reading.{Supply, Reads}
 use Rattle.edit_script.specs.Rest.{name_of, rest_text, IsRestText, IsEditRest, IsEditsText}
 use Rattle.edit_script.specs.Texts.{names_of, name_text, IsNameText, IsNumberText, IsStampText, IsReferenceText}
@@ -198,7 +198,7 @@ command_fills Undo = (command.Undo, [], (refl, tt, refl))
 command_fills Redo = (command.Redo, [], (refl, tt, refl))
 command_fills Batch =
     let edits : List EditSpec = no_edit ∷ [] in
-    (command.Batch edits, decimal 1 ++ 10 ∷ edits_text edits, (refl, (omega arith, omega arith, All-cons IsEdit no_edit [] no_edit_good (All-nil IsEdit)), refl))
+    (command.Batch edits, decimal 1 ++ 10 ∷ edits_text edits, (refl, (omega arith, omega arith, All-cons IsEditSpec no_edit [] no_edit_good (All-nil IsEditSpec)), refl))
 
 -- a grammar's commands are those of a session that have its names
 pub widest : (g : Grammar) (c : Command) → IsCommand g c → IsCommand Session c

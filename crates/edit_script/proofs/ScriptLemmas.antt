@@ -9,7 +9,7 @@ use Rattle.edit_script.specs.declared.command.EditSpec.{EditSpec}
 use Rattle.edit_script.specs.declared.grammar.Grammar.{Grammar}
 use Rattle.edit_script.specs.declared.grammar.Grammar.TheVariants.{Edit, Session}
 use Rattle.edit_script.specs.declared.command.Command.TheVariants.{Replace, Errors, Tree, Contrl, Text, End, Undo, Redo, Batch}
-use Rattle.edit_script.specs.Command.{edit_text, edits_text, command_text, IsEdit, IsCommand, IsTextOf, IsPart, BeginsNone, IsBadLine}
+use Rattle.edit_script.specs.Command.{edit_text, edits_text, command_text, IsEditSpec, IsCommand, IsTextOf, IsPart, BeginsNone, IsBadLine}
 use Rattle.edit_script.specs.Script.{script_text, AreCommands}
 use Rattle.edit_script.proofs.GrammarLemmas.{command_once}
 use Rattle.edit_script.proofs.DigitLemmas.{has_all}
@@ -30,7 +30,7 @@ command_filled Redo = omega arith
 command_filled (Batch edits) = omega arith
 
 -- an edit has at most 4,194,361 octets
-edit_short : (e : EditSpec) → IsEdit e → length (edit_text e) ≤ 4194361
+edit_short : (e : EditSpec) → IsEditSpec e → length (edit_text e) ≤ 4194361
 edit_short e good =
     let places = length-decimal-le 19 e.at (omega arith) good.0 (omega (arith, good.0)) in
     let cuts = length-decimal-le 19 e.cut (omega arith) good.1 (omega (arith, good.1)) in
@@ -47,10 +47,10 @@ edit_short e good =
       length-append e.put (10 ∷ []),
     )
 
-edits_short : (es : List EditSpec) → All IsEdit es → length (edits_text es) ≤ length es * 4194361
+edits_short : (es : List EditSpec) → All IsEditSpec es → length (edits_text es) ≤ length es * 4194361
 edits_short [] good = omega arith
 edits_short (e ∷ es) good =
-    omega (arith, edit_short e (All-head IsEdit e es good), edits_short es (All-tail IsEdit e es good), length-append (edit_text e) (edits_text es))
+    omega (arith, edit_short e (All-head IsEditSpec e es good), edits_short es (All-tail IsEditSpec e es good), length-append (edit_text e) (edits_text es))
 
 -- a command has at most 67,110,000 octets
 pub command_short : (g : Grammar) (c : Command) → IsCommand g c → length (command_text c) ≤ 67110000

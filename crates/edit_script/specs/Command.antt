@@ -36,13 +36,13 @@ command_text Redo = codes "redo" ++ 10 ∷ []
 command_text (Batch edits) = codes "batch " ++ (decimal (length edits) ++ 10 ∷ edits_text edits)
 
 -- an edit of the grammar: numbers of at most 19 digits, and at most 4,194,304 octets to put
-abbrev pub IsEdit : EditSpec → Type 0
-IsEdit e = (e.at < 10 ^ 19) × (e.cut < 10 ^ 19) × (length e.put ≤ LONGEST_TEXT)
+abbrev pub IsEditSpec : EditSpec → Type 0
+IsEditSpec e = (e.at < 10 ^ 19) × (e.cut < 10 ^ 19) × (length e.put ≤ LONGEST_TEXT)
 
 -- a command of the grammar: an edit, a stamp and a reference of their form; `undo`, `redo` and `batch`, of 1 to 16
 -- edits, in a session alone
 abbrev pub IsCommand : Grammar → Command → Type 0
-IsCommand g (Replace at cut put) = IsEdit (record { at = at; cut = cut; put = put })
+IsCommand g (Replace at cut put) = IsEditSpec (record { at = at; cut = cut; put = put })
 IsCommand g Errors = ⊤
 IsCommand g Tree = ⊤
 IsCommand g (Contrl stamp reference) = IsStamp stamp × IsTrue (is_reference_of reference)
@@ -53,7 +53,7 @@ IsCommand Edit Redo = ⊥
 IsCommand Edit (Batch edits) = ⊥
 IsCommand Session Undo = ⊤
 IsCommand Session Redo = ⊤
-IsCommand Session (Batch edits) = (1 ≤ length edits) × (length edits ≤ 16) × All IsEdit edits
+IsCommand Session (Batch edits) = (1 ≤ length edits) × (length edits ≤ 16) × All IsEditSpec edits
 
 -- these octets are the text of that command
 abbrev pub IsTextOf : Grammar → Command → Octets → Type 0

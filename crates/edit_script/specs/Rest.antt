@@ -9,7 +9,7 @@ use Rattle.edit_script.specs.declared.command.EditSpec.{EditSpec}
 use Rattle.edit_script.specs.declared.grammar.Grammar.TheVariants.{Session}
 use Rattle.edit_script.specs.declared.name.Name.{Name}
 use Rattle.edit_script.specs.declared.name.Name.TheVariants.{Replace, Errors, Tree, Contrl, Text, End, Undo, Redo, Batch}
-use Rattle.edit_script.specs.Command.{IsEdit, IsCommand, edit_text, edits_text}
+use Rattle.edit_script.specs.Command.{IsEditSpec, IsCommand, edit_text, edits_text}
 
 -- the name of a command
 abbrev pub name_of : Command → Name
@@ -46,12 +46,12 @@ IsRestText name c text = (name_of c ≡ name) × IsCommand Session c × (text �
 
 -- what follows the name in the text of that edit
 abbrev pub IsEditRest : EditSpec → Octets → Type 0
-IsEditRest e text = IsEdit e × (text ≡ edit_rest e)
+IsEditRest e text = IsEditSpec e × (text ≡ edit_rest e)
 
 -- the text of that edit
 abbrev pub IsEditText : EditSpec → Octets → Type 0
-IsEditText e text = IsEdit e × (text ≡ edit_text e)
+IsEditText e text = IsEditSpec e × (text ≡ edit_text e)
 
 -- the texts of so many edits
 abbrev pub IsEditsText : ℕ → List EditSpec → Octets → Type 0
-IsEditsText n edits text = (length edits ≡ n) × All IsEdit edits × (text ≡ edits_text edits)
+IsEditsText n edits text = (length edits ≡ n) × All IsEditSpec edits × (text ≡ edits_text edits)

@@ -1,6 +1,6 @@
 //! Why no command was read.
 ghost use Rattle.std.specs.Prelude.{◌≡◌};
-ghost use Rattle.edit_script.specs.Stop.{stop_of};
+ghost use Rattle.edit_script.specs.Stop.{script_stop_of};
 
 use std::alloc::AllocError;
 use thiserror::Error;
@@ -33,7 +33,7 @@ pub(crate) enum Halt {
 impl Halt {
     /// The stop that this is in the command of that number.
     pub fn at_command(self, number: u32) -> ScriptStop
-        ensures { result ≡ stop_of number self }
+        ensures { result ≡ script_stop_of number self }
     {
         match self {
             Halt::Bad => ScriptStop::BadLine { number },

@@ -17,7 +17,7 @@ use Rattle.guide_overlay.specs.declared.line.Topic.{Topic}
 use Rattle.guide_overlay.specs.declared.sections.Reading.{Reading}
 use Rattle.guide_overlay.specs.declared.sections.SectionText.{SectionText}
 use Rattle.guide_overlay.specs.Guide.{Detail, Section, is_named, is_section_of, value_kept, values_in}
-use Rattle.guide_overlay.specs.Kept.{IsReading, detail_seen, last_seen, section_seen, sections_seen}
+use Rattle.guide_overlay.specs.Kept.{IsGuideReading, detail_seen, last_seen, section_seen, sections_seen}
 use Rattle.guide_overlay.proofs.SectionLemmas.{section_by}
 
 module _ (topic : Topic) (name : List ℕ) (named : is_named topic name ≡ true) where
@@ -69,7 +69,7 @@ last_follows [] (Some head) details (suc i) none within = absurd (omega (arith, 
 last_follows (x ∷ xs) last details zero none within = absurd cc
 last_follows (x ∷ xs) last details (suc i) none within = last_follows xs last details i none (omega (arith, within))
 
-module _ (reading : Reading) (kept : IsReading reading) (name : List ℕ) where
+module _ (reading : Reading) (kept : IsGuideReading reading) (name : List ℕ) where
   abbrev names : List (List ℕ)
   names = map (λ s. s.name) (sections_seen reading)
 

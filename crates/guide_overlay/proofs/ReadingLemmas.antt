@@ -13,10 +13,10 @@ use Rattle.guide_overlay.specs.declared.sections.Reading.{Reading}
 use Rattle.guide_overlay.specs.declared.stop.GuideKind.{GuideKind}
 use Rattle.guide_overlay.specs.declared.stop.GuideKind.TheVariants.{BadLine, Twice}
 use Rattle.guide_overlay.specs.Guide.{Detail, Section, base_kinds, detail_kinds, is_named, is_same_detail, is_same_topic, is_section_of, last_of, topic_of, values_in}
-use Rattle.guide_overlay.specs.Kept.{IsReading, detail_seen, kinds_told, last_seen, section_seen, sections_seen, words_seen}
+use Rattle.guide_overlay.specs.Kept.{IsGuideReading, detail_seen, kinds_told, last_seen, section_seen, sections_seen, words_seen}
 use Rattle.guide_overlay.proofs.SectionLemmas.{heads_found, last_there}
 
-pub heads_seen : (reading : Reading) (topic : Topic) (name : List ℕ) → IsReading reading → is_named topic name ≡ true → list_any (bytes_eq name) (words_seen reading.names.keys) ≡ list_any (is_section_of topic name) (sections_seen reading)
+pub heads_seen : (reading : Reading) (topic : Topic) (name : List ℕ) → IsGuideReading reading → is_named topic name ≡ true → list_any (bytes_eq name) (words_seen reading.names.keys) ≡ list_any (is_section_of topic name) (sections_seen reading)
 heads_seen reading topic name kept named =
     ap (list_any (bytes_eq name)) kept.names ∙ heads_found topic name named (sections_seen reading) kept.named
 
@@ -31,7 +31,7 @@ module _ (dir : Parts) (reading : Reading) (detail : Detail) where
   broken = slice_get (detail_kinds dir (last_of (sections_seen reading)) detail) 0
 
   -- there is no head
-  pub without_head : IsReading reading → reading.last ≡ None → Some BadLine ≡ broken
+  pub without_head : IsGuideReading reading → reading.last ≡ None → Some BadLine ≡ broken
   without_head kept none =
       let gone : last_of (sections_seen reading) ≡ None =
       ap (λ (last : Option (Topic × Bor (List ℕ))). last_of (map section_seen reading.finished.items ++ last_seen last (map detail_seen reading.details.items))) none

@@ -73,7 +73,7 @@ words_seen words = map (λ word. word.now) words
 
 -- each name has its form, there is a last section where there is one, and the names and the values of the last section
 -- are those that are found by their hash
-pub record IsReading (reading : Reading) : Type 0 where
+pub record IsGuideReading (reading : Reading) : Type 0 where
   pub named : list_all (λ section. is_named section.topic section.name) (sections_seen reading) ≡ true
   pub begun : reading.last ≡ None → reading.finished.items ≡ []
   pub names : words_seen reading.names.keys ≡ map (λ section. section.name) (sections_seen reading)

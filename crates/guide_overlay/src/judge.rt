@@ -6,7 +6,7 @@ ghost use Rattle.edi_octets.specs.declared.octets.TheConstants.{LONGEST_TEXT};
 ghost use Rattle.edi_tables.specs.First.{IsVerdict, unless_faulty};
 ghost use Rattle.guide_overlay.specs.Guide.{detail_kinds, guide_faults, head_kinds, is_named, last_of, line_in, line_kinds, sections_in};
 ghost use Rattle.guide_overlay.specs.Guide.GuideLine.{Head, Under};
-ghost use Rattle.guide_overlay.specs.Kept.{IsReading, detail_seen, sections_after, sections_seen};
+ghost use Rattle.guide_overlay.specs.Kept.{IsGuideReading, detail_seen, sections_after, sections_seen};
 ghost use Rattle.guide_overlay.specs.Stop.{fault_in};
 
 use crate::base::{base_kind, is_known};
@@ -27,7 +27,7 @@ pub(crate) fn read_guide<'a>(
     requires ordered { IsInOrder parts.now }
     ensures reads { IsVerdict sections_seen fault_in result
         (unless_faulty (guide_faults parts.now (lines_of file.now)) (sections_in (lines_of file.now))) }
-    ensures kept { IfOk result IsReading }
+    ensures kept { IfOk result IsGuideReading }
 {
     let mut reading = Reading::new(alloc);
     for line in Lines::of(file) {
@@ -49,12 +49,12 @@ fn judge_line<'a>(
     octets: &'a [u8],
 ) -> Result<Option<GuideKind>, AllocError>
     requires ordered { IsInOrder parts.now }
-    requires kept { IsReading reading.old }
+    requires kept { IsGuideReading reading.old }
     ensures first { IfOk result (λ kind. kind
         ≡ slice_get (line_kinds parts.now (sections_seen reading.old) (cells_of octets.now)) 0) }
     ensures joins { IfOk result (λ kind. kind ≡ None → sections_seen reading.new
         ≡ sections_after (sections_seen reading.old) (line_in (cells_of octets.now))) }
-    ensures kept { IfOk result (λ kind. kind ≡ None → IsReading reading.new) }
+    ensures kept { IfOk result (λ kind. kind ≡ None → IsGuideReading reading.new) }
 {
     if Cells::of(octets).next().is_none() {
         return Ok(None);
@@ -75,13 +75,13 @@ fn judge_head<'a>(
     name: &'a [u8],
 ) -> Result<Option<GuideKind>, AllocError>
     requires ordered { IsInOrder parts.now }
-    requires kept { IsReading reading.old }
+    requires kept { IsGuideReading reading.old }
     requires named { is_named topic name.now ≡ true }
     ensures first { IfOk result (λ kind. kind
         ≡ slice_get (head_kinds parts.now (sections_seen reading.old) topic name.now) 0) }
     ensures joins { IfOk result (λ kind. kind ≡ None → sections_seen reading.new
         ≡ sections_after (sections_seen reading.old) (Some (Head topic name.now))) }
-    ensures kept { IfOk result (λ kind. kind ≡ None → IsReading reading.new) }
+    ensures kept { IfOk result (λ kind. kind ≡ None → IsGuideReading reading.new) }
 {
     if !is_known(parts, topic, name) {
         return Ok(Some(GuideKind::UnknownName));
@@ -100,12 +100,12 @@ fn judge_detail<'a>(
     detail: DetailText<'a>,
 ) -> Result<Option<GuideKind>, AllocError>
     requires ordered { IsInOrder parts.now }
-    requires kept { IsReading reading.old }
+    requires kept { IsGuideReading reading.old }
     ensures first { IfOk result (λ kind. kind ≡ slice_get
         (detail_kinds parts.now (last_of (sections_seen reading.old)) (detail_seen detail.entry)) 0) }
     ensures joins { IfOk result (λ kind. kind ≡ None → sections_seen reading.new
         ≡ sections_after (sections_seen reading.old) (Some (Under (detail_seen detail.entry)))) }
-    ensures kept { IfOk result (λ kind. kind ≡ None → IsReading reading.new) }
+    ensures kept { IfOk result (λ kind. kind ≡ None → IsGuideReading reading.new) }
 {
     let Some((topic, name)) = reading.last else {
         return Ok(Some(GuideKind::BadLine));

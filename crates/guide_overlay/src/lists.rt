@@ -7,7 +7,7 @@ ghost use Rattle.dir_compile.specs.InOrder.{ascending_by};
 ghost use Rattle.edi_tables.specs.Forms.{is_element_code};
 ghost use Rattle.dir_compile.specs.Ordered.{IsInOrder};
 ghost use Rattle.guide_overlay.specs.Guide.{is_same_detail, list_left as list_left_of, values_in};
-ghost use Rattle.guide_overlay.specs.Kept.{IsReading, detail_seen, sections_seen};
+ghost use Rattle.guide_overlay.specs.Kept.{IsGuideReading, detail_seen, sections_seen};
 ghost use Rattle.guide_overlay.specs.Narrowing.{AreNarrowing};
 
 use crate::base::find_named;
@@ -25,7 +25,7 @@ pub(crate) fn narrow_lists(
     reading: &Reading<'_>,
 ) -> Result<List<CodeList>, AllocError>
     requires directory { IsDirectory parts.now }
-    requires kept { IsReading reading.now }
+    requires kept { IsGuideReading reading.now }
     requires narrowing { AreNarrowing parts.now (sections_seen reading.now) }
     ensures { IfOk result (λ lists. lists
         ≡ filter_map (list_left_of (sections_seen reading.now) parts.now) parts.now.elements) }
@@ -47,7 +47,7 @@ fn list_left(
     element: &ElementDef,
 ) -> Result<Option<CodeList>, AllocError>
     requires ordered { IsInOrder parts.now }
-    requires kept { IsReading reading.now }
+    requires kept { IsGuideReading reading.now }
     requires narrowing { AreNarrowing parts.now (sections_seen reading.now) }
     requires named { is_element_code (element_name element.now) ≡ true }
     ensures { IfOk result (λ list. list

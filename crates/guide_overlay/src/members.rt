@@ -8,7 +8,7 @@ ghost use Rattle.edi_tables.specs.Forms.{is_composite_code, reps_of};
 ghost use Rattle.edi_tables.specs.Tag.{is_tag_of};
 ghost use Rattle.guide_overlay.specs.Fitting.{AreItemsFitting, IsItemWithin};
 ghost use Rattle.guide_overlay.specs.Guide.{details_for, is_item as is_item_of, is_part as is_part_of, item_by_line as item_by_line_of, item_with as item_with_of, narrowed_composite, narrowed_item, narrowed_part, narrowed_segment, part_by_line as part_by_line_of};
-ghost use Rattle.guide_overlay.specs.Kept.{IsReading, detail_seen, sections_seen};
+ghost use Rattle.guide_overlay.specs.Kept.{IsGuideReading, detail_seen, sections_seen};
 ghost use Rattle.guide_overlay.specs.Narrowing.{AreNarrowing};
 ghost use Rattle.guide_overlay.specs.declared.line.Topic.TheVariants.{OfSegment};
 
@@ -25,7 +25,7 @@ pub(crate) fn narrow_composites(
     reading: &Reading<'_>,
 ) -> Result<List<CompositeDef>, AllocError>
     requires directory { IsDirectory parts.now }
-    requires kept { IsReading reading.now }
+    requires kept { IsGuideReading reading.now }
     ensures { IfOk result (λ made. made
         ≡ map (narrowed_composite (sections_seen reading.now)) parts.now.composites) }
 {
@@ -42,7 +42,7 @@ fn narrow_composite(
     reading: &Reading<'_>,
     composite: &CompositeDef,
 ) -> Result<CompositeDef, AllocError>
-    requires kept { IsReading reading.now }
+    requires kept { IsGuideReading reading.now }
     requires named { is_composite_code (composite_name composite.now) ≡ true }
     ensures { IfOk result (λ made. made
         ≡ narrowed_composite (sections_seen reading.now) composite.now) }
@@ -102,7 +102,7 @@ pub(crate) fn narrow_segments(
     reading: &Reading<'_>,
 ) -> Result<List<SegmentDef>, AllocError>
     requires directory { IsDirectory parts.now }
-    requires kept { IsReading reading.now }
+    requires kept { IsGuideReading reading.now }
     requires narrowing { AreNarrowing parts.now (sections_seen reading.now) }
     ensures { IfOk result (λ made. made
         ≡ map (narrowed_segment (sections_seen reading.now)) parts.now.segments) }
@@ -120,7 +120,7 @@ fn narrow_segment(
     reading: &Reading<'_>,
     segment: &SegmentDef,
 ) -> Result<SegmentDef, AllocError>
-    requires kept { IsReading reading.now }
+    requires kept { IsGuideReading reading.now }
     requires named { is_tag_of (segment_name segment.now) ≡ true }
     requires fitting { AreItemsFitting segment.now.items
         (details_for (sections_seen reading.now) OfSegment (segment_name segment.now)) }

@@ -6,7 +6,7 @@ ghost use Rattle.edi_tables.specs.First.{IsVerdict};
 ghost use Rattle.edi_tables.specs.Octets.{Octets};
 ghost use Rattle.text_reading.specs.Errors.{errors_of};
 ghost use Rattle.guide_overlay.specs.Guide.{narrow_of, narrowed};
-ghost use Rattle.guide_overlay.specs.Kept.{IsReading, sections_seen};
+ghost use Rattle.guide_overlay.specs.Kept.{IsGuideReading, sections_seen};
 ghost use Rattle.guide_overlay.specs.Narrowed.{HasNoCollision};
 ghost use Rattle.guide_overlay.specs.Narrowing.{AreNarrowing};
 ghost use Rattle.guide_overlay.specs.Stop.{fault_in};
@@ -39,7 +39,7 @@ pub fn narrow(alloc: Global, dir: &Directory, file: &[u8]) -> Result<Directory, 
 // The parts of a directory as a guide has them.
 fn narrow_parts(alloc: Global, dir: &Directory, reading: &Reading<'_>) -> Result<Parts, AllocError>
     requires directory { IsDirectory dir.now }
-    requires kept { IsReading reading.now }
+    requires kept { IsGuideReading reading.now }
     requires narrowing { AreNarrowing dir.now (sections_seen reading.now) }
     ensures { IfOk result (λ parts. parts ≡ narrowed (sections_seen reading.now) dir.now) }
 {

@@ -5,7 +5,7 @@ ghost use Rattle.std.specs.List.{list_any};
 ghost use Rattle.std.specs.Str.{bytes_eq};
 ghost use Rattle.guide_overlay.specs.Guide.{details_for, is_named, is_same_detail, is_section_of, values_in};
 ghost use Rattle.guide_overlay.specs.declared.line.Topic.{Topic};
-ghost use Rattle.guide_overlay.specs.Kept.{IsReading, detail_seen, sections_seen, with_detail, words_seen};
+ghost use Rattle.guide_overlay.specs.Kept.{IsGuideReading, detail_seen, sections_seen, with_detail, words_seen};
 
 use crate::line::{DetailText, Topic};
 use indexmap::IndexSet;
@@ -35,7 +35,7 @@ impl<'a> Reading<'a> {
     /// No sections yet.
     pub fn new(alloc: Global) -> Self
         ensures none { sections_seen result ≡ [] }
-        ensures kept { IsReading result }
+        ensures kept { IsGuideReading result }
     {
         Reading {
             finished: Vec::new(alloc),
@@ -53,13 +53,13 @@ impl<'a> Reading<'a> {
         topic: Topic,
         name: &'a [u8],
     ) -> Result<bool, AllocError>
-        requires kept { IsReading self.old }
+        requires kept { IsGuideReading self.old }
         requires named { is_named topic name.now ≡ true }
         ensures new { IfOk result (λ new. new
             ≡ not (list_any (is_section_of topic name.now) (sections_seen self.old))) }
         ensures joins { IfOk result (λ new. new ≡ true → sections_seen self.new
             ≡ sections_seen self.old ++ record { topic = topic; name = name.now; details = [] } ∷ []) }
-        ensures kept { IfOk result (λ new. new ≡ true → IsReading self.new) }
+        ensures kept { IfOk result (λ new. new ≡ true → IsGuideReading self.new) }
     {
         if !add_word(&mut self.names, name)? {
             return Ok(false);
@@ -79,13 +79,13 @@ impl<'a> Reading<'a> {
 
     /// Puts a detail into the last section, and tells whether it is new. One that isn't isn't put.
     pub fn add_detail(&mut self, detail: DetailText<'a>) -> Result<bool, AllocError>
-        requires kept { IsReading self.old }
+        requires kept { IsGuideReading self.old }
         requires under { is_some self.old.last ≡ true }
         ensures new { IfOk result (λ new. new ≡ not (list_any
             (is_same_detail (detail_seen detail.entry)) (map detail_seen self.old.details.items))) }
         ensures joins { IfOk result (λ new. new ≡ true → sections_seen self.new
             ≡ with_detail (sections_seen self.old) (detail_seen detail.entry)) }
-        ensures kept { IfOk result (λ new. new ≡ true → IsReading self.new) }
+        ensures kept { IfOk result (λ new. new ≡ true → IsGuideReading self.new) }
     {
         if !add_value(&mut self.values, &self.details, detail)? {
             return Ok(false);
@@ -96,7 +96,7 @@ impl<'a> Reading<'a> {
 
     /// The details under the head of that name, if there is one. A name tells its topic by its form.
     pub fn details_under(&self, name: &[u8]) -> Option<&[DetailText<'a>]>
-        requires { IsReading self.now }
+        requires { IsGuideReading self.now }
         ensures { (topic : Topic) → is_named topic name.now ≡ true
             → option_map (map detail_seen) (option_copied result) ≡ option_map (λ section. section.details)
             (find (is_section_of topic name.now) (sections_seen self.now)) }
@@ -110,7 +110,7 @@ impl<'a> Reading<'a> {
 
     /// The details that a guide has for what is of that name.
     pub fn details_for(&self, name: &[u8]) -> &[DetailText<'a>]
-        requires { IsReading self.now }
+        requires { IsGuideReading self.now }
         ensures { (topic : Topic) → is_named topic name.now ≡ true
             → map detail_seen result.now ≡ details_for (sections_seen self.now) topic name.now }
     {

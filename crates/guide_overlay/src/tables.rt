@@ -6,7 +6,7 @@ ghost use Rattle.edi_tables.specs.Forms.{is_message_name};
 ghost use Rattle.edi_tables.specs.Rows.{nodes_of};
 ghost use Rattle.guide_overlay.specs.Fitting.{AreRowsFitting, IsRowWithin, is_dropped, is_node, line_after, row_by_detail};
 ghost use Rattle.guide_overlay.specs.Guide.{changes_in, details_for, narrowed_message};
-ghost use Rattle.guide_overlay.specs.Kept.{IsReading, detail_seen, sections_seen};
+ghost use Rattle.guide_overlay.specs.Kept.{IsGuideReading, detail_seen, sections_seen};
 ghost use Rattle.guide_overlay.specs.Narrowing.{AreNarrowing};
 ghost use Rattle.guide_overlay.specs.Rows.{narrowed_rows};
 ghost use Rattle.guide_overlay.specs.declared.line.Topic.TheVariants.{OfTable};
@@ -24,7 +24,7 @@ pub(crate) fn narrow_messages(
     reading: &Reading<'_>,
 ) -> Result<List<MessageDef>, AllocError>
     requires directory { IsDirectory dir.now }
-    requires kept { IsReading reading.now }
+    requires kept { IsGuideReading reading.now }
     requires narrowing { AreNarrowing dir.now (sections_seen reading.now) }
     ensures { IfOk result (λ made. made
         ≡ map (narrowed_message (sections_seen reading.now)) dir.now.messages) }
@@ -44,7 +44,7 @@ fn narrow_message(
     message: &MessageDef,
     nodes: &[Node],
 ) -> Result<MessageDef, AllocError>
-    requires kept { IsReading reading.now }
+    requires kept { IsGuideReading reading.now }
     requires nodes { nodes.now ≡ nodes_of message.now.rows }
     requires named { is_message_name message.now.name ≡ true }
     requires fitting { AreRowsFitting message.now.rows

@@ -15,7 +15,7 @@ use Rattle.segment_records.specs.WalkedSegments.{kept_in, octets_in}
 use Rattle.segment_records.proofs.Rests.{rest_count}
 use Rattle.kept_text.specs.Again.{last_mode}
 use Rattle.kept_text.specs.Edit.{Edit, edited, text_with}
-use Rattle.kept_text.specs.Kept.{IsReading, reading}
+use Rattle.kept_text.specs.Kept.{IsKeptText, reading}
 use Rattle.kept_text.specs.Reading.{Reading}
 use Rattle.kept_text.specs.Rerun.{rerun_of}
 use Rattle.kept_text.specs.Stretch.{reach_of}
@@ -26,7 +26,7 @@ use Rattle.kept_text.proofs.Begun.{usable_by}
 use Rattle.kept_text.proofs.Changing.{IsPlacedAgain, IsStretchRead, later_count, later_first, later_reach, later_records, later_rerun, later_short, later_within, start_at, start_count, start_mode, whole_reach, whole_records, whole_rerun}
 use Rattle.kept_text.proofs.Readings.{mode_is, service_is}
 
-module _ (e : Inside) (it : IsReading e) (r : Reading) (view_is : reading e ≡ r) (at cut : ℕ) (put text : List ℕ)
+module _ (e : Inside) (it : IsKeptText e) (r : Reading) (view_is : reading e ≡ r) (at cut : ℕ) (put text : List ℕ)
     (text_is_seen : text ≡ text_with r.text at cut put) (within_seen : at + cut ≤ length r.text) (context_is_seen : context_of text ≡ context_of r.text)
     (short : length text ≤ 4194304) where
   text_is : text ≡ text_with e.text at cut put

@@ -15,13 +15,13 @@ use Rattle.segment_records.proofs.ModeLaws.{length_kept}
 use Rattle.segment_records.specs.Count.{segment_count_of}
 use Rattle.kept_text.specs.declared.kept.KeptText.TheInside.{Inside}
 use Rattle.kept_text.specs.Again.{last_mode}
-use Rattle.kept_text.specs.Kept.{IsReading}
+use Rattle.kept_text.specs.Kept.{IsKeptText}
 use Rattle.kept_text.proofs.ModesTaken.{modes_taken}
 use Rattle.segment_records.specs.WalkedSegments.{AreStretches, kept_in, octets_in, seen_from, seen_in}
 use Rattle.segment_records.proofs.Rests.{same_count}
 use Rattle.segment_records.proofs.Stretches.{context_service, few_segments, kept_stretches, last_boundary}
 
-module _ (e : Inside) (it : IsReading e) where
+module _ (e : Inside) (it : IsKeptText e) where
   pub service_is : e.context.service ≡ service_of e.text
   service_is = ap (λ (c : Context). c.service) it.context ∙ context_service e.text
 

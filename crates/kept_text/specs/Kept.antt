@@ -13,7 +13,7 @@ abbrev pub reading : Inside → Reading
 reading k = record { directory = k.directory.now; text = k.text }
 
 -- the records are those of the text by its context, from outside of messages on
-pub record IsReading (k : Inside) : Type 0 where
+pub record IsKeptText (k : Inside) : Type 0 where
   pub directory : IsDirectory k.directory.now
   pub short : length k.text ≤ LONGEST_TEXT
   pub context : k.context ≡ context_of k.text

@@ -48,11 +48,11 @@ impl<'d> Model for KeptText<'d> {
 
     ghost Value = { Reading };
 
-    ghost use Rattle.kept_text.specs.Kept.{IsReading, reading};
+    ghost use Rattle.kept_text.specs.Kept.{IsKeptText, reading};
 
     ghost view = { reading };
 
-    ghost invariant = { IsReading };
+    ghost invariant = { IsKeptText };
 }
 
 impl<'d> KeptText<'d> {

@@ -13,7 +13,7 @@ use Rattle.edi_tables.specs.Rows.{nodes_of}
 use Rattle.edi_tables.specs.Collisions.{Collision, collisions_of}
 use Rattle.dir_compile.specs.declared.parts.Parts.{Parts}
 use Rattle.dir_compile.specs.Directory.{tables_of}
-use Rattle.listing_printer.specs.Tables.{gap, node_line, node_lines_from, table_text, message_text, labels_line, tables_text}
+use Rattle.listing_printer.specs.Tables.{gap, node_line, node_lines_from, table_text, listed_message, labels_line, tables_text}
 
 -- a further member of a list that has one
 spaced_more : (y : List ℕ) (xs : List (List ℕ)) (x : List ℕ) → join_with_byte 32 (y ∷ (xs ++ x ∷ [])) ≡ join_with_byte 32 (y ∷ xs) ++ (32 ∷ x)
@@ -70,23 +70,23 @@ collisions_there directory i message collisions within is there =
 
 -- after the tables so far comes that of the next message
 pub tables_next : (directory : Parts) (i : ℕ) (message : MessageDef) (collisions : List Collision) (before so_far now : List ℕ) → i < length directory.messages → message ≡ get_or directory.messages i message
-    → option_map collisions_of (slice_get (tables_of directory) (i + 1)) ≡ Some collisions → so_far ≡ before ++ flat_map message_text (take i directory.messages) → now ≡ so_far ++ table_text message collisions
-    → now ≡ before ++ flat_map message_text (take (i + 1) directory.messages)
+    → option_map collisions_of (slice_get (tables_of directory) (i + 1)) ≡ Some collisions → so_far ≡ before ++ flat_map listed_message (take i directory.messages) → now ≡ so_far ++ table_text message collisions
+    → now ≡ before ++ flat_map listed_message (take (i + 1) directory.messages)
 tables_next directory i message collisions before so_far now within is there so_far_is next =
     let known : collisions ≡ collisions_of (nodes_of message.rows) = collisions_there directory i message collisions within is there in
-    let last : table_text message collisions ≡ message_text message = ap (table_text message) known in
+    let last : table_text message collisions ≡ listed_message message = ap (table_text message) known in
     let more : take (i + 1) directory.messages ≡ take i directory.messages ++ message ∷ [] = take_more directory.messages i message within ∙ ap (λ (m : MessageDef). take i directory.messages ++ m ∷ []) (sym is) in
-    let all : flat_map message_text (take (i + 1) directory.messages) ≡ flat_map message_text (take i directory.messages) ++ (message_text message ++ []) =
-    ap (flat_map message_text) more ∙ flat_map-append message_text (take i directory.messages) (message ∷ []) in
+    let all : flat_map listed_message (take (i + 1) directory.messages) ≡ flat_map listed_message (take i directory.messages) ++ (listed_message message ++ []) =
+    ap (flat_map listed_message) more ∙ flat_map-append listed_message (take i directory.messages) (message ∷ []) in
     rw (next, so_far_is, last)
-    (append_assoc before (flat_map message_text (take i directory.messages)) (message_text message)
-    ∙ ap (λ (texts : List ℕ). before ++ texts) (ap (λ (text : List ℕ). flat_map message_text (take i directory.messages) ++ text) (sym (append-nil (message_text message))) ∙ sym all))
+    (append_assoc before (flat_map listed_message (take i directory.messages)) (listed_message message)
+    ∙ ap (λ (texts : List ℕ). before ++ texts) (ap (λ (text : List ℕ). flat_map listed_message (take i directory.messages) ++ text) (sym (append-nil (listed_message message))) ∙ sym all))
 
 -- after the last message the printed form is whole
-pub tables_all : (directory : Parts) (i : ℕ) (printed : List ℕ) → length directory.messages ≤ i → printed ≡ labels_line directory ++ flat_map message_text (take i directory.messages) → printed ≡ tables_text directory
+pub tables_all : (directory : Parts) (i : ℕ) (printed : List ℕ) → length directory.messages ≤ i → printed ≡ labels_line directory ++ flat_map listed_message (take i directory.messages) → printed ≡ tables_text directory
 unfolding tables_text
 tables_all directory i printed past is =
-    is ∙ ap (λ (ms : List MessageDef). labels_line directory ++ flat_map message_text ms) (take_all i directory.messages past)
+    is ∙ ap (λ (ms : List MessageDef). labels_line directory ++ flat_map listed_message ms) (take_all i directory.messages past)
 
 -- the line of a node, put part by part
 pub node_put : (k depth name status most space last out one two three four five six seven eight nine ten : List ℕ) → one ≡ out ++ k → two ≡ one ++ space → three ≡ two ++ depth → four ≡ three ++ space → five ≡ four ++ name → six ≡ five ++ space → seven ≡ six ++ status → eight ≡ seven ++ space → nine ≡ eight ++ most → ten ≡ nine ++ last

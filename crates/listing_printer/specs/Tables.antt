@@ -51,8 +51,8 @@ table_text message collisions =
     ++ count_line (codes "collisions") (length collisions) ++ flat_map collision_line collisions
 
 -- the table of a message, with its collisions
-abbrev pub message_text : MessageDef → Octets
-message_text message = table_text message (collisions_of (nodes_of message.rows))
+abbrev pub listed_message : MessageDef → Octets
+listed_message message = table_text message (collisions_of (nodes_of message.rows))
 
 -- the labels of a directory
 unfoldable pub labels_line : Directory → Octets
@@ -61,4 +61,4 @@ labels_line parts =
 
 -- the printed form of a directory's tables: its labels, and the table of each message; that of CONTRL isn't printed
 unfoldable pub tables_text : Directory → Octets
-tables_text parts = labels_line parts ++ flat_map message_text parts.messages
+tables_text parts = labels_line parts ++ flat_map listed_message parts.messages

@@ -12,8 +12,8 @@ pub record Left : Type 0 where
   pub faults : ℕ
 
 -- what is seen of an input
-abbrev pub left_of : {I : Type 0} → source.Ghosts I → I → Left
-left_of input i = record { octets = input.rest i; faults = input.faults i }
+abbrev pub left_of_input : {I : Type 0} → source.Ghosts I → I → Left
+left_of_input input i = record { octets = input.rest i; faults = input.faults i }
 
 -- what is seen of the input and the sink before a run and after it, and the status that it ended with
 pub record Ran : Type 0 where

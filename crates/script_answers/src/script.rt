@@ -3,7 +3,7 @@ ghost use Rattle.std.specs.Prelude.{◌≡◌, ◌≢◌, ◌↔◌, ◌⊎◌, 
 ghost use Rattle.std.specs.Bool.{OnFalse};
 ghost use Rattle.edi_ports.specs.Faults.{HasRisen};
 ghost use Rattle.run_outcome.specs.Finish.{IsFinish};
-ghost use Rattle.script_answers.specs.Ran.{left_of};
+ghost use Rattle.script_answers.specs.Ran.{left_of_input};
 ghost use Rattle.script_answers.specs.Script.{IsAnsweredInRoom, IsAnsweredWhole, IsScriptAnswered, longest_script, stopped_by};
 ghost use Rattle.run_outcome.specs.Held.{held_of};
 ghost use Rattle.run_outcome.specs.Put.{IsPutOut};
@@ -27,8 +27,8 @@ pub fn answer_script<A: Answering, I: Source, O: Sink>(
     out: &mut O,
 ) -> Status
     ensures run { IsScriptAnswered A.grammar A.IsStep (A.state answering.old) (record {
-      input_before = left_of I.Source input.old;
-      input_after = left_of I.Source input.new;
+      input_before = left_of_input I.Source input.old;
+      input_after = left_of_input I.Source input.new;
       sink_before = held_of O.Sink out.old;
       sink_after = held_of O.Sink out.new;
       status = result;

@@ -3,7 +3,7 @@ use Rattle.std.proofs.lemmas.List.{take_all, take_more}
 use Rattle.edi_tables.specs.First.{unless_faulty}
 use Rattle.edi_octets.proofs.EarlierLemmas.{judged-none}
 use Rattle.dir_load.specs.Gathered.{found_of, joined}
-use Rattle.dir_load.specs.Load.{Found, file_after, file_on, found_on, refusals_in, refusals_of}
+use Rattle.dir_load.specs.Load.{Found, file_after, found_in_file, found_on, refusals_in, refusals_of}
 use Rattle.dir_load.specs.Stop.{file_fault_in}
 use Rattle.dir_load.proofs.AnswerLemmas.{Answers-at_file, Answers-unmapped}
 use Rattle.dir_load.proofs.GatherLemmas.{Answers-turn, added-turn}
@@ -34,7 +34,7 @@ returns-in-Err-clause-gathers g c files told =
     let line = c.line-item.result in
     let old : Found = found_of c.loop-line.gathered in
     let lt : i < length lines = omega arith in
-    let file = file_on files c.loop-line.gathered.composites.items line in
+    let file = found_in_file files c.loop-line.gathered.composites.items line in
     let at_line = rw c.octets.ensures at c.at_file.ensures in
     let unread = Answers-unmapped (λ (done : Unit {0}). found_of c.add_file.new.self) (λ (f : Found). f) file_fault_in c.in-Err.stop file (joined old) (c.in-Err.ensures.adds files (held.files ∙ told)) in
     Answers-turn files lines i line lt c.line-item.is old (held.none files told) (held.found files told) (λ (f : Found). f) found_of (found_on files lines) c.at_file.result (Answers-at_file (λ (f : Found). f) (λ (f : Found). f) line.name c.in-Err.stop c.at_file.result file at_line unread)

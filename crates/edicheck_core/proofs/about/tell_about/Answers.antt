@@ -1,6 +1,6 @@
 use Rattle.edicheck_core.specs.Form.{question_shown}
 use Rattle.edicheck_core.proofs.OpeningLemmas.{asked_opened, asked_unopened}
-use Rattle.edicheck_core.proofs.SteadyLemmas.{told_of-steady}
+use Rattle.edicheck_core.proofs.SteadyLemmas.{answer_about-steady}
 use Rattle.edicheck_core.proofs.about.tell_about.Goals as goal
 
 pub returns-in-Ok-clause-due : goal.returns-in-Ok-clause-due
@@ -10,7 +10,7 @@ returns-in-Ok-clause-due g c =
 
 pub returns-in-Ok-clause-steady : goal.returns-in-Ok-clause-steady
 returns-in-Ok-clause-steady g c =
-    λ steady. told_of-steady (question_shown c.args.question) c.in-Ok.opening.directory c.in-Ok.opening.text.items c.tell.result c.tell.ensures
+    λ steady. answer_about-steady (question_shown c.args.question) c.in-Ok.opening.directory c.in-Ok.opening.text.items c.tell.result c.tell.ensures
 
 pub returns-in-Err-clause-due : goal.returns-in-Err-clause-due
 returns-in-Err-clause-due g c =

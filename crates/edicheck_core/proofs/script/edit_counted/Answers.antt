@@ -1,6 +1,6 @@
 use Rattle.std.proofs.Common.{ap}
 use Rattle.run_outcome.specs.Held.{held_of}
-use Rattle.script_answers.specs.Ran.{Ran, left_of}
+use Rattle.script_answers.specs.Ran.{Ran, left_of_input}
 use Rattle.script_answers.proofs.EditLemmas.{edit_answered, edit_in_room}
 use Rattle.kept_text.specs.Reading.{Reading}
 use Rattle.edicheck_core.specs.declared.words.ScriptKind.TheVariants.{Edits}
@@ -11,8 +11,8 @@ use Rattle.edicheck_core.proofs.script.edit_counted.Goals as goal
 pub returns-in-Ok-clause-run : goal.returns-in-Ok-clause-run
 returns-in-Ok-clause-run g c =
     let ran : Ran = record {
-      input_before = left_of g.I.Source c.args.input.now;
-      input_after = left_of g.I.Source c.answer_script.new.input;
+      input_before = left_of_input g.I.Source c.args.input.now;
+      input_after = left_of_input g.I.Source c.answer_script.new.input;
       sink_before = held_of g.O.Sink c.args.out.now;
       sink_after = held_of g.O.Sink c.answer_script.new.out;
       status = c.answer_script.result;

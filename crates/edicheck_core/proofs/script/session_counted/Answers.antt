@@ -1,5 +1,5 @@
 use Rattle.run_outcome.specs.Held.{held_of}
-use Rattle.script_answers.specs.Ran.{Ran, left_of}
+use Rattle.script_answers.specs.Ran.{Ran, left_of_input}
 use Rattle.script_answers.proofs.SessionLemmas.{session_answered, session_directory, session_in_room}
 use Rattle.edicheck_core.specs.declared.words.ScriptKind.TheVariants.{Sessions}
 use Rattle.edicheck_core.proofs.AnsweredLemmas.{refused_in_room}
@@ -9,8 +9,8 @@ use Rattle.edicheck_core.proofs.script.session_counted.Goals as goal
 pub returns-in-Ok-clause-run : goal.returns-in-Ok-clause-run
 returns-in-Ok-clause-run g c =
     let ran : Ran = record {
-      input_before = left_of g.I.Source c.args.input.now;
-      input_after = left_of g.I.Source c.answer_script.new.input;
+      input_before = left_of_input g.I.Source c.args.input.now;
+      input_after = left_of_input g.I.Source c.answer_script.new.input;
       sink_before = held_of g.O.Sink c.args.out.now;
       sink_after = held_of g.O.Sink c.answer_script.new.out;
       status = c.answer_script.result;

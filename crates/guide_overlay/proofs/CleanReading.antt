@@ -19,7 +19,7 @@ use Rattle.edi_tables.proofs.Lawful.{named_is}
 use Rattle.edi_tables.proofs.Placements.{filter_some, last_of}
 use Rattle.edi_tables.proofs.Stretches.{passing_end}
 use Rattle.edi_tables.proofs.TableLaws.{HasTableLaws, table_laws}
-use Rattle.table_walk.specs.Reading.{IsMember, member_at, IsGuideReading}
+use Rattle.table_walk.specs.Reading.{IsMember, member_at, IsReading}
 use Rattle.table_walk.specs.Errors.{Fault, StructureError, faults_of, faults_at, at_place, open_faults, errors_of_placed}
 use Rattle.table_walk.specs.Errors.Fault.{Missing, Over, Unplaced}
 use Rattle.table_walk.proofs.Sound.{member_fits}
@@ -106,7 +106,7 @@ module _ (nodes : List Node) where
         passing_end (λ j. list_any (λ i. nat_lt i j && are_siblings nodes i j) (e ∷ groups_round nodes e)) (e + 1) (length nodes) (omega arith) in
         ap (filter (is_must_at nodes)) none
 
-    module _ (names : List Tag) (entries : List ℕ) (closed : Bool) (reading : IsGuideReading nodes (map Some names) (map Some entries)) (clean : errors_of_placed nodes (map Some entries) closed ≡ []) where
+    module _ (names : List Tag) (entries : List ℕ) (closed : Bool) (reading : IsReading nodes (map Some names) (map Some entries)) (clean : errors_of_placed nodes (map Some entries) closed ≡ []) where
       long : length entries ≡ length names
       long = sym (length-map entries Some) ∙ reading.long ∙ length-map names Some
 

@@ -12,7 +12,7 @@ use Rattle.edi_tables.specs.Placement.{IsDerivation}
 use Rattle.edi_tables.specs.Rows.{has_name, IsTable}
 use Rattle.edi_tables.specs.Walk.{tag_at}
 use Rattle.edi_tables.proofs.Lawful.{named_is}
-use Rattle.table_walk.specs.Reading.{IsMember, member_at, IsGuideReading, reading_of}
+use Rattle.table_walk.specs.Reading.{IsMember, member_at, IsReading, reading_of}
 use Rattle.table_walk.specs.Errors.{errors_of_placed, structure_errors_of}
 use Rattle.table_walk.proofs.Derived.{derived}
 use Rattle.table_walk.proofs.Readings.{reading_is}
@@ -36,7 +36,7 @@ pub record IsFramed (tags : List (Option Tag)) (closed : Bool) : Type 0 where
   pub closes : closed ≡ true → has_name (codes "UNT") (tag_in tags (length tags - 1)) ≡ true
 
 module _ (nodes : List Node) (table : IsTable nodes) (tags : List (Option Tag)) (closed : Bool) (framed : IsFramed tags closed) where
-  reading : IsGuideReading nodes tags (reading_of nodes tags)
+  reading : IsReading nodes tags (reading_of nodes tags)
   reading = reading_is nodes tags framed.some
 
   abbrev placed : List (Option ℕ)
@@ -74,8 +74,8 @@ module _ (nodes : List Node) (table : IsTable nodes) (tags : List (Option Tag)) 
 
     clean_by : (names : List Tag) (entries : List ℕ) → map Some names ≡ tags → map Some entries ≡ placed → IsClean nodes tags
     clean_by names entries named at =
-        let is_reading : IsGuideReading nodes (map Some names) (map Some entries) =
-        subst (λ ts. IsGuideReading nodes ts (map Some entries)) (sym named) (subst (λ ps. IsGuideReading nodes tags ps) (sym at) reading) in
+        let is_reading : IsReading nodes (map Some names) (map Some entries) =
+        subst (λ ts. IsReading nodes ts (map Some entries)) (sym named) (subst (λ ps. IsReading nodes tags ps) (sym at) reading) in
         let is_clean : errors_of_placed nodes (map Some entries) closed ≡ [] = subst (λ ps. errors_of_placed nodes ps closed ≡ []) (sym at) clean in
         let tag_of : (k : ℕ) → slice_get names k ≡ tag_in tags k = λ k. sym (tag_in_some names k) ∙ ap (λ ts. tag_in ts k) named in
         let long : length names ≡ length tags = sym (length-map names Some) ∙ ap length named in

@@ -175,13 +175,29 @@ fn spelled<O: Octets>(text: &O, start: usize, end: usize) -> Option<&[u8]>
     Some(&part[..end - start])
 }
 
-// The place where a segment of these octets is remembered.
+// The place where a segment of these octets is remembered. They are summed eight at a time, and the last eight once more: so
+// few are left only where there are fewer than eight.
 fn slot_of(octets: &[u8]) -> usize
     ensures { result < 1024 }
 {
-    let mut sum = 0_u32;
-    for octet in octets {
-        sum = sum.wrapping_mul(9).wrapping_add(u32::from(*octet));
+    let mut sum = 0_u64;
+    let mut left = octets;
+    while let Some((word, others)) = left.split_first_chunk::<8>() {
+        sum = add_word(sum, u64::from_le_bytes(*word));
+        left = others;
     }
-    (sum.wrapping_mul(0x9E37_79B1) >> 16) as usize % PLACES
+    if let Some((_, word)) = octets.split_last_chunk::<8>() {
+        sum = add_word(sum, u64::from_le_bytes(*word));
+    } else {
+        for octet in octets {
+            sum = add_word(sum, u64::from(*octet));
+        }
+    }
+    (sum >> 54) as usize % PLACES
+}
+
+// The sum with one word more. Each bit of a word counts in the first bits of the sum.
+#[inline(always)]
+fn add_word(sum: u64, word: u64) -> u64 {
+    sum.wrapping_add(word).wrapping_mul(0x9E37_79B9_7F4A_7C15)
 }

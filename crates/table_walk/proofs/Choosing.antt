@@ -1,6 +1,6 @@
 -- The best of the candidates that were looked at.
 use Rattle.std.proofs.Common.{◌≡◌, ℕ, ◌+◌, ◌<◌, ◌≤◌, Bool, true, false, cond, List, [], ◌∷◌, Option, Some, None, length, refl, sym, ap, subst, ◌∙◌, arith}
-use Rattle.std.specs.Prelude.{All, AllPairs, filter, find, nat_lt, if◌then◌else◌}
+use Rattle.std.specs.Prelude.{All, AllPairs, filter, find, nat_lt, if◌then◌else◌, ◌==◌, ◌||◌}
 use Rattle.std.proofs.lemmas.Bool.{cond_both, false≢true, lt-ltb}
 use Rattle.std.proofs.lemmas.List.Elements.{All-cons, All-head, All-tail, All-filter, All-weaker}
 use Rattle.edi_tables.specs.declared.table.Node.{Node}
@@ -43,6 +43,19 @@ pub rank_high : (a b : Bool) → b ≡ true → 2 ≤ (if a then 1 else 0) + (if
 rank_high true true misses = omega arith
 rank_high false true misses = omega arith
 rank_high a false misses = absurd (false≢true misses)
+
+-- a low rank says that nothing is missing
+pub rank_low : (over : Bool) (missing : List ℕ) → (if over then 1 else 0) + (if is_filled missing then 2 else 0) < 2 → missing ≡ []
+rank_low over [] low = refl
+rank_low true (node ∷ missing) low = absurd (omega (arith, low))
+rank_low false (node ∷ missing) low = absurd (omega (arith, low))
+
+-- a rank tells whether it is one too many
+pub rank_over : (rank : ℕ) (over misses : Bool) → rank ≡ (if over then 1 else 0) + (if misses then 2 else 0) → (rank == 1 || rank == 3) ≡ over
+rank_over rank true true is = ap (λ n. n == 1 || n == 3) is
+rank_over rank true false is = ap (λ n. n == 1 || n == 3) is
+rank_over rank false true is = ap (λ n. n == 1 || n == 3) is
+rank_over rank false false is = ap (λ n. n == 1 || n == 3) is
 
 module _ (nodes : List Node) (f : ℕ) (passes : ℕ → Bool) (rank : ℕ → ℕ) (whole : Option ℕ) where
   abbrev Left_at : Option ℕ → List ℕ → Type 0

@@ -1,14 +1,16 @@
 //! One step of a walk, by the pairs of the entry placed last.
-ghost use Rattle.std.specs.Prelude.{◌≡◌, ◌<◌, ◌≤◌, Some, All, AllPairs, IfOk, filter, nat_le, nat_lt, length, IfSome, if◌then◌else◌};
+ghost use Rattle.std.specs.Prelude.{◌≡◌, ◌+◌, ◌<◌, ◌≤◌, Bool, Some, All, AllPairs, IfOk, filter, nat_le, nat_lt, length, IfSome, if◌then◌else◌};
 ghost use Rattle.edi_tables.specs.Rows.{IsTable};
 ghost use Rattle.edi_tables.specs.Walk.{max_at, missing_between, missing_past, reached_node};
 ghost use Rattle.edi_tables.specs.Filled.{is_filled};
 ghost use Rattle.edi_tables.specs.Pairs.{count_in, entry_in, entry_next, group_next, over_in, pairs_next, rank_in};
+ghost use Rattle.table_walk.specs.Bodies.{bound_of};
 ghost use Rattle.table_walk.specs.Reading.{has_tag, least_from};
 ghost use Rattle.table_walk.specs.Steps.{AreCountsUpTo, IsShaped, member_in};
 
 use arrayvec::ArrayVec;
 use edi_tables::{Candidates, Missing, Table, Tag};
+use smallvec::SmallVec;
 use std::alloc::{AllocError, Global};
 
 /// Few pairs of a walk: the number of a node, and its count. Most entries have at most three groups round them.
@@ -72,9 +74,11 @@ impl<'a> Position<'a> {
         }
     }
 
-    /// Where a segment with this tag is: at the first candidate with the least rank.
-    pub fn member(&self, tag: Option<Tag>) -> Option<u16>
-        ensures { result ≡ member_in self.now.table.now self.now.pairs.now tag }
+    /// Where a segment with this tag is: at the first candidate with the least rank. With its rank.
+    pub fn member(&self, tag: Option<Tag>) -> Best
+        ensures entry { result.entry ≡ member_in self.now.table.now self.now.pairs.now tag }
+        ensures rank { result.rank
+            ≡ bound_of (rank_in self.now.table.now self.now.pairs.now) result.entry }
     {
         let mut candidates = self.table.candidates(self.entry);
         while let Some(candidate) = candidates.next() {
@@ -82,42 +86,44 @@ impl<'a> Position<'a> {
                 return self.best_from(tag, candidate, candidates);
             }
         }
-        None
+        Best::NONE
     }
 
     // The best of a candidate with this tag and of those after it.
     //
     // Most often the first has rank 0, and nothing more is looked for. Else it stops at a candidate
     // that can't better the best so far: ranks are at least 2 once a candidate misses a node.
-    fn best_from(&self, tag: Option<Tag>, first: u16, others: Candidates<'_>) -> Option<u16>
+    fn best_from(&self, tag: Option<Tag>, first: u16, others: Candidates<'_>) -> Best
         requires within { first < length self.now.table.now }
         requires inside { All (λ c. c < length self.now.table.now) others }
         requires rising { AllPairs
             (λ c d. reached_node self.now.table.now (entry_in self.now.pairs.now) c
             ≤ reached_node self.now.table.now (entry_in self.now.pairs.now) d)
             others }
-        ensures { result
+        ensures entry { result.entry
             ≡ least_from
             (rank_in self.now.table.now self.now.pairs.now)
             (Some first)
             (filter (has_tag self.now.table.now tag) others.entry) }
+        ensures rank { result.rank
+            ≡ bound_of (rank_in self.now.table.now self.now.pairs.now) result.entry }
     {
         let misses = self.missing(first).next().is_some();
         let mut best = Best::NONE.or(first, self.rank(first, misses));
         if best.rank == 0 {
-            return best.entry;
+            return best;
         }
         let first_must = self.table.first_must_after(self.entry);
         for candidate in others {
             let misses = self.table.misses(self.entry, first_must, candidate);
             if best.rank <= 2 && misses {
-                return best.entry;
+                return best;
             }
             if has_tag(self.table, tag, candidate) {
                 best = best.or(candidate, self.rank(candidate, misses));
             }
         }
-        best.entry
+        best
     }
 
     /// Whether going to a candidate is one too many.
@@ -174,6 +180,25 @@ impl<'a> Position<'a> {
             ≡ missing_between self.now.table.now (entry_in self.now.pairs.now) candidate }
     {
         self.table.missing(self.entry, candidate)
+    }
+
+    /// The same, by the rank of the candidate: most have rank 0, and then nothing is looked for.
+    #[tactic(auto, using(crate::proofs::Choosing::rank_low))]
+    pub fn missing_by(
+        &self,
+        alloc: Global,
+        candidate: u16,
+        rank: u8,
+    ) -> Result<SmallVec<u16, 4>, AllocError>
+        requires within { candidate < length self.now.table.now }
+        requires rank { rank ≡ rank_in self.now.table.now self.now.pairs.now candidate }
+        ensures { IfOk result (λ missing. missing.items
+            ≡ missing_between self.now.table.now (entry_in self.now.pairs.now) candidate) }
+    {
+        if rank < 2 {
+            return Ok(SmallVec::new(alloc));
+        }
+        gather(alloc, self.missing(candidate))
     }
 
     /// The mandatory nodes that going past the table's end passes, ascending.
@@ -236,6 +261,28 @@ impl<'a> Position<'a> {
             1
         }
     }
+}
+
+/// Whether going to a candidate with this rank is one too many.
+#[tactic(auto, using(crate::proofs::Choosing::rank_over))]
+pub fn is_over_by(rank: u8) -> bool
+    ensures { (over misses : Bool)
+        → rank ≡ (if over then 1 else 0) + (if misses then 2 else 0)
+        → result ≡ over }
+{
+    rank == 1 || rank == 3
+}
+
+/// These nodes as a list.
+#[inline(always)]
+pub fn gather(alloc: Global, nodes: Missing<'_>) -> Result<SmallVec<u16, 4>, AllocError>
+    ensures { IfOk result (λ list. list.items ≡ nodes.entry) }
+{
+    let mut list = SmallVec::new(alloc);
+    for node in nodes {
+        list.push(node)?;
+    }
+    Ok(list)
 }
 
 // Whether an entry has this tag; a segment without a tag fits nowhere.

@@ -9,9 +9,9 @@ ghost use Rattle.edi_tables.specs.Pairs.{entry_in, pairs_next, pairs_of};
 ghost use Rattle.table_walk.specs.Reading.{IsReading};
 ghost use Rattle.table_walk.specs.Steps.{AreCountsUpTo, GoOnAlike, GoesOn, IsShaped, is_over_in, member_in, missing_in, pairs_after, tagged_in};
 
-use crate::position::{FewPairs, Position};
+use crate::position::{FewPairs, Position, gather, is_over_by};
 use arrayvec::ArrayVec;
-use edi_tables::{Missing, Table, Tag};
+use edi_tables::{Table, Tag};
 use smallvec::SmallVec;
 use std::alloc::{AllocError, Global};
 use std::marker::Model;
@@ -109,12 +109,13 @@ impl State {
     {
         placed.tick();
         let position = Position::of(table, self.pairs());
-        match position.member(tag) {
+        let best = position.member(tag);
+        match best.entry {
             Some(entry) => Ok(Placed {
                 state: state_next(alloc, &position, entry)?,
                 entry: Some(entry),
-                over: position.is_over(entry),
-                missing: gather(alloc, position.missing(entry))?,
+                over: is_over_by(best.rank),
+                missing: position.missing_by(alloc, entry, best.rank)?,
             }),
             None => Ok(Placed {
                 state: self.share()?,
@@ -181,16 +182,4 @@ fn state_next(alloc: Global, position: &Position<'_>, entry: u16) -> Result<Stat
         None => Held::Many(RcSlice::from_vec(position.pairs_next(alloc, entry)?)?),
     };
     Ok(State { pairs })
-}
-
-// These nodes as a list.
-#[inline(always)]
-fn gather(alloc: Global, nodes: Missing<'_>) -> Result<SmallVec<u16, 4>, AllocError>
-    ensures { IfOk result (λ list. list.items ≡ nodes.entry) }
-{
-    let mut list = SmallVec::new(alloc);
-    for node in nodes {
-        list.push(node)?;
-    }
-    Ok(list)
 }

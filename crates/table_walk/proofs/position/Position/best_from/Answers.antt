@@ -7,8 +7,17 @@ use Rattle.table_walk.specs.Reading.{has_tag, least_from}
 use Rattle.table_walk.proofs.Choosing.{IsBest, rank_small, rank_high, best_first, best_free, best_meet, best_skip, best_stop, left_end}
 use Rattle.table_walk.proofs.position.Position.best_from.Goals as goal
 
-pub returns-then-best-eq0 : goal.returns-then-best-eq0
-returns-then-best-eq0 c =
+pub returns-then-best-eq0-clause-rank : goal.returns-then-best-eq0-clause-rank
+returns-then-best-eq0-clause-rank c =
+    let nodes = c.args.self.now.table.now in
+    let pairs = c.args.self.now.pairs.now in
+    let f = entry_in pairs in
+    let whole = least_from (rank_in nodes pairs) (Some c.args.first) (filter (has_tag nodes c.args.tag) c.args.others) in
+    (best_first nodes f (has_tag nodes c.args.tag) (rank_in nodes pairs) whole (λ x. rank_small (over_in nodes pairs x) (is_filled (missing_between nodes f x)))
+    c.args.first c.rank.result c.args.others c.or-best.result c.or-best.ensures c.rank.ensures c.requires.inside c.requires.rising refl).known
+
+pub returns-then-best-eq0-clause-entry : goal.returns-then-best-eq0-clause-entry
+returns-then-best-eq0-clause-entry c =
     let nodes = c.args.self.now.table.now in
     let pairs = c.args.self.now.pairs.now in
     let f = entry_in pairs in
@@ -28,8 +37,11 @@ loop-candidate-init c =
     (best_first nodes f (has_tag nodes c.args.tag) (rank_in nodes pairs) whole (λ x. rank_small (over_in nodes pairs x) (is_filled (missing_between nodes f x)))
     c.args.first c.rank.result c.args.others c.or-best.result c.or-best.ensures c.rank.ensures c.requires.inside c.requires.rising refl)
 
-pub returns-then-misses : goal.returns-then-misses
-returns-then-misses c =
+pub returns-then-misses-clause-rank : goal.returns-then-misses-clause-rank
+returns-then-misses-clause-rank c = c.loop-candidate.invariant.known
+
+pub returns-then-misses-clause-entry : goal.returns-then-misses-clause-entry
+returns-then-misses-clause-entry c =
     let nodes = c.args.self.now.table.now in
     let pairs = c.args.self.now.pairs.now in
     let f = entry_in pairs in
@@ -61,8 +73,11 @@ loop-candidate-preserved c =
     c.in-Some.candidate c.loop-candidate.candidate-iterator c.next-in-loop-candidate.new.self c.loop-candidate.best c.in-Some.ensures.steps
     (sym c.has_tag.ensures ∙ c.if-has_tag.false) c.loop-candidate.invariant
 
-pub returns : goal.returns
-returns c =
+pub returns-clause-rank : goal.returns-clause-rank
+returns-clause-rank c = c.loop-candidate.invariant.known
+
+pub returns-clause-entry : goal.returns-clause-entry
+returns-clause-entry c =
     let nodes = c.args.self.now.table.now in
     let pairs = c.args.self.now.pairs.now in
     let whole = least_from (rank_in nodes pairs) (Some c.args.first) (filter (has_tag nodes c.args.tag) c.args.others) in

@@ -50,11 +50,14 @@ best_from-requires-clause-rising c =
     (left_meet nodes (entry_in pairs) (has_tag nodes c.args.tag) (rank_in nodes pairs) (member_in nodes pairs c.args.tag) None
     c.in-Some.candidate c.loop-candidate.candidates c.next.new.self c.in-Some.ensures.steps (sym c.has_tag.ensures ∙ c.if-has_tag.true) c.loop-candidate.invariant).rising
 
-pub returns-then-has_tag : goal.returns-then-has_tag
-returns-then-has_tag c =
+pub returns-then-has_tag-clause-rank : goal.returns-then-has_tag-clause-rank
+returns-then-has_tag-clause-rank c = c.best_from.ensures.rank
+
+pub returns-then-has_tag-clause-entry : goal.returns-then-has_tag-clause-entry
+returns-then-has_tag-clause-entry c =
     let nodes = c.args.self.now.table.now in
     let pairs = c.args.self.now.pairs.now in
-    c.best_from.ensures
+    c.best_from.ensures.entry
     ∙ (left_meet nodes (entry_in pairs) (has_tag nodes c.args.tag) (rank_in nodes pairs) (member_in nodes pairs c.args.tag) None
     c.in-Some.candidate c.loop-candidate.candidates c.next.new.self c.in-Some.ensures.steps (sym c.has_tag.ensures ∙ c.if-has_tag.true) c.loop-candidate.invariant).rest
 
@@ -65,8 +68,8 @@ loop-candidate-preserved c =
     left_skip nodes (entry_in pairs) (has_tag nodes c.args.tag) (rank_in nodes pairs) (member_in nodes pairs c.args.tag) None
     c.in-Some.candidate c.loop-candidate.candidates c.next.new.self c.in-Some.ensures.steps (sym c.has_tag.ensures ∙ c.if-has_tag.false) c.loop-candidate.invariant
 
-pub returns : goal.returns
-returns c =
+pub returns-clause-entry : goal.returns-clause-entry
+returns-clause-entry c =
     let nodes = c.args.self.now.table.now in
     let pairs = c.args.self.now.pairs.now in
     left_end nodes (entry_in pairs) (has_tag nodes c.args.tag) (rank_in nodes pairs) (member_in nodes pairs c.args.tag) None c.loop-candidate.candidates

@@ -1,5 +1,5 @@
 //! What is wrong in the structure of messages.
-ghost use Rattle.std.specs.Prelude.{◌≡◌, ◌++◌, ◌<◌, All, OnOk, length, map};
+ghost use Rattle.std.specs.Prelude.{[], true, ◌≡◌, ◌++◌, ◌<◌, All, OnOk, length, map};
 ghost use Rattle.std.specs.Option.{option_copied};
 ghost use Rattle.edi_tables.specs.Walk.{entry_for as entry_for_of};
 ghost use Rattle.table_walk.specs.Errors.Fault.{Missing};
@@ -42,12 +42,23 @@ fn put_step(
     ensures { OnOk result (list.new.items
         ≡ list.old.items ++ step_lines directory.now seen.now.before.now (seen_of seen.now)) }
 {
+    if is_well_placed(seen.record) {
+        return Ok(());
+    }
     match seen.before {
         Mode::Within { table, state } if !bounds_message(seen.record.tag()) => {
             put_walked(directory.table(*table as usize), state, seen, list)
         }
         _ => Ok(()),
     }
+}
+
+// Whether a segment is at an entry, with nothing missing before it, and isn't one too many there. Most are.
+#[inline]
+fn is_well_placed(segment: &Record) -> bool
+    ensures { result ≡ true → faults_of_step segment.now.step ≡ [] }
+{
+    segment.entry().is_some() && segment.missing().is_empty() && !segment.is_over()
 }
 
 // Puts what is wrong with where a segment is after this state.

@@ -165,7 +165,7 @@ fn put_group(out: &mut Chunk, mark: GroupMark, depth: u8) -> Result<(), AllocErr
 
 // A line, after two spaces for each group round it. It is short enough for those of `MOST_GROUPS` groups.
 #[tactic(auto, using(edi_tables::proofs::GrowingLaws::grown_then))]
-#[inline]
+#[inline(always)]
 fn put_indented(out: &mut Chunk, line: &mut Line, groups: u8) -> Result<(), AllocError>
     requires { length line.old ≤ 32 }
     ensures ok { OnOk result (out.new ≡ out.old ++ (indentation groups ++ line.old)) }

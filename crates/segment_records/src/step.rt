@@ -105,6 +105,7 @@ fn open_message(
 }
 
 // The step of a segment of a message with a table.
+#[inline(always)]
 fn go_on<L: Ledger>(
     alloc: Global,
     directory: &Directory,

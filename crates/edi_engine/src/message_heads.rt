@@ -3,7 +3,8 @@ ghost use Rattle.std.specs.Prelude.{◌≡◌, ◌+◌, ◌++◌, ◌<◌, ◌�
 ghost use Rattle.edi_tables.specs.Rows.{has_name};
 ghost use Rattle.seg_lexer.specs.Service.{IsUsable};
 ghost use Rattle.segment_records.specs.Look.{seen_of};
-ghost use Rattle.segment_records.specs.Spans.{begun_by as begun_by_of, ended_by, group_by as group_by_of, message_ended, message_seen, stops_message as stops_message_of};
+ghost use Rattle.segment_records.specs.Spans.{begun_by as begun_by_of, ended_by, group_by as group_by_of, message_ended, message_seen};
+ghost use Rattle.segment_records.specs.Bounds.{stops_message as stops_message_of};
 ghost use Rattle.segment_records.specs.Segments.{segments_of_text};
 ghost use Rattle.text_reading.specs.Summary.{messages_in};
 ghost use Rattle.edi_octets.specs.declared.octets.TheConstants.{LONGEST_TEXT};

@@ -7,12 +7,12 @@ ghost use Rattle.table_walk.specs.Steps.{IsShaped, member_in, missing_in};
 ghost use Rattle.segment_records.specs.Errors.{fault_line};
 ghost use Rattle.segment_records.specs.Line.{end_lines, ends_before as ends_before_of, fault_lines, faults_of_step, step_lines, structure_seen};
 ghost use Rattle.segment_records.specs.Look.{seen_of};
-ghost use Rattle.segment_records.specs.WalkedSegments.{Follows, as_segment, bounds_message as bounds_message_of};
+ghost use Rattle.segment_records.specs.WalkedSegments.{Follows, as_segment};
 
 use dir_compile::Directory;
-use edi_tables::{Table, Tag};
+use edi_tables::Table;
 use error_ledger::{ErrorLine, Kind};
-use segment_records::{Mode, Record, WalkedSegment, is_named, is_no_part};
+use segment_records::{Mode, Record, WalkedSegment, bounds_message};
 use std::alloc::{AllocError, Global};
 use table_walk::State;
 
@@ -174,11 +174,4 @@ fn ends_before(next: Option<&Record>) -> bool
         Some(record) => bounds_message(record.tag()),
         None => true,
     }
-}
-
-// Whether a segment with this tag opens a message, or is in none.
-fn bounds_message(tag: Option<Tag>) -> bool
-    ensures { result ≡ bounds_message_of tag }
-{
-    is_named(b"UNH", tag) || is_no_part(tag)
 }

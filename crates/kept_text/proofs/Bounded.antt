@@ -10,11 +10,12 @@ use Rattle.seg_lexer.specs.Segments.{boundaries_of, ends_of}
 use Rattle.seg_lexer.specs.Service.{service_of}
 use Rattle.seg_lexer.specs.declared.service.Service.{Service}
 use Rattle.seg_lexer.proofs.EndsLemmas.{ends-ascending}
+use Rattle.segment_records.specs.Bounds.{stops_message}
 use Rattle.segment_records.specs.Segments.{Segment, segments_by, segments_of_text}
 use Rattle.segment_records.proofs.Rests.{length_segments}
 use Rattle.kept_text.specs.Edit.{Edit, edited}
 use Rattle.kept_text.specs.Stretch.{ends_moved, first_kept, is_among, segments_before, stretch_from, stretch_to}
-use Rattle.kept_text.specs.Rerun.{IsRerunBounded, bounds_extent, rerun_of}
+use Rattle.kept_text.specs.Rerun.{IsRerunBounded, rerun_of}
 use Rattle.kept_text.proofs.Edited.{rerun_to_head, usable_too}
 use Rattle.kept_text.proofs.Finds.{found_at}
 use Rattle.kept_text.proofs.Places.{start_at}
@@ -74,7 +75,7 @@ module _ (dir : Parts) (directory : IsDirectory dir) (text : List ℕ) (edit : E
 
   bounded_by : (kept : Option ℕ) → first_kept s text edit ≡ kept → (i : ℕ) (segment : Segment)
       → slice_get (segments_of_text new) (segments_before s new (stretch_to s text edit) + i) ≡ Some segment
-      → bounds_extent segment ≡ true
+      → stops_message segment.tag ≡ true
       → rerun_of dir text edit ≤ segments_before s new (stretch_to s text edit) + i + 1 - segments_before s new
       (stretch_from s text edit)
   unfolding segments_of_text

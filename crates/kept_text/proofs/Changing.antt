@@ -24,7 +24,8 @@ use Rattle.segment_records.specs.declared.mode.Mode.{Mode}
 use Rattle.segment_records.specs.declared.mode.Mode.TheVariants.{Outside}
 use Rattle.segment_records.proofs.ModeLaws.{length_kept, mode_belongs, mode_from_append, mode_from_is}
 use Rattle.segment_records.specs.Count.{segment_count_of}
-use Rattle.segment_records.specs.WalkedSegments.{bounds_message, kept_in, octets_in}
+use Rattle.segment_records.specs.WalkedSegments.{kept_in, octets_in}
+use Rattle.segment_records.specs.Bounds.{bounds_message}
 use Rattle.segment_records.proofs.Counts.{mode_more}
 use Rattle.segment_records.proofs.Rests.{length_segments, records_none, rest_count, same_count}
 use Rattle.kept_text.specs.Again.{AreInner, AreOthers, IsEndOf, NoneBefore, StaysAfter, last_mode, one_where_some, placed_from}

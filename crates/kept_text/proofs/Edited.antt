@@ -14,12 +14,13 @@ use Rattle.seg_lexer.proofs.EditLemmas.{drop-spliced}
 use Rattle.seg_lexer.proofs.EndsLemmas.{ends-ascending}
 use Rattle.seg_lexer.proofs.SegmentsLemmas.{boundary-high}
 use Rattle.seg_lexer.proofs.ServiceLemmas.{service_of-usable}
+use Rattle.segment_records.specs.Bounds.{stops_message}
 use Rattle.segment_records.specs.Messages.{mode_after}
 use Rattle.segment_records.specs.Segments.{Segment, segments_by, segments_of_text}
 use Rattle.segment_records.specs.declared.mode.Mode.{Mode}
 use Rattle.kept_text.specs.Edit.{Edit, edited}
 use Rattle.kept_text.specs.Stretch.{first_kept, segments_before, stretch_from, stretch_to}
-use Rattle.kept_text.specs.Rerun.{bounds_extent, is_same_mode, mode_before, modes_meet, rerun_of}
+use Rattle.kept_text.specs.Rerun.{is_same_mode, mode_before, modes_meet, rerun_of}
 use Rattle.kept_text.proofs.Later.{later_boundary, modes_after_head}
 use Rattle.kept_text.proofs.Modes.{same_from}
 use Rattle.kept_text.proofs.Places.{starts_ascend}
@@ -145,7 +146,7 @@ module _ (dir : Parts) (text : List ℕ) (edit : Edit) (service : service_of (ed
     -- a segment from there on that bounds an extent ends what is placed again
     pub rerun_to_head : IsDirectory dir → (i b : ℕ) (segment : Segment)
         → slice_get (segments_by s new) (q + i) ≡ Some segment
-        → bounds_extent segment ≡ true → slice_get (boundaries_of s new) (q + i + 1) ≡ Some b
+        → stops_message segment.tag ≡ true → slice_get (boundaries_of s new) (q + i + 1) ≡ Some b
         → rerun_of dir text edit ≤ q + i + 1 - first
     rerun_to_head directory i b segment is bounds at =
         let next : q + (i + 1) ≡ q + i + 1 = omega arith in

@@ -16,6 +16,7 @@ use Rattle.seg_lexer.specs.declared.service.Service.{Service}
 use Rattle.seg_lexer.proofs.EndsLemmas.{ends-append}
 use Rattle.seg_lexer.proofs.SegmentsLemmas.{boundary-high}
 use Rattle.seg_lexer.proofs.WholeLemmas.{whole-take}
+use Rattle.segment_records.specs.Bounds.{stops_message}
 use Rattle.segment_records.specs.Messages.{mode_after}
 use Rattle.segment_records.specs.Segments.{Segment, segments_by}
 use Rattle.segment_records.specs.Steps.{Step, is_named, step_of}
@@ -25,7 +26,6 @@ use Rattle.segment_records.proofs.BodyLaws.{moved_on}
 use Rattle.segment_records.proofs.Forgets.{forgets_before}
 use Rattle.segment_records.proofs.ModeLaws.{steps_are_modes}
 use Rattle.segment_records.proofs.Rests.{rest_segments}
-use Rattle.kept_text.specs.Rerun.{bounds_extent}
 use Rattle.kept_text.proofs.Taken.{boundary_number, ends_front}
 
 -- what follows a front of a list is at the places after it
@@ -131,7 +131,7 @@ of_six false false false false true false is = refl
 of_six false false false false false false is = absurd (false≢true is)
 
 -- a segment that bounds an extent has one of the tags after which the mode before is forgotten
-pub bounds_by_name : (segment : Segment) → bounds_extent segment ≡ true
+pub bounds_by_name : (segment : Segment) → stops_message segment.tag ≡ true
     → list_any (λ name. is_named name segment)
     (codes "UNH" ∷ codes "UNT" ∷ codes "UNB" ∷ codes "UNG" ∷ codes "UNE" ∷ codes "UNZ" ∷ []) ≡ true
 bounds_by_name segment is =
@@ -157,7 +157,7 @@ module _ (s : Service) (text new : List ℕ) (usable : IsUsable s text) (usable_
   -- after a segment of it that bounds an extent the modes are the same
   pub modes_after_head : (dir : Parts) → IsDirectory dir → (i : ℕ) (segment : Segment)
       → slice_get (segments_by s new) (q + i) ≡ Some segment
-      → bounds_extent segment ≡ true
+      → stops_message segment.tag ≡ true
       → mode_after dir (segments_by s new) (q + i + 1) ≡ mode_after dir (segments_by s text) (j + i + 1)
   modes_after_head dir directory i segment is bounds =
       let found = mapped_some (moved_on c) (slice_get (segments_by (at_start s) (drop c new)) i) segment
@@ -168,7 +168,7 @@ module _ (s : Service) (text new : List ℕ) (usable : IsUsable s text) (usable_
       ∙ ap (λ (octets : List ℕ). option_map (moved_on b) (slice_get (segments_by (at_start s) octets) i))
       (sym shared)
       ∙ ap (option_map (moved_on b)) found.1 in
-      let bounds_too : bounds_extent rest ≡ true = ap bounds_extent found.2 ∙ bounds in
+      let bounds_too : stops_message rest.tag ≡ true = ap (λ (s : Segment). stops_message s.tag) found.2 ∙ bounds in
       let one : Mode = mode_after dir (segments_by s new) (q + i) in
       let other : Mode = mode_after dir (segments_by s text) (j + i) in
       steps_are_modes dir directory (segments_by s new) (q + i) segment is

@@ -12,7 +12,7 @@ use Rattle.segment_records.specs.Steps.{Step, inner_step, is_named, is_no_part, 
 use Rattle.segment_records.specs.Taken.{read_as}
 use Rattle.segment_records.specs.declared.mode.Mode.{Mode}
 use Rattle.segment_records.proofs.Taking.{step_inside}
-use Rattle.segment_records.specs.WalkedSegments.{bounds_message}
+use Rattle.segment_records.specs.Bounds.{bounds_message}
 use Rattle.segment_records.proofs.Following.{bounds_none}
 use Rattle.kept_text.specs.Again.{last_mode, placed_from}
 use Rattle.kept_text.proofs.Records.{alike_at_unh, alike_outside, drop_kept, inner_read, take_kept}

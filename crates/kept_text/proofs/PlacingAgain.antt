@@ -8,7 +8,7 @@ use Rattle.segment_records.specs.Records.{Kept}
 use Rattle.segment_records.specs.Steps.{inner_step}
 use Rattle.segment_records.specs.Taken.{read_as}
 use Rattle.segment_records.specs.declared.mode.Mode.{Mode}
-use Rattle.segment_records.specs.WalkedSegments.{bounds_message}
+use Rattle.segment_records.specs.Bounds.{bounds_message}
 use Rattle.kept_text.specs.Again.{AreInner, AreOthers, StaysAfter, last_mode, placed_from}
 use Rattle.kept_text.proofs.PlacedAgain.{mode_first}
 use Rattle.kept_text.proofs.LastMode.{last_mode_at, take_one_more}

@@ -6,7 +6,8 @@ use Rattle.segment_records.specs.Records.{Kept}
 use Rattle.segment_records.specs.Steps.{inner_step}
 use Rattle.segment_records.specs.Taken.{read_as}
 use Rattle.segment_records.specs.declared.mode.Mode.{Mode}
-use Rattle.segment_records.specs.WalkedSegments.{bounds_message, octets_in}
+use Rattle.segment_records.specs.Bounds.{bounds_message}
+use Rattle.segment_records.specs.WalkedSegments.{octets_in}
 use Rattle.kept_text.specs.declared.stretch.Span.{Span}
 
 -- the mode after the last of these, or else the one before

@@ -1,13 +1,13 @@
 -- The rerun of an edit: the segments that are placed again, up to where the mode is what it was before the edit. It is
 -- used where the two texts have the same context.
-use Rattle.std.specs.Prelude.{◌≡◌, ℕ, ◌+◌, ◌-◌, ◌≤◌, ◌==◌, ◌&&◌, nat_le, Bool, true, false, [], ◌∷◌, length, slice_get, Some, unwrap_or, codes}
+use Rattle.std.specs.Prelude.{◌≡◌, ℕ, ◌+◌, ◌-◌, ◌≤◌, ◌==◌, ◌&&◌, nat_le, Bool, true, false, length, slice_get, Some, unwrap_or}
 use Rattle.std.specs.Cmp.Lexicographic.{pointwise}
-use Rattle.std.specs.List.{find, list_any}
+use Rattle.std.specs.List.{find}
 use Rattle.edi_tables.specs.Octets.{Octets}
-use Rattle.edi_tables.specs.Rows.{has_name}
 use Rattle.dir_compile.specs.Directory.{Directory}
 use Rattle.seg_lexer.specs.Segments.{boundaries_of}
 use Rattle.seg_lexer.specs.Service.{service_of}
+use Rattle.segment_records.specs.Bounds.{stops_message}
 use Rattle.segment_records.specs.Messages.{mode_after}
 use Rattle.segment_records.specs.Segments.{Segment, segments_of_text}
 use Rattle.segment_records.specs.declared.mode.Mode.{Mode}
@@ -47,12 +47,6 @@ rerun_of dir text edit =
     segments_before s (edited text edit) (rerun_to dir text edit)
     - segments_before s (edited text edit) (stretch_from s text edit)
 
--- a segment opens or closes a message, a functional group or the interchange
-abbrev pub bounds_extent : Segment → Bool
-bounds_extent segment =
-    list_any (λ name. has_name name segment.tag)
-    (codes "UNT" ∷ codes "UNH" ∷ codes "UNE" ∷ codes "UNG" ∷ codes "UNZ" ∷ codes "UNB" ∷ [])
-
 -- the rerun counts no segment past the first that bounds an extent, at or past the stretch's end
 abbrev pub IsRerunBounded : Directory → Octets → Edit → Type 0
 IsRerunBounded dir text edit =
@@ -60,5 +54,5 @@ IsRerunBounded dir text edit =
     let new = edited text edit in
     let past = segments_before s new (stretch_to s text edit) in
     (i : ℕ) (segment : Segment) → slice_get (segments_of_text new) (past + i) ≡ Some segment
-    → bounds_extent segment ≡ true
+    → stops_message segment.tag ≡ true
     → rerun_of dir text edit ≤ past + i + 1 - segments_before s new (stretch_from s text edit)

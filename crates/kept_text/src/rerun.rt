@@ -2,13 +2,12 @@
 ghost use Rattle.std.specs.Prelude.{◌≡◌, ◌+◌, ◌-◌, ◌≤◌, ◌⊎◌, true, false, length, take, drop, IfOk};
 ghost use Rattle.edi_octets.specs.declared.octets.TheConstants.{LONGEST_TEXT};
 ghost use Rattle.segment_records.specs.Records.{IsModeOf};
-ghost use Rattle.segment_records.specs.WalkedSegments.{bounds_message as bounds_message_by};
+ghost use Rattle.segment_records.specs.Bounds.{bounds_message as bounds_message_by};
 ghost use Rattle.kept_text.specs.Again.{AreInner, AreOthers, StaysAfter, last_mode, placed_from};
 
 use crate::read::mode_after;
 use dir_compile::Directory;
-use edi_tables::Tag;
-use segment_records::{Mode, Record, is_named, is_no_part};
+use segment_records::{Mode, Record, bounds_message};
 use seq_tree::Seq;
 use std::alloc::{AllocError, Global};
 use std::sync::ledger::Ledger;
@@ -100,11 +99,4 @@ fn stays_after(mode: &Mode, kept: &Mode, segment: &Record) -> bool
     ensures inner { result ≡ false → bounds_message_by segment.now.tag ≡ false }
 {
     mode.same(kept) || bounds_message(segment.tag())
-}
-
-// Whether a segment with this tag opens a message, or is in none.
-fn bounds_message(tag: Option<Tag>) -> bool
-    ensures { result ≡ bounds_message_by tag }
-{
-    is_named(b"UNH", tag) || is_no_part(tag)
 }

@@ -11,7 +11,8 @@ use Rattle.segment_records.specs.Messages.{nodes_at}
 use Rattle.segment_records.specs.declared.mode.Mode.{Mode}
 use Rattle.segment_records.specs.declared.mode.Mode.TheVariants.{Within}
 use Rattle.segment_records.specs.Line.{end_lines, ends_before, fault_lines, faults_of_step, nodes_of_mode, step_lines}
-use Rattle.segment_records.specs.WalkedSegments.{SeenSegment, bounds_message}
+use Rattle.segment_records.specs.WalkedSegments.{SeenSegment}
+use Rattle.segment_records.specs.Bounds.{bounds_message}
 
 -- in a message that ends
 pub ends_within : (dir : Parts) (seen : SeenSegment) (table : ℕ) (pairs : List (ℕ × ℕ)) (nodes : List Node)

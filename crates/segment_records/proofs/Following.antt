@@ -20,7 +20,8 @@ use Rattle.segment_records.specs.declared.mode.Mode.{Mode}
 use Rattle.segment_records.specs.declared.mode.Mode.TheVariants.{Outside, Untabled, Within}
 use Rattle.segment_records.proofs.ModeLaws.{mode_belongs, steps_are_modes}
 use Rattle.segment_records.proofs.Taking.{step_inside}
-use Rattle.segment_records.specs.WalkedSegments.{Follows, LiesIn, SeenSegment, bounds_message, seen_at, seen_in}
+use Rattle.segment_records.specs.WalkedSegments.{Follows, LiesIn, SeenSegment, seen_at, seen_in}
+use Rattle.segment_records.specs.Bounds.{bounds_message}
 use Rattle.segment_records.proofs.Counts.{mode_more}
 use Rattle.segment_records.proofs.Looking.{all_enumerated, seen_is}
 use Rattle.segment_records.proofs.Stretches.{IsStretch, all_stretches, few_segments}

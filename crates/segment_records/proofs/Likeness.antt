@@ -30,7 +30,8 @@ use Rattle.segment_records.proofs.Held.{length_tags, tag_is}
 use Rattle.segment_records.proofs.ModeLaws.{steps_are_modes}
 use Rattle.segment_records.specs.Errors.{error_with, fault_line, local_lines, nodes_in, segment_lines, structure_lines}
 use Rattle.segment_records.specs.Line.{end_lines, ends_before, fault_lines, faults_of_step, lines_seen, local_seen, nodes_of_mode, step_lines, structure_seen}
-use Rattle.segment_records.specs.WalkedSegments.{SeenSegment, as_segment, bounds_message, seen_at, seen_in}
+use Rattle.segment_records.specs.WalkedSegments.{SeenSegment, as_segment, seen_at, seen_in}
+use Rattle.segment_records.specs.Bounds.{bounds_message}
 use Rattle.segment_records.proofs.Following.{stretch_in}
 use Rattle.segment_records.proofs.Looking.{all_enumerated, flat_map_alike, seen_is}
 use Rattle.segment_records.proofs.Nearby.{nodes_after, nodes_before}

@@ -18,7 +18,7 @@ use Rattle.segment_records.proofs.Sites.{site_at}
 use Rattle.segment_records.proofs.Turns.{Tests, Turn, closing, inner, leaving, opening, turn_of}
 use Rattle.segment_records.specs.Errors.{nodes_in}
 use Rattle.segment_records.specs.Line.{nodes_of_mode}
-use Rattle.segment_records.specs.WalkedSegments.{bounds_message}
+use Rattle.segment_records.specs.Bounds.{bounds_message}
 
 -- the nodes of what is open, by the position and by the mode
 open_nodes : (dir : Parts) (segments : List Segment) (i : ℕ) (held : Option ℕ)

@@ -25,7 +25,8 @@ use Rattle.segment_records.specs.declared.mode.Mode.{Mode}
 use Rattle.segment_records.specs.declared.mode.Mode.TheVariants.{Outside, Untabled, Within}
 use Rattle.segment_records.proofs.Tables.{table_is}
 use Rattle.table_walk.specs.Steps.{IsShaped, member_in}
-use Rattle.segment_records.specs.WalkedSegments.{Follows, SeenSegment, as_segment, bounds_message}
+use Rattle.segment_records.specs.WalkedSegments.{Follows, SeenSegment, as_segment}
+use Rattle.segment_records.specs.Bounds.{bounds_message}
 use Rattle.segment_records.specs.Told.{line_in_tree}
 use Rattle.segment_records.proofs.Nodes.{member_within}
 

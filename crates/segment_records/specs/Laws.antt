@@ -5,7 +5,6 @@ use Rattle.std.specs.List.{list_any}
 use Rattle.dir_compile.specs.Directory.{Directory}
 use Rattle.edi_tables.specs.Octets.{Octets}
 use Rattle.edi_tables.specs.declared.tag.Tag.{Tag}
-use Rattle.edi_tables.specs.Rows.{has_name}
 use Rattle.edi_tables.specs.Extents.{tag_in}
 use Rattle.edi_tables.specs.Pairs.{entry_in}
 use Rattle.edi_tables.specs.Walk.{missing_past}
@@ -13,6 +12,7 @@ use Rattle.seg_lexer.specs.Whole.{IsWhole, at_start}
 use Rattle.seg_lexer.specs.declared.context.Context.{Context}
 use Rattle.table_walk.specs.Errors.{Fault}
 use Rattle.table_walk.specs.Errors.Fault.{Missing, Over, Unplaced}
+use Rattle.segment_records.specs.Bounds.{bounds_message}
 use Rattle.segment_records.specs.Segments.{Segment, segments_by, tags_in}
 use Rattle.segment_records.specs.Messages.{structure_errors_at, mode_after, nodes_at}
 use Rattle.segment_records.specs.Steps.{Step, step_of, mode_from, is_named, is_no_part}
@@ -45,9 +45,7 @@ step_faults before segment step =
 -- after place i a message ends, as far as one is open there: no segment follows, or one that is not of it
 abbrev pub ends_after : List (Option Tag) → ℕ → Bool
 ends_after tags i =
-    not (nat_lt (i + 1) (length tags))
-    || list_any (λ name. has_name name (tag_in tags (i + 1)))
-    (codes "UNH" ∷ codes "UNB" ∷ codes "UNG" ∷ codes "UNE" ∷ codes "UNZ" ∷ [])
+    not (nat_lt (i + 1) (length tags)) || bounds_message (tag_in tags (i + 1))
 
 -- the nodes that are missing where a message with this mode ends without UNT
 abbrev pub missing_at_end : Directory → Mode → List ℕ

@@ -1,3 +1,4 @@
+pub mod Bounds
 pub mod Count
 pub mod Errors
 pub mod Groups

@@ -18,7 +18,8 @@ use Rattle.segment_records.specs.Steps.{Step}
 use Rattle.segment_records.specs.declared.mode.Mode.{Mode}
 use Rattle.segment_records.specs.declared.mode.Mode.TheVariants.{Outside, Untabled, Within}
 use Rattle.segment_records.specs.Errors.{error_of, fault_line, is_unknown, levels, local_line, versions}
-use Rattle.segment_records.specs.WalkedSegments.{SeenSegment, as_segment, bounds_message}
+use Rattle.segment_records.specs.Bounds.{bounds_message}
+use Rattle.segment_records.specs.WalkedSegments.{SeenSegment, as_segment}
 use Rattle.segment_records.specs.Told.{components_seen}
 
 -- the nodes of the table of a mode

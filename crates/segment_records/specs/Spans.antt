@@ -7,6 +7,7 @@ use Rattle.edi_tables.specs.Rows.{has_name}
 use Rattle.seg_lexer.specs.declared.service.Service.{Service}
 use Rattle.contrl_segments.specs.declared.summary.GroupHead.{GroupHead}
 use Rattle.contrl_segments.specs.declared.summary.MessageHead.{MessageHead}
+use Rattle.segment_records.specs.Bounds.{stops_message}
 use Rattle.segment_records.specs.WalkedSegments.{SeenSegment}
 use Rattle.segment_records.specs.Openers.{group_head_of, message_head_of}
 use Rattle.segment_records.specs.Told.{components_seen}
@@ -14,12 +15,6 @@ use Rattle.segment_records.specs.Told.{components_seen}
 -- the first of UNE, UNG, UNZ, UNB stops a group
 abbrev pub stops_group : Option Tag → Bool
 stops_group tag = list_any (λ name. has_name name tag) (codes "UNE" ∷ codes "UNG" ∷ codes "UNZ" ∷ codes "UNB" ∷ [])
-
--- the first of UNT, UNH, UNE, UNG, UNZ, UNB stops a message
-abbrev pub stops_message : Option Tag → Bool
-stops_message tag =
-    list_any (λ name. has_name name tag)
-    (codes "UNT" ∷ codes "UNH" ∷ codes "UNE" ∷ codes "UNG" ∷ codes "UNZ" ∷ codes "UNB" ∷ [])
 
 -- a segment has a number, from 1
 abbrev pub IsNumbered : SeenSegment → Type 0

@@ -1,14 +1,12 @@
 -- The segments of a text with what is worked out of their records, one after the other.
-use Rattle.std.specs.Prelude.{◌≡◌, ◌<◌, ◌≤◌, ◌+◌, ◌-◌, ℕ, Bool, false, List, [], ◌∷◌, length, slice_get, sum_by, All, Option, Some, None, codes}
-use Rattle.std.specs.List.{list_any}
+use Rattle.std.specs.Prelude.{◌≡◌, ◌<◌, ◌≤◌, ◌+◌, ◌-◌, ℕ, false, List, [], ◌∷◌, length, slice_get, sum_by, All, Option, Some, None}
 use Rattle.std.specs.Option.{option_map}
 use Rattle.dir_compile.specs.Directory.{Directory}
 use Rattle.edi_tables.specs.Octets.{Octets}
-use Rattle.edi_tables.specs.declared.tag.Tag.{Tag}
-use Rattle.edi_tables.specs.Rows.{has_name}
 use Rattle.seg_lexer.specs.Context.{context_of}
 use Rattle.seg_lexer.specs.Service.{service_of}
 use Rattle.seg_lexer.specs.declared.context.Context.{Context}
+use Rattle.segment_records.specs.Bounds.{bounds_message}
 use Rattle.segment_records.specs.Messages.{mode_after}
 use Rattle.segment_records.specs.Records.{Kept, IsModeOf, kept_from, kept_of}
 use Rattle.segment_records.specs.Segments.{Segment, segments_of_text}
@@ -79,11 +77,6 @@ pub record AreStretches (number from : ℕ) (kept : List Kept) : Type 0 where
 abbrev pub left_of : Option Kept → List Kept → List Kept
 left_of None rest = rest
 left_of (Some kept) rest = kept ∷ rest
-
--- a segment with this tag opens a message, or is in none
-abbrev pub bounds_message : Option Tag → Bool
-bounds_message tag =
-    list_any (λ name. has_name name tag) (codes "UNH" ∷ codes "UNB" ∷ codes "UNG" ∷ codes "UNE" ∷ codes "UNZ" ∷ [])
 
 -- a segment follows its mode: both are of the directory, and a segment that bounds no message takes the step in it
 pub record Follows (dir : Directory) (seen : SeenSegment) : Type 0 where

@@ -17,6 +17,6 @@ mod walked_segment;
 pub use errors::error_with;
 pub use mode::Mode;
 pub use record::{Record, SegmentPlace};
-pub use tags::{is_named, is_no_part};
+pub use tags::{bounds_message, is_named, is_no_part};
 pub use values::{copy_two, copy_value, find_table, lend_found};
 pub use walked_segment::{Segments, WalkedSegment};

@@ -2,6 +2,7 @@
 ghost use Rattle.std.specs.Prelude.{◌≡◌, ◌∷◌, [], codes};
 ghost use Rattle.std.specs.List.{list_any};
 ghost use Rattle.edi_tables.specs.Rows.{has_name};
+ghost use Rattle.segment_records.specs.Bounds.{bounds_message as bounds_message_of};
 
 use edi_tables::Tag;
 
@@ -22,4 +23,11 @@ pub fn is_no_part(tag: Option<Tag>) -> bool
         (codes "UNB" ∷ codes "UNG" ∷ codes "UNE" ∷ codes "UNZ" ∷ []) }
 {
     is_named(b"UNB", tag) || is_named(b"UNG", tag) || is_named(b"UNE", tag) || is_named(b"UNZ", tag)
+}
+
+/// Whether a segment with this tag opens a message, or is in none.
+pub fn bounds_message(tag: Option<Tag>) -> bool
+    ensures { result ≡ bounds_message_of tag }
+{
+    is_named(b"UNH", tag) || is_no_part(tag)
 }

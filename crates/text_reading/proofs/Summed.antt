@@ -32,7 +32,8 @@ use Rattle.segment_records.specs.declared.mode.Mode.{Mode}
 use Rattle.segment_records.specs.declared.mode.Mode.TheVariants.{Outside}
 use Rattle.segment_records.specs.Count.{segment_count_of}
 use Rattle.segment_records.specs.WalkedSegments.{SeenSegment, kept_in, seen_at, seen_from, seen_in}
-use Rattle.segment_records.specs.Spans.{IsNumbered, begun_by, group_by, group_spans, grouped, heads_from, message_seen, message_spans, stops_group, stops_message}
+use Rattle.segment_records.specs.Spans.{IsNumbered, begun_by, group_by, group_spans, grouped, heads_from, message_seen, message_spans, stops_group}
+use Rattle.segment_records.specs.Bounds.{stops_message}
 use Rattle.segment_records.specs.Openers.{group_head_of, message_head_of, opening_by}
 use Rattle.text_reading.specs.Summary.{group_of, groups_in, messages_in, opening_components, opening_in}
 use Rattle.segment_records.specs.Told.{components_seen}

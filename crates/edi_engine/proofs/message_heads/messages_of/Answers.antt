@@ -4,7 +4,8 @@ use Rattle.edi_tables.specs.Rows.{has_name}
 use Rattle.contrl_segments.specs.declared.summary.MessageHead.{MessageHead}
 use Rattle.segment_records.specs.Look.{seen_of}
 use Rattle.segment_records.specs.WalkedSegments.{LiesIn}
-use Rattle.segment_records.specs.Spans.{IsNumbered, grouped, message_spans, heads_from, last_by, stops_message}
+use Rattle.segment_records.specs.Spans.{IsNumbered, grouped, message_spans, heads_from, last_by}
+use Rattle.segment_records.specs.Bounds.{stops_message}
 use Rattle.text_reading.proofs.Passing.{first_all, rest_all}
 use Rattle.segment_records.proofs.Spanned.{heads_done, heads_on, heads_stop}
 use Rattle.text_reading.proofs.Summed.{few_left, few_same, grouped_next, messages_told, numbered_in}

@@ -12,3 +12,4 @@ pub mod OneOf
 pub mod Plain
 pub mod ProgramRun
 pub mod Scripted
+pub mod WrongWord

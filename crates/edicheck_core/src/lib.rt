@@ -14,6 +14,8 @@ mod program;
 mod script;
 mod tables;
 mod words;
+mod wrong_word;
 
 pub use program::{refuse_memory, run};
 pub use run_outcome::Status;
+pub use wrong_word::{Expected, WrongWord, find_wrong_word};

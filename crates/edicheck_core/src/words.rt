@@ -10,12 +10,12 @@ use edi_tables::Chunk;
 use listing_printer::Detail;
 
 /// How many messages and how many edits a drill has at most.
-const MOST_MESSAGES: u64 = 1_000;
+pub(crate) const MOST_MESSAGES: u64 = 1_000;
 
-const MOST_EDITS: u64 = 1_000;
+pub(crate) const MOST_EDITS: u64 = 1_000;
 
 /// The greatest number that a drill is made from.
-const MOST_NUMBER: u64 = 999_999_999;
+pub(crate) const MOST_NUMBER: u64 = 999_999_999;
 
 /// What is asked of a text.
 #[derive(Clone, Copy, Debug)]
@@ -257,7 +257,7 @@ fn read_with_numbers(messages: &[u8], edits: &[u8], number: &[u8]) -> Option<For
 }
 
 // The number that 1 to 19 digits give, where it is from the least to the most.
-fn read_number(word: &[u8], least: u64, most: u64) -> Option<u64>
+pub(crate) fn read_number(word: &[u8], least: u64, most: u64) -> Option<u64>
     ensures value { result ≡ number_in least most word.now }
     ensures within { IfSome result (λ n. (least ≤ n) × (n ≤ most)) }
 {

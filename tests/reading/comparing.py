@@ -62,7 +62,9 @@ def answer_of(program, made):
                                  timeout=PATIENCE, check=False)
         except subprocess.TimeoutExpired:
             return b"(no answer within %d seconds)" % PATIENCE, -1
-    return ran.stdout + ran.stderr, ran.returncode
+    # A hint for people is on standard error at these statuses; anything else there is a fault.
+    hinted = ran.returncode in (2, 4, 6) and ran.stderr.startswith(b"edicheck: ") and ran.stderr.count(b"\n") == 1
+    return ran.stdout if hinted else ran.stdout + ran.stderr, ran.returncode
 
 
 def words_told(output):

@@ -3,9 +3,14 @@
 
 ghost use Rattle.std.specs.Prelude.{◌≡◌, [], IfOk, IsUtf8};
 
-use edi_ports::{FolderShelf, StdSink, StdSource};
+mod hints;
+mod watched;
+
+use crate::hints::{hint_at_read, hint_at_script, hint_at_word};
+use crate::watched::{WatchedShelf, WatchedSource};
+use edi_ports::{FolderShelf, Shelf, Source, StdSink, StdSource};
 use edi_tables::Chunk;
-use edicheck_core::{refuse_memory, run};
+use edicheck_core::{Status, find_wrong_word, refuse_memory, run};
 use std::alloc::{AllocError, Global};
 use std::env::FillError;
 use std::process::ExitCode;
@@ -22,16 +27,38 @@ const _: () = prove!(LONGEST_NAME <= LONGEST_WORD);
 
 fn main(rt: HostRuntime) -> ExitCode {
     let alloc = rt.alloc();
-    let mut input = StdSource::new(rt.stdin());
+    let mut input = WatchedSource::new(StdSource::new(rt.stdin()));
     let mut out = StdSink::new(rt.stdout());
     let status = match read_words(&rt, alloc) {
         Ok(words) => {
-            let mut shelf = FolderShelf::new(&rt);
-            run(alloc, &words, &mut shelf, &mut input, &mut out)
+            let mut shelf = WatchedShelf::new(FolderShelf::new(&rt));
+            let status = run(alloc, &words, &mut shelf, &mut input, &mut out);
+            hint(&rt, status, &words, &shelf, &input);
+            status
         }
         Err(_) => refuse_memory(&mut out),
     };
     ExitCode::from(status.number())
+}
+
+// Says on standard error what the last line of the output doesn't, for the refusals that need it.
+fn hint<S: Shelf, I: Source>(
+    rt: &impl Eprint,
+    status: Status,
+    words: &[Chunk],
+    shelf: &WatchedShelf<S>,
+    input: &WatchedSource<I>,
+) {
+    match status {
+        Status::Words => {
+            if let Some(wrong) = find_wrong_word(words) {
+                hint_at_word(rt, wrong);
+            }
+        }
+        Status::ReadFault => hint_at_read(rt, shelf.failed()),
+        Status::BadScript => hint_at_script(rt, input.taken(), input.has_ended()),
+        _ => {}
+    }
 }
 
 // The words after the program's name. A word that isn't text, or is longer than any that counts, is an empty word,

@@ -1,0 +1,78 @@
+//! The errors of a text, and its tree.
+ghost use Rattle.std.specs.Prelude.{◌≡◌, ◌⊎◌, ◌≤◌, length, IfOk};
+ghost use Rattle.edi_octets.specs.declared.octets.TheConstants.{LONGEST_TEXT};
+ghost use Rattle.error_ledger.specs.Printing.{errors_text, tree_text};
+ghost use Rattle.text_reading.specs.Errors.{errors_of};
+ghost use Rattle.text_reading.specs.Tree.{tree_of};
+ghost use Rattle.edicheck_c.specs.Answer.{no_memory_answer};
+ghost use Rattle.edicheck_c.specs.Told.{errors_answer, errors_told, tree_answer, tree_told};
+
+use crate::answer::Answer;
+use crate::code::DONE;
+use crate::opening::open;
+use dir_compile::Directory;
+use edi_engine::Engine;
+use edi_tables::Chunk;
+use error_ledger::{print_errors, print_tree};
+use std::alloc::{AllocError, Global};
+
+/// The printed errors of a text, by the directory that a store spells.
+pub(crate) fn tell_errors(alloc: Global, store: &[u8], text: &[u8]) -> Answer
+    ensures { (result ≡ errors_answer store.now text.now) ⊎ (result ≡ no_memory_answer) }
+{
+    match open(alloc, store, text) {
+        Ok(directory) => errors_by(alloc, &directory, text),
+        Err(answer) => answer,
+    }
+}
+
+/// The printed tree of a text, by the directory that a store spells.
+pub(crate) fn tell_tree(alloc: Global, store: &[u8], text: &[u8]) -> Answer
+    ensures { (result ≡ tree_answer store.now text.now) ⊎ (result ≡ no_memory_answer) }
+{
+    match open(alloc, store, text) {
+        Ok(directory) => tree_by(alloc, &directory, text),
+        Err(answer) => answer,
+    }
+}
+
+// The printed errors of a text, by a directory.
+fn errors_by(alloc: Global, directory: &Directory, text: &[u8]) -> Answer
+    requires { length text.now ≤ LONGEST_TEXT }
+    ensures { (result ≡ errors_told text.now directory.now) ⊎ (result ≡ no_memory_answer) }
+{
+    match list_errors(alloc, directory, text) {
+        Ok(printed) => Answer::printing(DONE, printed),
+        Err(_) => Answer::no_memory(alloc),
+    }
+}
+
+// The printed tree of a text, by a directory.
+fn tree_by(alloc: Global, directory: &Directory, text: &[u8]) -> Answer
+    requires { length text.now ≤ LONGEST_TEXT }
+    ensures { (result ≡ tree_told text.now directory.now) ⊎ (result ≡ no_memory_answer) }
+{
+    match list_tree(alloc, directory, text) {
+        Ok(printed) => Answer::printing(DONE, printed),
+        Err(_) => Answer::no_memory(alloc),
+    }
+}
+
+fn list_errors(alloc: Global, directory: &Directory, text: &[u8]) -> Result<Chunk, AllocError>
+    requires { length text.now ≤ LONGEST_TEXT }
+    ensures { IfOk result
+        (λ printed. printed ≡ errors_text (errors_of directory.now text.now)) }
+{
+    let engine = Engine::read(alloc, directory, text.to_vec(alloc)?)?;
+    let errors = engine.errors(alloc)?;
+    print_errors(alloc, &errors)
+}
+
+fn list_tree(alloc: Global, directory: &Directory, text: &[u8]) -> Result<Chunk, AllocError>
+    requires { length text.now ≤ LONGEST_TEXT }
+    ensures { IfOk result (λ printed. printed ≡ tree_text (tree_of directory.now text.now)) }
+{
+    let engine = Engine::read(alloc, directory, text.to_vec(alloc)?)?;
+    let tree = engine.tree(alloc)?;
+    print_tree(alloc, &tree)
+}

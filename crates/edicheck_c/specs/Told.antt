@@ -1,5 +1,5 @@
--- What each call comes to, by the octets that it is given. Of several things that are wrong the first is answered: 1. the
--- store, the text or the script is too long; 2. the store breaks a rule; 3. the stamp; 4. the reference; 5. the UNB.
+-- What each call comes to, by the octets that it is given. Of several things that are wrong the first is answered:
+-- 1. a store, text or script that is too long; 2. a fault of the store; 3. the stamp; 4. the reference; 5. the UNB.
 use Rattle.std.specs.Prelude.{Bool, ◌&&◌, nat_le, length, Option, Some, None, Result, Ok, Err, if◌then◌else◌}
 use Rattle.std.specs.Result.{result_map_both}
 use Rattle.edi_tables.specs.Octets.{Octets}
@@ -69,7 +69,7 @@ acknowledgement_told text (Some stamp) reference directory =
     if is_reference_of reference then contrl_told (contrl_to directory text stamp reference)
     else refusing code.BAD_REFERENCE 0
 
--- the acknowledgement of a text, by the directory that a store spells, with the stamp and the reference that these words are
+-- the acknowledgement of a text, by the directory that a store spells, with the stamp and the reference in two words
 abbrev pub contrl_answer : Octets → Octets → Octets → Octets → Answer
 contrl_answer store text stamp reference =
     told_by (acknowledgement_told text (stamp_in stamp) reference) (opened_by_store store text)

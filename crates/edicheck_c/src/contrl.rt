@@ -40,7 +40,8 @@ fn acknowledge(
     reference: &[u8],
 ) -> Answer
     requires { length text.now ≤ LONGEST_TEXT }
-    ensures { (result ≡ acknowledgement_told text.now (stamp_in stamp.now) reference.now directory.now)
+    ensures { (result
+        ≡ acknowledgement_told text.now (stamp_in stamp.now) reference.now directory.now)
         ⊎ (result ≡ no_memory_answer) }
 {
     let Some(stamp) = read_stamp(stamp) else {

@@ -17,10 +17,6 @@ use crate::answer::hand_out;
 use crate::check::{tell_errors, tell_tree};
 use crate::contrl::tell_contrl;
 use crate::script::tell_script;
-pub use code::{
-    BAD_REFERENCE, BAD_SCRIPT, BAD_STAMP, BAD_STORE, BAD_UNB, DONE, NO_MEMORY, NO_ROOM, NO_UNB,
-    TOO_LONG,
-};
 use std::alloc::Global;
 
 /// The printed errors of a text, by the directory that a store spells.

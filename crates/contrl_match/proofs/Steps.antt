@@ -16,7 +16,7 @@ use Rattle.contrl_segments.specs.declared.summary.MessageHead.{MessageHead}
 use Rattle.contrl_segments.specs.declared.summary.Summary.{Summary}
 use Rattle.segment_records.specs.Segments.{Segment, tags_in, value_in}
 use Rattle.contrl_match.specs.Passes.{first_spot, spot_after, told_from}
-use Rattle.contrl_match.specs.Spots.{Spot, group_before, group_named, last_before, message_before, message_named, first_component_in, segment_before, segment_placed, spot_at}
+use Rattle.contrl_match.specs.Spots.{Spot, group_before, group_named, last_before, message_before, message_named, first_value_in, segment_before, segment_placed, spot_at}
 use Rattle.contrl_match.specs.Telling.{all_told, first_lost, told_at, told_of, told_with}
 use Rattle.contrl_match.specs.declared.finding.Finding.{Finding}
 
@@ -44,7 +44,7 @@ abbrev components_found : Option Segment → List Component
 components_found o = elim o [ None ↦ [] | Some segment ↦ segment.components ]
 
 module _ (segments : List Segment) (i : ℕ) (x : Segment) (at : slice_get segments i ≡ Some x) where
-  name-at : first_component_in segments i ≡ value_in x.components 1 1
+  name-at : first_value_in segments i ≡ value_in x.components 1 1
   name-at = ap (λ (o : Option Segment). value_in (components_found o) 1 1) at
 
   last-step : (name : Octets) → last_before name segments (i + 1) ≡ cond (has_name name x.tag) (Some i) (last_before name segments i)
@@ -84,21 +84,21 @@ module _ (s : Summary) (segments : List Segment) (i : ℕ) (x : Segment) (at : s
 
   group-step : group_before s segments (i + 1) ≡ cond (has_name (codes "UCF") x.tag) (option_map (λ p. p.0) (group_named s.groups value)) (group_before s segments i)
   group-step =
-      let f : ℕ → Option ℕ = λ j. option_map (λ p. p.0) (group_named s.groups (first_component_in segments j)) in
+      let f : ℕ → Option ℕ = λ j. option_map (λ p. p.0) (group_named s.groups (first_value_in segments j)) in
       ap (option_and_then f) (last-step segments i x at (codes "UCF"))
       ∙ chosen f (has_name (codes "UCF") x.tag) i (last_before (codes "UCF") segments i) (option_map (λ p. p.0) (group_named s.groups value))
       (ap (λ (v : Octets). option_map (λ p. p.0) (group_named s.groups v)) (name-at segments i x at))
 
   message-step : message_before s segments (i + 1) ≡ cond (has_name (codes "UCM") x.tag) (message_named s.messages (group_before s segments i) value) (message_before s segments i)
   message-step =
-      let f : ℕ → Option MessageHead = λ j. message_named s.messages (group_before s segments j) (first_component_in segments j) in
+      let f : ℕ → Option MessageHead = λ j. message_named s.messages (group_before s segments j) (first_value_in segments j) in
       ap (option_and_then f) (last-step segments i x at (codes "UCM"))
       ∙ chosen f (has_name (codes "UCM") x.tag) i (last_before (codes "UCM") segments i) (message_named s.messages (group_before s segments i) value)
       (ap (λ (v : Octets). message_named s.messages (group_before s segments i) v) (name-at segments i x at))
 
   segment-step : segment_before s segments (i + 1) ≡ cond (has_name (codes "UCS") x.tag) (option_and_then (segment_placed value) (message_before s segments i)) (segment_before s segments i)
   segment-step =
-      let f : ℕ → Option ℕ = λ j. option_and_then (segment_placed (first_component_in segments j)) (message_before s segments j) in
+      let f : ℕ → Option ℕ = λ j. option_and_then (segment_placed (first_value_in segments j)) (message_before s segments j) in
       ap (option_and_then f) (last-step segments i x at (codes "UCS"))
       ∙ chosen f (has_name (codes "UCS") x.tag) i (last_before (codes "UCS") segments i) (option_and_then (segment_placed value) (message_before s segments i))
       (ap (λ (v : Octets). option_and_then (segment_placed v) (message_before s segments i)) (name-at segments i x at))

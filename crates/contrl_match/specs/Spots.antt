@@ -44,25 +44,25 @@ abbrev pub components_in : List Segment → ℕ → List Component
 components_in segments i = elim (slice_get segments i) [ None ↦ [] | Some segment ↦ segment.components ]
 
 -- its first component of element 1: a reference, or a position
-abbrev pub first_component_in : List Segment → ℕ → Octets
-first_component_in segments i = value_in (components_in segments i) 1 1
+abbrev pub first_value_in : List Segment → ℕ → Octets
+first_value_in segments i = value_in (components_in segments i) 1 1
 
 -- the group of the last UCF before place i; none where there is no UCF, or it leads to no group
 abbrev pub group_before : Summary → List Segment → ℕ → Option ℕ
 group_before s segments i =
-    option_and_then (λ j. option_map (λ p. p.0) (group_named s.groups (first_component_in segments j)))
+    option_and_then (λ j. option_map (λ p. p.0) (group_named s.groups (first_value_in segments j)))
     (last_before (codes "UCF") segments i)
 
 -- the message of the last UCM before place i, among those of the group of the last UCF before that UCM
 abbrev pub message_before : Summary → List Segment → ℕ → Option MessageHead
 message_before s segments i =
-    option_and_then (λ j. message_named s.messages (group_before s segments j) (first_component_in segments j))
+    option_and_then (λ j. message_named s.messages (group_before s segments j) (first_value_in segments j))
     (last_before (codes "UCM") segments i)
 
 -- the segment of the last UCS before place i, in the message of the last UCM before that UCS
 abbrev pub segment_before : Summary → List Segment → ℕ → Option ℕ
 segment_before s segments i =
-    option_and_then (λ j. option_and_then (segment_placed (first_component_in segments j)) (message_before s segments j))
+    option_and_then (λ j. option_and_then (segment_placed (first_value_in segments j)) (message_before s segments j))
     (last_before (codes "UCS") segments i)
 
 -- what a segment of an acknowledgement is about, by those before it: a group, a message, and a segment

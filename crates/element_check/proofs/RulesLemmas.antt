@@ -73,7 +73,7 @@ service_parts-few : (version : ℕ) (code : List ℕ) (o : Option (List PartDef)
 unfolding service_parts_of
 service_parts-few version code None found = lit≤ tt
 service_parts-few version code (Some parts) found =
-    let most : nat_le (length parts) 99 ≡ true = held_by-passes composite_name (λ composite. composite.parts) (λ xs. nat_le (length xs) 99) service_composites code parts refl found in
+    let most : nat_le (length parts) 99 ≡ true = held_by-passes composite_name (λ composite. composite.parts) (λ xs. nat_le (length xs) 99) (service_composites version) code parts refl found in
     grind (arith, nat_tests)
 
 defined_parts-few : (parts : Parts) (code : List ℕ) (o : Option CompositeDef) → IsDirectory parts → named_in composite_name parts.composites code ≡ o

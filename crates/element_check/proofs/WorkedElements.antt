@@ -38,10 +38,14 @@ directory = record {
   messages = [];
 }
 
--- the errors of a segment at a level
+-- the errors of a segment at a level, in a version of the syntax
+abbrev errors_at : Level → ℕ → List ℕ → List LocalError
+errors_at level version segment =
+    local_errors_of directory (record { service = default_service; level = level; version = version }) (components_of (separators_of default_service) segment)
+
+-- the same in version 3
 abbrev errors_in : Level → List ℕ → List LocalError
-errors_in level segment =
-    local_errors_of directory (record { service = default_service; level = level; version = 3 }) (components_of (separators_of default_service) segment)
+errors_in level segment = errors_at level 3 segment
 
 -- neither `-` nor a mark counts in the length of a number
 errors-number : errors_in B (codes "LIN+-12,5000") ≡ []
@@ -117,3 +121,18 @@ errors-tag = refl
 errors-unknown : errors_in B (codes "XYZ+1") ≡ error_at 0 0 UnknownSegment ∷ []
 unfolding local_errors_of elements_errors element_errors rules_of parts_of list_of is_in_level_a is_decimal service_items_of service_parts_of tag_of fields_of value_of places_that stretches is_released run_before
 errors-unknown = refl
+
+-- a date has six digits in version 3
+errors-group_date : errors_at B 3 (codes "UNG+ORDERS+A+B+19960105:0930+1+UN+D:96A") ≡ error_at 4 1 TooLong ∷ []
+unfolding local_errors_of elements_errors element_errors rules_of parts_of list_of is_in_level_a is_decimal service_items_of service_parts_of tag_of fields_of value_of places_that stretches is_released run_before
+errors-group_date = refl
+
+-- and eight in version 4
+errors-group_date_of_version_4 : errors_at B 4 (codes "UNG+ORDERS+A+B+19960105:0930+1+UN+D:96A") ≡ []
+unfolding local_errors_of elements_errors element_errors rules_of parts_of list_of is_in_level_a is_decimal service_items_of service_parts_of tag_of fields_of value_of places_that stretches is_released run_before
+errors-group_date_of_version_4 = refl
+
+-- where six are too few
+errors-date_of_version_4 : errors_at B 4 (codes "UNB+UNOB:4+A+B+960105:0930+R") ≡ error_at 4 1 TooShort ∷ []
+unfolding local_errors_of elements_errors element_errors rules_of parts_of list_of is_in_level_a is_decimal service_items_of service_parts_of tag_of fields_of value_of places_that stretches is_released run_before
+errors-date_of_version_4 = refl

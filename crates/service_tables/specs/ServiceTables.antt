@@ -1,5 +1,5 @@
 -- The service segments, their composites, and the segment table of CONTRL.
-use Rattle.std.specs.Prelude.{ℕ, Bool, true, false, List, [], ◌∷◌, Option, Some, None, codes, if◌then◌else◌}
+use Rattle.std.specs.Prelude.{ℕ, ◌==◌, Bool, true, false, List, [], ◌∷◌, Option, Some, None, codes, if◌then◌else◌}
 use Rattle.std.specs.Str.{bytes_eq}
 use Rattle.edi_tables.specs.Octets.{Octets}
 use Rattle.edi_tables.specs.declared.element.Class.{Class}
@@ -57,9 +57,13 @@ composite_of code parts = record { code = record { octets = code }; parts = part
 abbrev pub segment_of : Octets → List ItemDef → SegmentDef
 segment_of tag items = record { tag = record { octets = tag }; items = items }
 
--- the composites of the service segments, with their components in order
-abbrev pub service_composites : List CompositeDef
-service_composites =
+-- the length of a date (0017) in a version of the syntax: the year has four digits in version 4, and two before it
+abbrev pub date_length : ℕ → Length
+date_length version = exactly (if version == 4 then 8 else 6)
+
+-- the composites of the service segments in a version of the syntax, with their components in order
+abbrev pub service_composites : ℕ → List CompositeDef
+service_composites version =
     composite_of (codes "S001") (
     part (codes "0001") A (exactly 4) M ∷
     part (codes "0002") N (exactly 1) M ∷ [])
@@ -72,7 +76,7 @@ service_composites =
     part (codes "0007") An (up_to 4) C ∷
     part (codes "0014") An (up_to 14) C ∷ [])
     ∷ composite_of (codes "S004") (
-    part (codes "0017") N (exactly 6) M ∷
+    part (codes "0017") N (date_length version) M ∷
     part (codes "0019") N (exactly 4) M ∷ [])
     ∷ composite_of (codes "S005") (
     part (codes "0022") An (up_to 14) M ∷
@@ -210,8 +214,7 @@ held_by name value (x ∷ xs) wanted =
 unfoldable pub service_items_of : Octets → Option (List ItemDef)
 service_items_of tag = held_by (λ segment. segment.tag.octets) (λ segment. segment.items) service_segments tag
 
--- the components of a composite of the service segments in a version of the syntax, if there is one of that code: all
--- versions have the same
+-- the components of a composite of the service segments in a version of the syntax, if there is one of that code
 unfoldable pub service_parts_of : ℕ → Octets → Option (List PartDef)
 service_parts_of version code =
-    held_by (λ composite. composite.code.octets) (λ composite. composite.parts) service_composites code
+    held_by (λ composite. composite.code.octets) (λ composite. composite.parts) (service_composites version) code

@@ -1,5 +1,5 @@
 //! The service segments.
-ghost use Rattle.std.specs.Prelude.{◌≡◌, true, IfSome};
+ghost use Rattle.std.specs.Prelude.{ℕ, ◌≡◌, true, IfSome};
 ghost use Rattle.std.specs.List.{list_all};
 ghost use Rattle.std.specs.Option.{option_copied};
 ghost use Rattle.service_tables.specs.ServiceTables.{service_items_of};
@@ -81,11 +81,13 @@ const UCS: &[ItemDef] = &[alone!(b"0096" N..6 M), alone!(b"0085" An..3 C)];
 
 const UCD: &[ItemDef] = &[alone!(b"0085" An..3 M), composite!(b"S011" M)];
 
-/// The data elements of a service segment in order, if there is one of that tag. Each composite of them is a service composite.
+/// The data elements of a service segment in order, if there is one of that tag. Each composite of them is a service
+/// composite of each version of the syntax.
 #[tactic(auto, unfolding(crate::specs::ServiceTables::service_items_of, crate::specs::ServiceTables::service_parts_of))]
 pub fn service_segment(tag: Tag) -> Option<&'static [ItemDef]>
     ensures items { option_copied result ≡ service_items_of tag.octets }
-    ensures sound { IfSome result (λ items. list_all is_sound_item items.now ≡ true) }
+    ensures sound { IfSome result (λ items.
+        (version : ℕ) → list_all (is_sound_item version) items.now ≡ true) }
 {
     match &tag.octets {
         b"UNB" => Some(UNB),

@@ -1,5 +1,5 @@
 -- The octets of an acknowledgement have no error.
-use Rattle.std.proofs.Common.{◌≡◌, ◌⊎◌, ℕ, suc, ◌+◌, ◌<◌, Bool, true, false, cond, Option, Some, None, List, [], ◌∷◌, ◌++◌, map, length, refl, sym, ap, ◌∙◌, inl, inr, subst, arith, lt-ltb}
+use Rattle.std.proofs.Common.{◌≡◌, ◌⊎◌, ℕ, suc, ◌+◌, ◌<◌, Bool, true, false, cond, eqb, Option, Some, None, List, [], ◌∷◌, ◌++◌, map, length, refl, sym, ap, ◌∙◌, inl, inr, subst, arith, lt-ltb}
 use Rattle.std.specs.Prelude.{All, IfOk, IsTrue, Result, Ok, Err, codes, decimal, is_some, slice_get}
 use Rattle.std.specs.List.{enumerate_from, flat_map}
 use Rattle.std.specs.Str.{bytes_eq}
@@ -158,6 +158,11 @@ known_version n (inl is) = ap (λ (m : ℕ). is_unknown (decimal m) versions) is
 known_version n (inr (inl is)) = ap (λ (m : ℕ). is_unknown (decimal m) versions) is ∙ ap (λ (v : List ℕ). is_unknown v versions) (decimal_digit 2 (omega arith))
 known_version n (inr (inr is)) = ap (λ (m : ℕ). is_unknown (decimal m) versions) is ∙ ap (λ (v : List ℕ). is_unknown v versions) (decimal_digit 3 (omega arith))
 
+version_before : (n : ℕ) → IsVersion n → eqb n 4 ≡ false
+version_before n (inl is) = ap (λ (m : ℕ). eqb m 4) is
+version_before n (inr (inl is)) = ap (λ (m : ℕ). eqb m 4) is
+version_before n (inr (inr is)) = ap (λ (m : ℕ). eqb m 4) is
+
 version_by : (one two : Bool) → IsVersion (cond one 1 (cond two 2 3))
 version_by true two = inl refl
 version_by false true = inr (inl refl)
@@ -195,7 +200,7 @@ module _ (dir : Parts) (directory : IsDirectory dir) (level : Level) (version : 
   context_is = context-back shape.first (unh ∷ shape.head ∷ (shape.rest ++ unt (length shape.rest + 3) ∷ unz own ∷ [])) octets back level shape.first_tag shape.word
 
   lawful : Each (IsLawful (context_of octets)) canonical
-  lawful = subst (λ (context : Context). Each (IsLawful context) canonical) (sym context_is) (shape.lawful version_back)
+  lawful = subst (λ (context : Context). Each (IsLawful context) canonical) (sym context_is) (shape.lawful version_back (version_before version_back (version_is (octets_at 1 2 (components_read shape.first)))))
 
   local_none : Each (λ (s : Segment). local_errors_of dir (context_of octets) s.components ≡ []) segments
   local_none = free_each dir (context_of octets) segments canonical are_read lawful

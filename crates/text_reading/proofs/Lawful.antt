@@ -306,14 +306,17 @@ module _ (level : Level) (read_version version : ℕ) where
   abbrev own_context : Context
   own_context = context_with level read_version
 
-  pub unb_lawful : (sender recipient : Party) (stamp : Stamp) (own : List ℕ) → version < 10 → IsGoodParty own_context sender → IsGoodParty own_context recipient
+  -- a date has six digits, so it is that of a version before 4
+  pub unb_lawful : (sender recipient : Party) (stamp : Stamp) (own : List ℕ) → version < 10 → eqb read_version 4 ≡ false → IsGoodParty own_context sender → IsGoodParty own_context recipient
       → has_digits 6 stamp.date ≡ true → has_digits 4 stamp.time ≡ true → is_reference_of own ≡ true → IsLawful own_context (unb (syntax_identifier level version) sender recipient stamp own)
   unfolding service_items_of service_parts_of
-  unb_lawful sender recipient stamp own small one two date time is =
+  unb_lawful sender recipient stamp own small before one two date time is =
       let level_is = level_good level read_version in
       let version_is : IsGoodValue own_context true (exactly N 1) (decimal version) =
       let number = decimal_number 1 version (omega arith) (omega arith) (omega arith) in number_good own_context true true 1 (decimal version) number (λ need. number.some) in
-      let date_is : IsGoodValue own_context true (exactly N 6) stamp.date = number_good own_context true true 6 stamp.date (stamp_number 6 stamp.date date (omega arith)) (λ need. stamp_long 6 stamp.date date) in
+      let six_is : IsGoodValue own_context true (exactly N 6) stamp.date = number_good own_context true true 6 stamp.date (stamp_number 6 stamp.date date (omega arith)) (λ need. stamp_long 6 stamp.date date) in
+      let date_is : IsGoodValue own_context true (exactly N (cond (eqb read_version 4) 8 6)) stamp.date =
+      subst (λ (b : Bool). IsGoodValue own_context true (exactly N (cond b 8 6)) stamp.date) (sym before) six_is in
       let time_is : IsGoodValue own_context true (exactly N 4) stamp.time = number_good own_context true true 4 stamp.time (stamp_number 4 stamp.time time (omega arith)) (λ need. stamp_long 4 stamp.time time) in
       record {
         tag = refl;

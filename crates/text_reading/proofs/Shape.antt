@@ -1,5 +1,5 @@
 -- The form of an acknowledgement: UNB, UNH, UCI, the lower segments, UNT and UNZ.
-use Rattle.std.proofs.Common.{◌≡◌, ℕ, ◌+◌, ◌<◌, ◌≤◌, true, false, Option, Some, None, List, [], ◌∷◌, ◌++◌, get_or, length, take, refl, sym, ap, ◌∙◌, subst, arith, length-take, append_assoc}
+use Rattle.std.proofs.Common.{◌≡◌, ℕ, ◌+◌, ◌<◌, ◌≤◌, true, false, eqb, Option, Some, None, List, [], ◌∷◌, ◌++◌, get_or, length, take, refl, sym, ap, ◌∙◌, subst, arith, length-take, append_assoc}
 use Rattle.std.specs.Prelude.{codes, decimal}
 use Rattle.std.proofs.lemmas.List.{take-map}
 use Rattle.edi_octets.specs.Profile.{has_digits}
@@ -40,7 +40,7 @@ pub record IsShaped (level : Level) (version : ℕ) (own : List ℕ) (segments :
   pub head_tag : head.tag ≡ codes "UCI"
   pub walks : Accepts false AtHead (tags_of rest)
   pub few : length rest ≤ 99000
-  pub lawful : (read : ℕ) → Each (IsLawful (context_with level read)) (shaped first head rest own)
+  pub lawful : (read : ℕ) → eqb read 4 ≡ false → Each (IsLawful (context_with level read)) (shaped first head rest own)
 
 front_walks : (n : ℕ) (ws : List Segment) → Accepts false AtHead (tags_of ws) → Accepts false AtHead (tags_of (take n ws))
 front_walks n ws walks = subst (Accepts false AtHead) (take-map (λ (w : Segment). w.tag) n ws) (accepts-take n false AtHead (tags_of ws) walks)
@@ -77,9 +77,9 @@ module _ (level : Level) (version : ℕ) (sender recipient : Party) (reference :
     head_tag = tag;
     walks = walks;
     few = few;
-    lawful = λ read.
+    lawful = λ read before.
         let context = context_with level read in (
-          unb_lawful level read version sender recipient stamp own small (opening.sender_good read) (opening.recipient_good read) date time own_is,
+          unb_lawful level read version sender recipient stamp own small before (opening.sender_good read) (opening.recipient_good read) date time own_is,
           (
             unh_lawful context,
             (

@@ -5,6 +5,7 @@ use Rattle.std.specs.List.{enumerate_from, flat_map, list_any}
 use Rattle.std.proofs.Math.Seq.{take-length}
 use Rattle.std.proofs.lemmas.Bool.{cases_Bool, ne_eqb, not-true, or_parts}
 use Rattle.std.proofs.lemmas.Bool.Decides.{nat_tests}
+use Rattle.std.proofs.lemmas.List.{append_assoc}
 use Rattle.edi_tables.specs.Rows.{when}
 use Rattle.edi_tables.specs.Tag.{is_tag_of}
 use Rattle.edi_tables.specs.declared.element.CodeList.{CodeList}
@@ -13,9 +14,9 @@ use Rattle.edi_tables.specs.declared.element.Repr.{Repr}
 use Rattle.error_ledger.specs.declared.kind.Kind.{Kind}
 use Rattle.error_ledger.specs.declared.kind.Kind.TheVariants.{Missing, Repertoire, WrongType, Decimal, TooLong, TooShort}
 use Rattle.dir_compile.specs.declared.parts.Parts.{Parts}
-use Rattle.seg_lexer.specs.Fields.{Component, PlacedComponent, component_in, element_in, stretches, is_cut, unplaced}
+use Rattle.seg_lexer.specs.Fields.{Component, PlacedComponent, component_in, components_in, element_in, is_cut, is_repeat, repetition_in, stretches, unplaced}
 use Rattle.seg_lexer.specs.Stretch.{places_that}
-use Rattle.seg_lexer.specs.Place.{fields_after, fields_from}
+use Rattle.seg_lexer.specs.Place.{fields_after, fields_from, repetitions_after}
 use Rattle.seg_lexer.specs.Tag.{tag_in, tag_of}
 use Rattle.seg_lexer.specs.Fields.{IsInOrder}
 use Rattle.seg_lexer.specs.declared.context.Context.{Context}
@@ -52,31 +53,41 @@ module _ (element : ℕ) (x : Component) (xs : List Component) where
   after-here is = ap (λ (b : Bool). cond b (after_front element xs) (x ∷ xs)) (same_number x.element element is)
 
 -- a component that is to come belongs to the element whose number its place has
-module _ (release : Option ℕ) (xs : List ℕ) (element n : ℕ) (other : eqb element n ≡ false) where
-  first-of : (c a b : ℕ) (cuts : List ℕ) (rest : List PlacedComponent)
-      → front_values n (map unplaced (map (component_in release xs element) (enumerate_from c (stretches a cuts b)) ++ rest)) ≡ []
+module _ (sp : Separators) (xs : List ℕ) (element n : ℕ) (other : eqb element n ≡ false) where
+  first-of : (r c a b : ℕ) (cuts : List ℕ) (rest : List PlacedComponent)
+      → front_values n (map unplaced (map (component_in sp.release xs element r) (enumerate_from c (stretches a cuts b)) ++ rest)) ≡ []
   unfolding stretches
-  first-of c a b [] rest =
-      let x : PlacedComponent = component_in release xs element (c, record { from = a; to = b }) in
+  first-of r c a b [] rest =
+      let x : PlacedComponent = component_in sp.release xs element r (c, record { from = a; to = b }) in
       ap (λ (v : Bool). cond v (x.octets ∷ front_values n (map unplaced rest)) []) other
-  first-of c a b (k ∷ cuts) rest =
-      let x : PlacedComponent = component_in release xs element (c, record { from = a; to = k }) in
-      let later : List PlacedComponent = map (component_in release xs element) (enumerate_from (c + 1) (stretches (k + 1) cuts b)) ++ rest in
+  first-of r c a b (k ∷ cuts) rest =
+      let x : PlacedComponent = component_in sp.release xs element r (c, record { from = a; to = k }) in
+      let later : List PlacedComponent = map (component_in sp.release xs element r) (enumerate_from (c + 1) (stretches (k + 1) cuts b)) ++ rest in
       ap (λ (v : Bool). cond v (x.octets ∷ front_values n (map unplaced later)) []) other
 
-module _ (sp : Separators) (xs : List ℕ) (element n : ℕ) (other : eqb element n ≡ false) where
-  first-from : (c a b : ℕ) (cuts : List ℕ) → front_values n (map unplaced (fields_after sp xs c (enumerate_from element (stretches a cuts b)))) ≡ []
+  first-repetition : (r c a b : ℕ) (cuts : List ℕ) (rest : List PlacedComponent)
+      → front_values n (map unplaced (repetitions_after sp xs element c (enumerate_from r (stretches a cuts b)) ++ rest)) ≡ []
   unfolding stretches
-  first-from c a b [] = first-of sp.release xs element n other c a b (places_that (is_cut sp.release xs sp.component) a b) []
-  first-from c a b (k ∷ cuts) =
-      first-of sp.release xs element n other c a k (places_that (is_cut sp.release xs sp.component) a k)
+  first-repetition r c a b [] rest =
+      ap (λ (fs : List PlacedComponent). front_values n (map unplaced fs)) (append_assoc (components_in sp xs element r c (record { from = a; to = b })) [] rest)
+      ∙ first-of r c a b (places_that (is_cut sp.release xs sp.component) a b) rest
+  first-repetition r c a b (k ∷ cuts) rest =
+      let later : List PlacedComponent = flat_map (repetition_in sp xs element) (enumerate_from (r + 1) (stretches (k + 1) cuts b)) in
+      ap (λ (fs : List PlacedComponent). front_values n (map unplaced fs)) (append_assoc (components_in sp xs element r c (record { from = a; to = k })) later rest)
+      ∙ first-of r c a k (places_that (is_cut sp.release xs sp.component) a k) (later ++ rest)
+
+  first-from : (r c a b : ℕ) (cuts : List ℕ) → front_values n (map unplaced (fields_after sp xs r c (enumerate_from element (stretches a cuts b)))) ≡ []
+  unfolding stretches
+  first-from r c a b [] = first-repetition r c a b (places_that (is_repeat sp xs element) a b) []
+  first-from r c a b (k ∷ cuts) =
+      first-repetition r c a k (places_that (is_repeat sp xs element) a k)
       (flat_map (element_in sp xs) (enumerate_from (element + 1) (stretches (k + 1) cuts b)))
 
 -- none of an element is next where the next one begins another
 pub front-other : (sp : Separators) (xs : List ℕ) (s : Start) (n : ℕ) → s.element ≢ n → front_values n (plain_rest sp xs (Some s)) ≡ []
 unfolding fields_from
 front-other sp xs s n other =
-    first-from sp xs s.element n (ne_eqb _ _ other) s.component s.at (length xs) (places_that (is_cut sp.release xs sp.element) s.at (length xs))
+    first-from sp xs s.element n (ne_eqb _ _ other) 1 s.component s.at (length xs) (places_that (is_cut sp.release xs sp.element) s.at (length xs))
 
 -- the tag field is one component, which is a tag
 pub tagged : (components : List Component) (t : List ℕ) → IsInOrder 0 components → front_values 0 components ≡ t ∷ [] → is_tag_of t ≡ true → tag_of components ≡ Some t

@@ -1,4 +1,4 @@
--- The components of a segment that has no release character.
+-- The components of a segment that has neither release character nor repetition separator.
 use Rattle.std.proofs.Common.{◌≡◌, ◌≢◌, ℕ, zero, suc, ◌+◌, ◌<◌, ◌≤◌, eqb, Bool, true, false, not, ◌&&◌, ◌||◌, List, [], ◌∷◌, ◌++◌, take, drop, get_or, length, Some, None, sym, ap, ◌∙◌, inl, inr, ⊎_elim, arith}
 use Rattle.std.proofs.Math.Nat.{eq-or-lt_of_le}
 use Rattle.std.specs.Prelude.{map}
@@ -7,12 +7,13 @@ use Rattle.std.proofs.lemmas.Bool.{and_from, and_parts, cases_Bool, eq-eqb, eqb-
 use Rattle.std.proofs.lemmas.List.Edits.{split_between}
 use Rattle.std.proofs.lemmas.List.Folds.{list_any-append, list_any_at}
 use Rattle.memchr.specs.Find.{NoneBefore, Nowhere}
-use Rattle.seg_lexer.specs.Fields.{Component, components_of, is_cut, unplaced}
+use Rattle.seg_lexer.specs.Fields.{Component, components_of, is_cut, is_repeat, is_separator, unplaced}
 use Rattle.seg_lexer.specs.Released.{is_release, is_released, value_of}
 use Rattle.seg_lexer.specs.Place.{fields_from}
 use Rattle.seg_lexer.specs.declared.service.Separators.{Separators}
 use Rattle.seg_lexer.proofs.FieldsLemmas.{fields_from-component, fields_from-element, fields_from-last, fields_of-from}
 use Rattle.seg_lexer.proofs.ForwardLemmas.{value_of-all}
+use Rattle.seg_lexer.proofs.RepeatLemmas.{no-repeat}
 use Rattle.seg_lexer.proofs.ReleasedLemmas.{is_released-more, is_released-start}
 use Rattle.clean_segments.specs.Start.{IsSeparator, IsStart, plain_rest}
 use Rattle.clean_segments.specs.declared.fields.Start.{Start}
@@ -28,7 +29,7 @@ first-stands xs = record { within = omega arith; element = omega arith; componen
 pub from-first : (sp : Separators) (xs : List ℕ) → plain_rest sp xs (Some first) ≡ components_of sp xs
 from-first sp xs = ap (map unplaced) (fields_of-from sp xs)
 
-module _ (sp : Separators) (xs : List ℕ) (plain : list_any (is_release sp.release) xs ≡ false) where
+module _ (sp : Separators) (xs : List ℕ) (plain : list_any (is_release sp.release) xs ≡ false) (single : list_any (is_separator sp.repetition) xs ≡ false) where
   no-release : (i : ℕ) → i < length xs → is_release sp.release (get_or xs i 0) ≡ false
   no-release i within = elim (cases_Bool (is_release sp.release (get_or xs i 0))) [
     | inl is ↦ absurd (both_ways _ plain (list_any_at (is_release sp.release) xs i 0 within is))
@@ -58,6 +59,9 @@ module _ (sp : Separators) (xs : List ℕ) (plain : list_any (is_release sp.rele
   no-cut : (separator a b : ℕ) → ((k : ℕ) → a ≤ k → k < b → get_or xs k 0 ≡ separator → ⊥) → Nowhere (λ i. is_cut sp.release xs separator i ≡ true) a b
   no-cut separator a b none k low high cut = none k low high (eqb-true _ _ (and_parts _ _ cut).0)
 
+  none-repeats : (element a b : ℕ) → b ≤ length xs → Nowhere (λ i. is_repeat sp xs element i ≡ true) a b
+  none-repeats element a b within k low high is = both_ways _ (no-repeat sp xs element single k (omega arith)) is
+
   a-cut : (separator j : ℕ) → j < length xs → get_or xs j 0 ≡ separator → is_cut sp.release xs separator j ≡ true
   a-cut separator j within is = and_from _ _ (eq-eqb _ _ is) (ap not (unreleased j (omega arith)))
 
@@ -67,8 +71,9 @@ module _ (sp : Separators) (xs : List ℕ) (plain : list_any (is_release sp.rele
   -- the last component
   pub plain-last : (s : Start) → s.at ≤ length xs → Nowhere (IsSeparator sp xs) s.at (length xs) → plain_rest sp xs (Some s) ≡ component s (length xs) ∷ plain_rest sp xs None
   plain-last s within none =
-      ap (map unplaced) (fields_from-last sp xs s.element s.component s.at
+      ap (map unplaced) (fields_from-last sp xs s.element 1 s.component s.at
       (no-cut sp.element s.at (length xs) (λ k low high is. none k low high (inl is)))
+      (none-repeats s.element s.at (length xs) (omega arith))
       (no-cut sp.component s.at (length xs) (λ k low high is. none k low high (inr is))))
       ∙ ap (λ (ys : List ℕ). record { element = s.element; repetition = 1; component = s.component; octets = ys } ∷ []) (kept s.at (length xs) within)
 
@@ -83,8 +88,10 @@ module _ (sp : Separators) (xs : List ℕ) (plain : list_any (is_release sp.rele
     pub plain-element : (p : Start) → get_or xs j 0 ≡ sp.element → p ≡ record { at = j + 1; element = s.element + 1; component = 1 }
         → plain_rest sp xs (Some s) ≡ component s j ∷ plain_rest sp xs (Some p)
     plain-element p is p_is =
-        ap (map unplaced) (fields_from-element sp xs s.element s.component s.at j before.low before.high no-element no-component (a-cut sp.element j before.high is))
-        ∙ ap (λ (ys : List ℕ). record { element = s.element; repetition = 1; component = s.component; octets = ys } ∷ map unplaced (fields_from sp xs (s.element + 1) 1 (j + 1))) (kept s.at j before.low)
+        let high = before.high in
+        let within : j ≤ length xs = omega arith in
+        ap (map unplaced) (fields_from-element sp xs s.element 1 s.component s.at j before.low before.high no-element (none-repeats s.element s.at j within) no-component (a-cut sp.element j before.high is))
+        ∙ ap (λ (ys : List ℕ). record { element = s.element; repetition = 1; component = s.component; octets = ys } ∷ map unplaced (fields_from sp xs (s.element + 1) 1 1 (j + 1))) (kept s.at j before.low)
         ∙ sym (ap (λ (q : Start). component s j ∷ plain_rest sp xs (Some q)) p_is)
 
     -- a component before another one of its element
@@ -99,8 +106,8 @@ module _ (sp : Separators) (xs : List ℕ) (plain : list_any (is_release sp.rele
           | inl at ↦ other (sym (ap (λ (i : ℕ). get_or xs i 0) at) ∙ same)
           | inr less ↦ before.before k low less (inl same)
         ] in
-        ap (map unplaced) (fields_from-component sp xs s.element s.component s.at j low high (no-cut sp.element s.at (j + 1) none) no-component (a-cut sp.component j high here))
-        ∙ ap (λ (ys : List ℕ). record { element = s.element; repetition = 1; component = s.component; octets = ys } ∷ map unplaced (fields_from sp xs s.element (s.component + 1) (j + 1))) (kept s.at j low)
+        ap (map unplaced) (fields_from-component sp xs s.element 1 s.component s.at j low high (no-cut sp.element s.at (j + 1) none) (none-repeats s.element s.at (j + 1) (omega arith)) no-component (a-cut sp.component j high here))
+        ∙ ap (λ (ys : List ℕ). record { element = s.element; repetition = 1; component = s.component; octets = ys } ∷ map unplaced (fields_from sp xs s.element 1 (s.component + 1) (j + 1))) (kept s.at j low)
         ∙ sym (ap (λ (q : Start). component s j ∷ plain_rest sp xs (Some q)) p_is)
 
     -- a component before another one, by the separator that ends it

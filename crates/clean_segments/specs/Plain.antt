@@ -1,4 +1,5 @@
--- For bodies and their invariants: the components that are left of a segment that has no release character.
+-- For bodies and their invariants: the components that are left of a segment that has neither release
+-- character nor repetition separator.
 use Rattle.std.specs.Prelude.{List}
 use Rattle.seg_lexer.specs.Fields.{Component}
 use Rattle.clean_segments.specs.Start.{plain_rest}

@@ -1,4 +1,5 @@
--- For bodies and their invariants: where a component may begin in a segment that has no release character.
+-- For bodies and their invariants: where a component may begin in a segment that has neither release
+-- character nor repetition separator.
 use Rattle.std.specs.Prelude.{ℕ, ◌+◌, ◌≤◌, ◌≡◌, ◌⊎◌, List, [], length, map, slice_index, Option, Some, None}
 use Rattle.edi_tables.specs.Octets.{Octets}
 use Rattle.seg_lexer.specs.Fields.{Component, unplaced}
@@ -19,4 +20,4 @@ IsSeparator sp xs i = (slice_index xs i ≡ sp.element) ⊎ (slice_index xs i �
 -- the components of a segment from there on
 abbrev pub plain_rest : Separators → Octets → Option Start → List Component
 plain_rest sp xs None = []
-plain_rest sp xs (Some s) = map unplaced (fields_from sp xs s.element s.component s.at)
+plain_rest sp xs (Some s) = map unplaced (fields_from sp xs s.element 1 s.component s.at)

@@ -1,18 +1,18 @@
-//! The components of a segment that lies in one slice and has no release character.
+//! The components of a segment that lies in one slice and has neither release character nor repetition separator.
 ghost use Rattle.std.specs.Prelude.{Some, [], ◌≡◌, ◌∷◌, ◌+◌, ◌<◌, ◌≤◌, ◌^◌, false, true, length, slice_index, IfSome, IsTrue};
 ghost use Rattle.std.specs.Iterator.{YieldsFirstBy};
 ghost use Rattle.std.specs.List.{list_any};
 ghost use Rattle.std.specs.Option.{ForSome};
 ghost use Rattle.edi_tables.specs.Tag.{is_tag_of};
 ghost use Rattle.memchr.specs.Find.{IsFirst};
-ghost use Rattle.seg_lexer.specs.Fields.{components_of};
+ghost use Rattle.seg_lexer.specs.Fields.{components_of, is_separator};
 ghost use Rattle.seg_lexer.specs.Released.{is_release as is_release_of};
 ghost use Rattle.element_check.specs.Streams.{after_front, front_values};
 ghost use Rattle.clean_segments.specs.Start.{IsSeparator, IsStart};
 ghost use Rattle.edi_octets.specs.declared.octets.TheConstants.{LONGEST_TEXT};
 
 use edi_tables::{Tag, is_tag};
-use seg_lexer::{Separators, has_release};
+use seg_lexer::{Separators, has_release, has_separator};
 
 /// Where a component begins, counted from the segment's first octet, and its numbers.
 #[derive(Clone, Copy, Debug)]
@@ -22,13 +22,15 @@ struct Start {
     component: u32,
 }
 
-/// The components that are left of a segment that has no release character, in order, empty ones too.
+/// The components that are left of a segment that has neither release character nor repetition separator, in order, empty
+/// ones too.
 #[derive(Clone, Copy, Debug)]
 pub(crate) struct PlainFields<'a> {
     octets: &'a [u8],
     separators: Separators,
     next: Option<Start>,
     ghost plain: { list_any (is_release_of separators.release) octets.now ≡ false },
+    ghost single: { list_any (is_separator separators.repetition) octets.now ≡ false },
     ghost short: { length octets.now ≤ LONGEST_TEXT },
     ghost here: { ForSome next (IsStart octets.now) },
 }
@@ -36,7 +38,7 @@ pub(crate) struct PlainFields<'a> {
 impl<'a> PlainFields<'a> {
     ghost use Rattle.clean_segments.specs.Plain.{plain_left};
 
-    /// The components of the segment of these octets, if none of them is the release character.
+    /// The components of the segment of these octets, if none of them is the release character or separates repetitions.
     #[tactic(auto, unfolding(crate::specs::Plain::plain_left))]
     pub(crate) fn of(octets: &'a [u8], separators: Separators) -> Option<PlainFields<'a>>
         requires short { length octets.now ≤ LONGEST_TEXT }
@@ -44,6 +46,9 @@ impl<'a> PlainFields<'a> {
             (λ fields. plain_left fields ≡ components_of separators octets.now) }
     {
         if has_release(separators.release, octets) {
+            return None;
+        }
+        if has_separator(separators.repetition, octets) {
             return None;
         }
         Some(PlainFields {

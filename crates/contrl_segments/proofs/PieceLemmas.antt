@@ -11,6 +11,7 @@ use Rattle.seg_lexer.specs.Released.{is_release, is_released, value_of}
 use Rattle.seg_lexer.specs.Scan.{releases}
 use Rattle.seg_lexer.specs.declared.service.Separators.{Separators}
 use Rattle.seg_lexer.proofs.PlacesLemmas.{filter-fail, filter-pass}
+use Rattle.seg_lexer.proofs.RepeatLemmas.{one-repetition}
 use Rattle.seg_lexer.proofs.ReleasedLemmas.{is_released-more, is_released-start}
 
 -- octets put before the first of some parts
@@ -119,23 +120,24 @@ module _ (release : Option ℕ) (xs : List ℕ) (t : ℕ) where
         | inr other ↦ rw (filter-fail (is_cut release xs t) i n other) (rw (← end) (cut-parts apart s (i + 1) n (omega arith) (omega arith) free))
       ]
 
--- the components of an element with these octets, by its number
+-- the components of an element with these octets, by its number, where nothing separates repetitions
 abbrev pub component_piece : Option ℕ → ℕ → ℕ × List ℕ → Component
 component_piece release element p = record { element = element; repetition = 1; component = p.0; octets = value_of release p.1 }
 
 abbrev pub element_pieces : Separators → ℕ × List ℕ → List Component
 element_pieces sp p = map (component_piece sp.release p.0) (enumerate_from 1 (pieces sp.release sp.component false p.1))
 
-module _ (sp : Separators) (xs : List ℕ) where
+module _ (sp : Separators) (xs : List ℕ) (single : sp.repetition ≡ None) where
   map-components : (element c : ℕ) (ps : List Stretch)
-      → map unplaced (map (component_in sp.release xs element) (enumerate_from c ps)) ≡ map (component_piece sp.release element) (enumerate_from c (map (octets_in xs) ps))
+      → map unplaced (map (component_in sp.release xs element 1) (enumerate_from c ps)) ≡ map (component_piece sp.release element) (enumerate_from c (map (octets_in xs) ps))
   map-components element c [] = refl
   map-components element c (p ∷ ps) = ap (λ zs. component_piece sp.release element (c, octets_in xs p) ∷ zs) (map-components element (c + 1) ps)
 
   element-is : (element : ℕ) (p : Stretch) → IsPart sp.release xs sp.element p → map unplaced (element_in sp xs (element, p)) ≡ element_pieces sp (element, octets_in xs p)
   element-is element p part =
-      map-components element 1 (cut sp.release xs sp.component p.from p.to)
-      ∙ ap (λ (ps : List (List ℕ)). map (component_piece sp.release element) (enumerate_from 1 ps)) (parts-is sp.release xs sp.component p.from p.to part.ordered part.within part.free)
+      ap (map unplaced) (one-repetition sp xs element single p)
+      ∙ (map-components element 1 (cut sp.release xs sp.component p.from p.to)
+      ∙ ap (λ (ps : List (List ℕ)). map (component_piece sp.release element) (enumerate_from 1 ps)) (parts-is sp.release xs sp.component p.from p.to part.ordered part.within part.free))
 
   elements-are : (n : ℕ) (ps : List Stretch) → AllParts sp.release xs sp.element ps
       → map unplaced (flat_map (element_in sp xs) (enumerate_from n ps)) ≡ flat_map (element_pieces sp) (enumerate_from n (map (octets_in xs) ps))

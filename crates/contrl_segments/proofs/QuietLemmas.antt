@@ -250,6 +250,6 @@ module _ (s : Segment) (tag : IsWritten s.tag) where
   -- so its components are those that were written
   pub body-components : components_of (separators_of default_service) (body s) ≡ components_read s
   body-components =
-      components-are (separators_of default_service) (body s) apart
+      components-are (separators_of default_service) (body s) refl apart
       ∙ (ap (λ (ps : List (List ℕ)). flat_map (element_pieces (separators_of default_service)) (enumerate_from 0 ps)) body-pieces
       ∙ elements-pieces 0 (alone s.tag ∷ kept s))

@@ -10,6 +10,7 @@ pub mod OrderLemmas
 mod PartsLemmas
 pub mod PlacesLemmas
 pub mod ReleasedLemmas
+pub mod RepeatLemmas
 mod ScanLemmas
 pub mod SegmentsLemmas
 pub mod ServiceLemmas

@@ -4,10 +4,11 @@ use Rattle.std.specs.Prelude.{map}
 use Rattle.std.specs.List.{between, enumerate_from, find, flat_map}
 use Rattle.std.specs.Option.{option_map}
 use Rattle.std.proofs.lemmas.Bool.{ne_eqb}
+use Rattle.std.proofs.lemmas.List.{append_assoc}
 use Rattle.edi_octets.specs.declared.octets.Octets.{Ghosts}
-use Rattle.seg_lexer.specs.Fields.{Component, IsInOrder, PlacedComponent, component_in, components_of, cut, element_in, fields_of, octets_at, placed, unplaced}
+use Rattle.seg_lexer.specs.Fields.{Component, IsInOrder, PlacedComponent, component_in, components_in, components_of, cut, element_in, fields_of, octets_at, placed, repetition_in, repetitions_in, unplaced}
 use Rattle.seg_lexer.specs.Left.{components_left, fields_left}
-use Rattle.seg_lexer.specs.Place.{fields_after, fields_from, rest_of}
+use Rattle.seg_lexer.specs.Place.{fields_after, fields_from, repetitions_after, rest_of}
 use Rattle.seg_lexer.specs.Stretch.{Stretch}
 use Rattle.seg_lexer.specs.declared.components.Fields.{Fields}
 use Rattle.seg_lexer.specs.declared.components.ComponentPlace.{ComponentPlace}
@@ -20,23 +21,40 @@ IsInOrder-lower n m [] le h = tt
 IsInOrder-lower n m (e ∷ es) le h = let low = h.0 in (omega arith, h.1)
 
 module _ (sp : Separators) (xs : List ℕ) where
-  IsInOrder-element : (element : ℕ) (ps : List (ℕ × Stretch)) (later : List PlacedComponent) → IsInOrder element (map unplaced later) → IsInOrder element (map unplaced (map (component_in sp.release xs element) ps ++ later))
-  IsInOrder-element element [] later h = h
-  IsInOrder-element element (p ∷ ps) later h = (omega arith, IsInOrder-element element ps later h)
+  IsInOrder-components : (element r : ℕ) (ps : List (ℕ × Stretch)) (later : List PlacedComponent) → IsInOrder element (map unplaced later)
+      → IsInOrder element (map unplaced (map (component_in sp.release xs element r) ps ++ later))
+  IsInOrder-components element r [] later h = h
+  IsInOrder-components element r (p ∷ ps) later h = (omega arith, IsInOrder-components element r ps later h)
 
-  IsInOrder-elements : (element : ℕ) (ss : List Stretch) → IsInOrder element (map unplaced (flat_map (element_in sp xs) (enumerate_from element ss)))
+  IsInOrder-repetitions : (element r : ℕ) (ss : List Stretch) (later : List PlacedComponent) → IsInOrder element (map unplaced later)
+      → IsInOrder element (map unplaced (flat_map (repetition_in sp xs element) (enumerate_from r ss) ++ later))
+  IsInOrder-repetitions element r [] later h = h
+  IsInOrder-repetitions element r (s ∷ ss) later h =
+      let others : List PlacedComponent = flat_map (repetition_in sp xs element) (enumerate_from (r + 1) ss) in
+      subst (λ (fs : List PlacedComponent). IsInOrder element (map unplaced fs)) (sym (append_assoc (repetition_in sp xs element (r, s)) others later))
+      (IsInOrder-components element r (enumerate_from 1 (cut sp.release xs sp.component s.from s.to)) (others ++ later) (IsInOrder-repetitions element (r + 1) ss later h))
+
+  pub IsInOrder-elements : (element : ℕ) (ss : List Stretch) → IsInOrder element (map unplaced (flat_map (element_in sp xs) (enumerate_from element ss)))
   IsInOrder-elements element [] = tt
   IsInOrder-elements element (s ∷ ss) =
-      IsInOrder-element element (enumerate_from 1 (cut sp.release xs sp.component s.from s.to)) _ (IsInOrder-lower element (element + 1) _ (omega arith) (IsInOrder-elements (element + 1) ss))
+      IsInOrder-repetitions element 1 (repetitions_in sp xs element s) _ (IsInOrder-lower element (element + 1) _ (omega arith) (IsInOrder-elements (element + 1) ss))
 
-  IsInOrder-after : (element c : ℕ) (ss : List Stretch) → IsInOrder element (map unplaced (fields_after sp xs c (enumerate_from element ss)))
-  IsInOrder-after element c [] = tt
-  IsInOrder-after element c (s ∷ ss) =
-      IsInOrder-element element (enumerate_from c (cut sp.release xs sp.component s.from s.to)) _ (IsInOrder-lower element (element + 1) _ (omega arith) (IsInOrder-elements (element + 1) ss))
+  IsInOrder-rest : (element r c : ℕ) (ss : List Stretch) (later : List PlacedComponent) → IsInOrder element (map unplaced later)
+      → IsInOrder element (map unplaced (repetitions_after sp xs element c (enumerate_from r ss) ++ later))
+  IsInOrder-rest element r c [] later h = h
+  IsInOrder-rest element r c (s ∷ ss) later h =
+      let others : List PlacedComponent = flat_map (repetition_in sp xs element) (enumerate_from (r + 1) ss) in
+      subst (λ (fs : List PlacedComponent). IsInOrder element (map unplaced fs)) (sym (append_assoc (components_in sp xs element r c s) others later))
+      (IsInOrder-components element r (enumerate_from c (cut sp.release xs sp.component s.from s.to)) (others ++ later) (IsInOrder-repetitions element (r + 1) ss later h))
 
-  IsInOrder-from : (element c a : ℕ) → IsInOrder element (map unplaced (fields_from sp xs element c a))
+  IsInOrder-after : (element r c : ℕ) (ss : List Stretch) → IsInOrder element (map unplaced (fields_after sp xs r c (enumerate_from element ss)))
+  IsInOrder-after element r c [] = tt
+  IsInOrder-after element r c (s ∷ ss) =
+      IsInOrder-rest element r c (repetitions_in sp xs element s) _ (IsInOrder-lower element (element + 1) _ (omega arith) (IsInOrder-elements (element + 1) ss))
+
+  IsInOrder-from : (element r c a : ℕ) → IsInOrder element (map unplaced (fields_from sp xs element r c a))
   unfolding fields_from
-  IsInOrder-from element c a = IsInOrder-after element c (cut sp.release xs sp.element a (length xs))
+  IsInOrder-from element r c a = IsInOrder-after element r c (cut sp.release xs sp.element a (length xs))
 
 -- what is left of a segment comes in order, from the element of the next component on
 pub components_left-from : {O : Type 0} {o : Ghosts O} (f : Fields O o) (p : ComponentPlace) → f.place ≡ Some p → IsInOrder p.element (components_left f)
@@ -44,15 +62,15 @@ unfolding fields_left
 components_left-from {o = o} f p is =
     let xs : List ℕ = between f.start f.end (o.octets f.text.now) in
     subst (λ q. IsInOrder p.element (map unplaced (map (placed f.start) (rest_of f.separators xs q)))) (sym is)
-    (subst (IsInOrder p.element) (sym (map-unplaced-placed f.start (fields_from f.separators xs p.element p.component p.at)))
-    (IsInOrder-from f.separators xs p.element p.component p.at))
+    (subst (IsInOrder p.element) (sym (map-unplaced-placed f.start (fields_from f.separators xs p.element p.repetition p.component p.at)))
+    (IsInOrder-from f.separators xs p.element p.repetition p.component p.at))
 
 module _ (sp : Separators) (xs : List ℕ) (start : ℕ) where
   rest-in_order : (q : Option ComponentPlace) → IsInOrder 0 (map unplaced (map (placed start) (rest_of sp xs q)))
   rest-in_order None = tt
   rest-in_order (Some p) =
-      subst (IsInOrder 0) (sym (map-unplaced-placed start (fields_from sp xs p.element p.component p.at)))
-      (IsInOrder-lower 0 p.element _ (omega arith) (IsInOrder-from sp xs p.element p.component p.at))
+      subst (IsInOrder 0) (sym (map-unplaced-placed start (fields_from sp xs p.element p.repetition p.component p.at)))
+      (IsInOrder-lower 0 p.element _ (omega arith) (IsInOrder-from sp xs p.element p.repetition p.component p.at))
 
 pub components_left-in_order : {O : Type 0} {o : Ghosts O} (f : Fields O o) → IsInOrder 0 (components_left f)
 unfolding fields_left
@@ -65,7 +83,7 @@ components_of-in_order sp xs = IsInOrder-elements sp xs 0 (cut sp.release xs sp.
 -- the value of a component that is looked for, by a test of the element of the first one
 abbrev at_by : ℕ → ℕ → Bool → Component → List Component → Option (List ℕ)
 at_by element component b e es =
-    option_map (λ e. e.octets) (cond (b && eqb e.component component) (Some e) (find (λ e. eqb e.element element && eqb e.component component) es))
+    option_map (λ e. e.octets) (cond (b && eqb e.repetition 1 && eqb e.component component) (Some e) (find (λ e. eqb e.element element && eqb e.repetition 1 && eqb e.component component) es))
 
 -- no component of an element is among those of later elements
 pub octets_at-past : (element component n : ℕ) (es : List Component) → element < n → IsInOrder n es → octets_at element component es ≡ None

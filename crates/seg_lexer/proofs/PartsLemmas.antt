@@ -21,6 +21,7 @@ pub record Reads {O : Type 0} {o : Ghosts O} (f : Fields O o) (p : ComponentPlac
   pub inside : f.start + p.at ≤ f.end
   pub short : f.end ≤ 4194304
   pub element : p.element ≤ p.at
+  pub repetition : p.repetition ≤ p.at + 1
   pub component : p.component ≤ p.at + 1
 
 pub reads : {O : Type 0} {o : Ghosts O} (f : Fields O o) (p : ComponentPlace) → f.place ≡ Some p → Reads f p
@@ -36,6 +37,7 @@ reads {o = o} f p is =
       inside = omega arith;
       short = omega arith;
       element = here.element;
+      repetition = here.repetition;
       component = here.component;
     }
 
@@ -49,7 +51,7 @@ pub fields_left-first : {O : Type 0} {o : Ghosts O} (f : Fields O o) (p : Compon
     → f.place ≡ Some p → (p.at ≤ stop) × (stop ≤ f.end - f.start)
     → (let xs = between f.start f.end (o.octets f.text.now) in
     rest_of f.separators xs (Some p)
-    ≡ component_in f.separators.release xs p.element (p.component, record { from = p.at; to = stop }) ∷ rest_of f.separators xs next)
+    ≡ component_in f.separators.release xs p.element p.repetition (p.component, record { from = p.at; to = stop }) ∷ rest_of f.separators xs next)
     → octets_of v ≡ value_of f.separators.release (between (f.start + p.at) (f.start + stop) (o.octets f.text.now)) → span_of v ≡ record { from = f.start + p.at; to = f.start + stop }
     → fields_left f ≡ placed_at p (span_of v) (octets_of v)
     ∷ map (placed f.start) (rest_of f.separators (between f.start f.end (o.octets f.text.now)) next)
@@ -69,10 +71,10 @@ fields_left-first {o = o} f p stop next v is bounds rest octets span =
     ∙ ap (λ (q : Stretch). placed_at p q (octets_of v) ∷ later) (sym span))))
 
 abbrev pub first : ComponentPlace
-first = record { at = 0; element = 0; component = 1 }
+first = record { at = 0; element = 0; repetition = 1; component = 1 }
 
 -- the first component begins at the segment's first octet
 pub IsPlace-first : (release : Option ℕ) (xs : List ℕ) (p : ComponentPlace) → Some first ≡ Some p → IsPlace release xs p
 IsPlace-first release xs p is =
     let same : first ≡ p = cc in
-    subst (IsPlace release xs) same (record { within = omega arith; element = omega arith; component = omega arith; free = is_released-start release xs 0 })
+    subst (IsPlace release xs) same (record { within = omega arith; element = omega arith; repetition = omega arith; component = omega arith; free = is_released-start release xs 0 })

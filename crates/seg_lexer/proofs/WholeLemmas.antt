@@ -234,6 +234,7 @@ usable-rest s text rest usable = record {
   from_terminator = usable.from_terminator;
   from_element = usable.from_element;
   from_component = usable.from_component;
+  from_repetition = usable.from_repetition;
 }
 
 -- whole segments and whole segments are whole segments

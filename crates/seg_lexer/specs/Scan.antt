@@ -1,14 +1,20 @@
 -- For bodies and their invariants: what a scan looks for, and what it carries from one part of a text to the next.
-use Rattle.std.specs.Prelude.{ℕ, Bool, true, not, ◌&&◌, ◌||◌, ◌==◌, ◌≡◌, [], ◌∷◌, slice_index, take, Option}
+use Rattle.std.specs.Prelude.{ℕ, Bool, true, not, ◌&&◌, ◌||◌, ◌==◌, ◌≡◌, [], ◌∷◌, slice_index, take, Option, Some, None}
 use Rattle.edi_tables.specs.Octets.{Octets}
 use Rattle.seg_lexer.specs.Released.{is_release, is_released}
 use Rattle.seg_lexer.specs.declared.scan.Sought.{Sought}
-use Rattle.seg_lexer.specs.declared.scan.Sought.TheVariants.{One, Two}
+use Rattle.seg_lexer.specs.declared.scan.Sought.TheVariants.{One, Two, Three}
 
 -- an octet is one of those that are sought
 abbrev pub is_sought : Sought → ℕ → Bool
 is_sought (One a) x = x == a
 is_sought (Two a b) x = x == a || x == b
+is_sought (Three a b c) x = x == a || x == b || x == c
+
+-- what may end a component: one of these two separators, or the third one, if there is one
+abbrev pub sought_for : ℕ → ℕ → Option ℕ → Sought
+sought_for element component None = Two element component
+sought_for element component (Some repetition) = Three element component repetition
 
 -- the octet at place i is sought, and no octet from place a on releases it
 abbrev pub is_free : Option ℕ → Sought → Octets → ℕ → ℕ → Bool

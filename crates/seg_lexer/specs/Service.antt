@@ -76,3 +76,4 @@ pub record IsUsable (s : Service) (text : Octets) : Type 0 where
   pub from_terminator : ForSome s.release (λ r. r ≢ s.terminator)
   pub from_element : ForSome s.release (λ r. r ≢ s.element)
   pub from_component : ForSome s.release (λ r. r ≢ s.component)
+  pub from_repetition : ForSome s.release (λ r. ForSome s.repetition (λ p. r ≢ p))

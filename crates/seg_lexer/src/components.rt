@@ -1,11 +1,12 @@
 //! The components of a segment, one after another.
-ghost use Rattle.std.specs.Prelude.{Some, ⊤, ◌≡◌, ◌∷◌, ◌+◌, ◌-◌, ◌^◌, ◌<◌, ◌≤◌, length, slice_range};
+ghost use Rattle.std.specs.Prelude.{Some, ℕ, ⊤, ◌≡◌, ◌∷◌, ◌+◌, ◌-◌, ◌^◌, ◌<◌, ◌≤◌, MatchOption, IfSome, length, slice_index, slice_range};
+ghost use Rattle.std.specs.List.{list_any};
 ghost use Rattle.std.specs.Option.{ForSome};
-ghost use Rattle.seg_lexer.specs.Fields.{separators_of};
+ghost use Rattle.seg_lexer.specs.Fields.{is_repeating, is_separator as is_separator_of, separators_of};
 ghost use Rattle.seg_lexer.specs.Place.{AreApart, IsPlace, component_to, rest_of};
 ghost use Rattle.edi_octets.specs.declared.octets.TheConstants.{LONGEST_TEXT};
 
-use crate::scan::{Sought, find_free};
+use crate::scan::{Found, Sought, find_free};
 use crate::service::{Separators, Service};
 use crate::value::Value;
 use edi_octets::Octets;
@@ -26,6 +27,7 @@ pub struct Component<'a, O: Octets> {
 struct ComponentPlace {
     at: usize,
     element: u32,
+    repetition: u32,
     component: u32,
 }
 
@@ -33,25 +35,42 @@ impl ComponentPlace {
     /// The first component of the next element.
     fn next_element(&self, at: usize) -> ComponentPlace
         requires { self.now.element + 1 < 2 ^ 32 }
-        ensures { result ≡ record { at = at; element = self.now.element + 1; component = 1 } }
+        ensures { result
+            ≡ record { at = at; element = self.now.element + 1; repetition = 1; component = 1 } }
     {
         ComponentPlace {
             at,
             element: self.element + 1,
-            component: 1,
+            ..FIRST
         }
     }
 
-    /// The next component of the same element.
-    fn next_component(&self, at: usize) -> ComponentPlace
-        requires { self.now.component + 1 < 2 ^ 32 }
-        ensures { result
-            ≡ record { at = at; element = self.now.element; component = self.now.component + 1 } }
+    /// The first component of the next repetition of the same element.
+    fn next_repetition(&self, at: usize) -> ComponentPlace
+        requires { self.now.repetition + 1 < 2 ^ 32 }
+        ensures { result ≡ record self.now {
+          at = at;
+          repetition = self.now.repetition + 1;
+          component = 1;
+        } }
     {
         ComponentPlace {
             at,
             element: self.element,
+            repetition: self.repetition + 1,
+            ..FIRST
+        }
+    }
+
+    /// The next component of the same repetition.
+    fn next_component(&self, at: usize) -> ComponentPlace
+        requires { self.now.component + 1 < 2 ^ 32 }
+        ensures { result ≡ record self.now { at = at; component = self.now.component + 1 } }
+    {
+        ComponentPlace {
+            at,
             component: self.component + 1,
+            ..*self
         }
     }
 }
@@ -60,6 +79,7 @@ impl ComponentPlace {
 const FIRST: ComponentPlace = ComponentPlace {
     at: 0,
     element: 0,
+    repetition: 1,
     component: 1,
 };
 
@@ -104,7 +124,9 @@ impl<'a, O: Octets> Fields<'a, O> {
     ghost use Rattle.std.specs.Option.{option_map};
     ghost use Rattle.seg_lexer.specs.Fields.{fields_at, octets_at, place_at};
     ghost use Rattle.seg_lexer.specs.Left.{components_left, fields_left};
+    ghost use Rattle.memchr.specs.Find.{NoneBefore, Nowhere};
     ghost use Rattle.seg_lexer.specs.Place.{placed_at};
+    ghost use Rattle.seg_lexer.specs.Scan.{IsFree, sought_for};
     ghost use Rattle.seg_lexer.specs.Tag.{past_tag_field, tag_field};
     ghost use Rattle.seg_lexer.specs.Value.{octets_of, span_of};
 
@@ -125,7 +147,7 @@ impl<'a, O: Octets> Fields<'a, O> {
         }
     }
 
-    /// The value of a component, if it is among those that are left.
+    /// The value of a component of an element's first repetition, if it is among those that are left.
     pub fn value_at(self, element: u32, component: u32) -> Option<Value<'a, O>>
         ensures octets { option_map octets_of result
             ≡ octets_at element component (components_left self.entry) }
@@ -133,7 +155,7 @@ impl<'a, O: Octets> Fields<'a, O> {
             ≡ place_at element component (fields_left self.entry) }
     {
         for found in self {
-            if found.element == element && found.component == component {
+            if found.element == element && found.repetition == 1 && found.component == component {
                 return Some(found.value);
             }
         }
@@ -185,19 +207,9 @@ impl<'a, O: Octets> Fields<'a, O> {
             ∷ rest_of self.now.separators xs result.next }
     {
         let from = self.start + place.at;
-        let Separators {
-            release,
-            element,
-            component,
-            ..
-        } = self.separators;
-        match find_free(
-            self.text,
-            release,
-            Sought::Two(element, component),
-            from,
-            self.end,
-        ) {
+        let element = self.separators.element;
+        let repetition = self.separators.repetition_of(place.element);
+        match self.find_end(repetition, from) {
             None => Cut {
                 stop: self.end - self.start,
                 next: None,
@@ -206,11 +218,84 @@ impl<'a, O: Octets> Fields<'a, O> {
                 stop: found.place - self.start,
                 next: Some(place.next_element(found.place - self.start + 1)),
             },
+            Some(found) if is_separator(repetition, found.octet) => Cut {
+                stop: found.place - self.start,
+                next: Some(place.next_repetition(found.place - self.start + 1)),
+            },
             Some(found) => Cut {
                 stop: found.place - self.start,
                 next: Some(place.next_component(found.place - self.start + 1)),
             },
         }
+    }
+
+    /// Where the component that begins at a place of the text ends, if not with the segment: the first separator from there
+    /// on that isn't released. One that separates repetitions is looked for if it is given.
+    #[inline(always)]
+    fn find_end(&self, repetition: Option<u8>, from: usize) -> Option<Found>
+        requires { from ≤ self.now.end }
+        ensures first { let sp = self.now.separators in
+            let sought = sought_for sp.element sp.component repetition in
+            let IsHere = IsFree sp.release sought (O.octets self.now.text.now) from in
+            MatchOption result (Nowhere IsHere from self.now.end)
+            (λ f. NoneBefore IsHere from self.now.end f.place × IsHere f.place) }
+        ensures octet { IfSome result
+            (λ f. f.octet ≡ slice_index (O.octets self.now.text.now) f.place) }
+    {
+        let Separators {
+            release,
+            element,
+            component,
+            ..
+        } = self.separators;
+        match repetition {
+            None => find_free(
+                self.text,
+                release,
+                Sought::Two(element, component),
+                from,
+                self.end,
+            ),
+            Some(repetition) => find_free(
+                self.text,
+                release,
+                Sought::Three(element, component, repetition),
+                from,
+                self.end,
+            ),
+        }
+    }
+}
+
+impl Separators {
+    /// What separates the repetitions of an element, if anything does: the tag field has no repetitions.
+    #[inline(always)]
+    fn repetition_of(&self, element: u32) -> Option<u8>
+        ensures { (octet : ℕ)
+            → is_separator_of result octet ≡ is_repeating self.now element octet }
+    {
+        if element == 0 { None } else { self.repetition }
+    }
+}
+
+/// Whether one of these octets is a separator, if there is one.
+pub fn has_separator(separator: Option<u8>, part: &[u8]) -> bool
+    ensures { result ≡ list_any (is_separator_of separator) part.now }
+{
+    match separator {
+        Some(separator) => part.iter().any(|octet| *octet == separator),
+        None => false,
+    }
+}
+
+/// Whether an octet is a separator, if there is one.
+#[inline(always)]
+fn is_separator(separator: Option<u8>, octet: u8) -> bool
+    ensures { result ≡ is_separator_of separator octet }
+{
+    match separator {
+        Some(separator) => octet == separator,
+        None => false,
     }
 }
 
@@ -229,7 +314,7 @@ impl<'a, O: Octets> Iterator for Fields<'a, O> {
         let place = self.place?;
         Some(Component {
             element: place.element,
-            repetition: 1,
+            repetition: place.repetition,
             component: place.component,
             value: self.take(place),
         })

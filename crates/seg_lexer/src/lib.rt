@@ -11,7 +11,7 @@ mod stretch;
 mod tag;
 mod value;
 
-pub use components::{Component, Fields};
+pub use components::{Component, Fields, has_separator};
 pub use context::{Context, Level, read_context};
 pub use segment::{Lexed, fields, next_segment};
 pub use service::{Separators, Service, read_service};

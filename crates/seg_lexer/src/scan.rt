@@ -8,13 +8,14 @@ ghost use Rattle.edi_octets.specs.declared.octets.TheConstants.{LONGEST_TEXT};
 use crate::stretch::{StretchOctets, lend};
 use crate::value::is_release;
 use edi_octets::Octets;
-use memchr::memchr;
+use memchr::{memchr, memchr3};
 
 /// The octets that a scan looks for.
 #[derive(Clone, Copy)]
 pub(crate) enum Sought {
     One(u8),
     Two(u8, u8),
+    Three(u8, u8, u8),
 }
 
 /// An octet that a scan came to.
@@ -100,6 +101,7 @@ fn find_sought(part: &[u8], sought: Sought) -> Option<usize>
     match sought {
         Sought::One(one) => memchr(one, part),
         Sought::Two(one, two) => find_either(part, one, two),
+        Sought::Three(one, two, three) => memchr3(one, two, three, part),
     }
 }
 

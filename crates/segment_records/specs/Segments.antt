@@ -46,6 +46,6 @@ segments_of_text text = segments_by (service_of text) text
 abbrev pub tags_in : List Segment → List (Option Tag)
 tags_in segments = map (λ segment. segment.tag) segments
 
--- the value of a component of an element; one that isn't written is empty
+-- the value of a component of an element's first repetition; one that isn't written is empty
 abbrev pub value_in : List Component → ℕ → ℕ → Octets
 value_in components element component = unwrap_or (octets_at element component components) []

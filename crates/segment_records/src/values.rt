@@ -92,7 +92,7 @@ fn find_names<'a, O: Octets>(components: Fields<'a, O>) -> Names<'a, O>
     }
 }
 
-/// A copy of the value of a component of an element; no octets where it isn't written.
+/// A copy of the value of a component of an element's first repetition; no octets where it isn't written.
 pub fn copy_value<O: Octets>(
     alloc: Global,
     components: Fields<'_, O>,
@@ -105,8 +105,8 @@ pub fn copy_value<O: Octets>(
     copy_found(alloc, components.value_at(element, component))
 }
 
-/// Copies of the values of two components, each by the numbers of its element and its own, in one way through the
-/// components of a segment; no octets for one that isn't written. Only want of memory is an error.
+/// Copies of the values of two components of first repetitions, each by the numbers of its element and its own, in one way
+/// through the components of a segment; no octets for one that isn't written. Only want of memory is an error.
 pub fn copy_two<O: Octets>(
     alloc: Global,
     components: Fields<'_, O>,
@@ -151,7 +151,7 @@ fn find_two<'a, O: Octets>(
     (one, other)
 }
 
-// The value that was found before, or else that of this component if its numbers are these.
+// The value that was found before, or else that of this component if its numbers are these, in a first repetition.
 #[inline(always)]
 fn or_found<'a, O: Octets>(
     before: Option<Value<'a, O>>,
@@ -167,7 +167,7 @@ fn or_found<'a, O: Octets>(
     if before.is_some() {
         return before;
     }
-    if found.element == element && found.component == component {
+    if found.element == element && found.repetition == 1 && found.component == component {
         return Some(found.value);
     }
     None

@@ -24,7 +24,7 @@ abbrev pub all_numbered : ℕ → List (List (List ℕ)) → List Component
 all_numbered n lists = flat_map numbered (enumerate_from n lists)
 
 abbrev is_component : ℕ → ℕ → Component → Bool
-is_component e c x = x.element == e && x.component == c
+is_component e c x = x.element == e && x.repetition == 1 && x.component == c
 
 abbrev value_found : Option Component → List ℕ
 value_found o = unwrap_or (option_map (λ x. x.octets) o) []
@@ -33,7 +33,7 @@ find-other : (e c k a : ℕ) (vs : List (List ℕ)) (rest : List Component) → 
     → find (is_component e c) (map (component_of k) (enumerate_from a vs) ++ rest) ≡ find (is_component e c) rest
 find-other e c k a [] rest other = refl
 find-other e c k a (v ∷ vs) rest other =
-    ap (λ (b : Bool). cond (b && eqb a c) (Some (component_of k (a, v))) (find (is_component e c) (map (component_of k) (enumerate_from (a + 1) vs) ++ rest))) other
+    ap (λ (b : Bool). cond (b && true && eqb a c) (Some (component_of k (a, v))) (find (is_component e c) (map (component_of k) (enumerate_from (a + 1) vs) ++ rest))) other
     ∙ find-other e c k (a + 1) vs rest other
 
 find-past : (e c k : ℕ) (lists : List (List (List ℕ))) → e < k → find (is_component e c) (all_numbered k lists) ≡ None
@@ -47,12 +47,12 @@ find-here e c k a j [] rest here at none = ap value_found none
 find-here e c k a zero (v ∷ vs) rest here at none =
     let one : eqb k e ≡ true = eq-eqb k e here in
     let two : eqb a c ≡ true = eq-eqb a c (omega arith) in
-    ap (λ (b : Bool). value_found (cond (b && eqb a c) (Some (component_of k (a, v))) (find (is_component e c) (map (component_of k) (enumerate_from (a + 1) vs) ++ rest)))) one
+    ap (λ (b : Bool). value_found (cond (b && true && eqb a c) (Some (component_of k (a, v))) (find (is_component e c) (map (component_of k) (enumerate_from (a + 1) vs) ++ rest)))) one
     ∙ ap (λ (b : Bool). value_found (cond b (Some (component_of k (a, v))) (find (is_component e c) (map (component_of k) (enumerate_from (a + 1) vs) ++ rest)))) two
 find-here e c k a (suc j) (v ∷ vs) rest here at none =
     let one : eqb k e ≡ true = eq-eqb k e here in
     let two : eqb a c ≡ false = ne_eqb a c (λ same. omega arith) in
-    ap (λ (b : Bool). value_found (cond (b && eqb a c) (Some (component_of k (a, v))) (find (is_component e c) (map (component_of k) (enumerate_from (a + 1) vs) ++ rest)))) one
+    ap (λ (b : Bool). value_found (cond (b && true && eqb a c) (Some (component_of k (a, v))) (find (is_component e c) (map (component_of k) (enumerate_from (a + 1) vs) ++ rest)))) one
     ∙ ap (λ (b : Bool). value_found (cond b (Some (component_of k (a, v))) (find (is_component e c) (map (component_of k) (enumerate_from (a + 1) vs) ++ rest)))) two
     ∙ find-here e c k (a + 1) j vs rest here (omega arith) none
 

@@ -24,7 +24,7 @@ use Rattle.seg_lexer.specs.declared.context.Context.{Context}
 use Rattle.seg_lexer.specs.declared.service.Separators.{Separators}
 use Rattle.seg_lexer.specs.declared.service.Service.{Service}
 use Rattle.seg_lexer.specs.Released.{value_of}
-use Rattle.seg_lexer.proofs.ServiceLemmas.{service_of-usable}
+use Rattle.seg_lexer.proofs.ServiceLemmas.{service_of-single, service_of-usable}
 use Rattle.element_check.specs.Local.{elements_errors, error_at, has_octet, is_list_named, local_errors_of}
 use Rattle.element_check.specs.Rules.{SegmentRules, list_of, parts_of, rules_of, service_rules}
 use Rattle.element_check.specs.Streams.{after_front, composite_errors, first_value, front_values, item_errors, items_errors, later_values, part_errors, part_rules, parts_errors, surplus_components, told_errors}
@@ -55,25 +55,25 @@ elements-numbered sp n (p ∷ ps) =
     ap (λ (cs : List Component). cs ++ flat_map (element_pieces sp) (enumerate_from (n + 1) ps)) (pieces-numbered sp.release n 1 (pieces sp.release sp.component false p))
     ∙ ap (λ (cs : List Component). map (component_of n) (enumerate_from 1 (values_piece sp p)) ++ cs) (elements-numbered sp (n + 1) ps)
 
-components-numbered : (sp : Separators) (xs : List ℕ) → ForSome sp.release (λ r. sp.element ≢ r) → IsNumbered (components_of sp xs)
-components-numbered sp xs apart = record {
+components-numbered : (sp : Separators) (xs : List ℕ) → sp.repetition ≡ None → ForSome sp.release (λ r. sp.element ≢ r) → IsNumbered (components_of sp xs)
+components-numbered sp xs single apart = record {
   lists = map (values_piece sp) (pieces sp.release sp.element false xs);
-  is = components-are sp xs apart ∙ elements-numbered sp 0 (pieces sp.release sp.element false xs);
+  is = components-are sp xs single apart ∙ elements-numbered sp 0 (pieces sp.release sp.element false xs);
 }
 
 apart-by : (o : Option ℕ) (e : ℕ) → ForSome o (λ r. r ≢ e) → ForSome o (λ r. e ≢ r)
 apart-by o e h r is same = h r is (sym same)
 
-each-between : (s : Service) (text : List ℕ) (ps : List (ℕ × ℕ)) → ForSome s.release (λ r. s.element ≢ r) → Each (λ (x : Segment). IsNumbered x.components) (map (segment_between s text) ps)
-each-between s text [] apart = tt
-each-between s text (p ∷ ps) apart = (components-numbered (separators_of s) _ apart, each-between s text ps apart)
+each-between : (s : Service) (text : List ℕ) (ps : List (ℕ × ℕ)) → s.repetition ≡ None → ForSome s.release (λ r. s.element ≢ r) → Each (λ (x : Segment). IsNumbered x.components) (map (segment_between s text) ps)
+each-between s text [] single apart = tt
+each-between s text (p ∷ ps) single apart = (components-numbered (separators_of s) _ single apart, each-between s text ps single apart)
 
 -- the components of each segment of a text are numbered
 pub text-numbered : (text : List ℕ) → Each (λ (s : Segment). IsNumbered s.components) (segments_of_text text)
 unfolding segments_of_text segments_by
 text-numbered text =
     let s : Service = service_of text in
-    each-between s text (zip (boundaries_of s text) (ends_of s text)) (apart-by s.release s.element (service_of-usable text).from_element)
+    each-between s text (zip (boundaries_of s text) (ends_of s text)) (service_of-single text) (apart-by s.release s.element (service_of-usable text).from_element)
 
 -- the tag of components
 named-by : (name : List ℕ) (o : Option (List ℕ)) → has_name name (option_map (λ (octets : List ℕ). let t : Tag = record { octets = octets } in t) o) ≡ true → o ≡ Some name

@@ -109,3 +109,44 @@ fn expect_copy(rt: &impl Abort, alloc: Global, octets: &[u8], wanted: &[u8]) -> 
 fn a_value_is_copied(rt: HostRuntime) -> Result<(), Fail> {
     expect_copy(&rt, rt.alloc(), b"A+?B??+C", b"B?")
 }
+
+/// The default characters, with a star between repetitions.
+const STARRED: Service = Service {
+    component: b':',
+    element: b'+',
+    repetition: Some(b'*'),
+    mark: b'.',
+    release: Some(b'?'),
+    terminator: b'\'',
+    body: 0,
+    sound: true,
+};
+
+/// The components of a segment: the numbers of each one's element, of its repetition and of itself, and how many octets its
+/// value has.
+#[rattlefmt::skip]
+const REPEATED: [(u32, u32, u32, usize); 7] = [
+    (0, 1, 1, 3), (1, 1, 1, 1), (1, 1, 2, 1), (1, 2, 1, 3), (1, 3, 1, 0), (2, 1, 1, 1), (2, 2, 1, 1),
+];
+
+/// The components of a segment with a star between repetitions are these.
+fn expect_components(rt: &impl Abort, octets: &[u8], wanted: &[(u32, u32, u32, usize)]) {
+    assert!(rt; octets.len() <= LONGEST_TEXT);
+    let text = Flat { octets };
+    let mut left = wanted.iter();
+    for found in fields(&text, &STARRED, 0, octets.len()) {
+        let numbers = (
+            found.element,
+            found.repetition,
+            found.component,
+            found.value.len(),
+        );
+        assert_eq!(rt; left.next(), Some(&numbers));
+    }
+    assert_eq!(rt; left.next(), None);
+}
+
+#[test]
+fn repetitions(rt: HostRuntime) {
+    expect_components(&rt, b"A*B+2:A*137*+?**C", &REPEATED);
+}

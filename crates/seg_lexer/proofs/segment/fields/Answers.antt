@@ -12,7 +12,7 @@ use Rattle.seg_lexer.proofs.segment.fields.Goals as goal
 pub new-requires-clause-apart : goal.new-requires-clause-apart
 new-requires-clause-apart g c r is =
     let usable = c.requires.usable in
-    (λ same. usable.from_element r is (sym same), λ same. usable.from_component r is (sym same))
+    (λ same. usable.from_element r is (sym same), λ same. usable.from_component r is (sym same), λ p some same. usable.from_repetition r is p some (sym same))
 
 pub returns-clause-components : goal.returns-clause-components
 returns-clause-components g c = ap (map unplaced) c.new.ensures ∙ map-unplaced-placed c.args.start _

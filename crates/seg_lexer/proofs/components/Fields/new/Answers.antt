@@ -21,6 +21,6 @@ invariant_of-result g c = record {
 pub returns : goal.returns
 unfolding fields_left
 returns g c =
-    ap (λ (sp : Separators). map (placed c.args.start) (fields_from sp (between c.args.start c.args.end (g.O.Octets.octets c.args.text.now)) 0 1 0)) c.separators.ensures
+    ap (λ (sp : Separators). map (placed c.args.start) (fields_from sp (between c.args.start c.args.end (g.O.Octets.octets c.args.text.now)) 0 1 1 0)) c.separators.ensures
     ∙ ap (map (placed c.args.start))
     (fields_of-from (separators_of c.args.service.now) (between c.args.start c.args.end (g.O.Octets.octets c.args.text.now)))

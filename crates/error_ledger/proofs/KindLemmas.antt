@@ -3,7 +3,7 @@ use Rattle.std.proofs.Common.{◌≡◌, ℕ, ◌+◌, ◌-◌, List, [], ◌∷
 use denote.Enum.Declared.{tag_of}
 use Rattle.error_ledger.specs.contracts.kind.Kind.{the_type}
 use Rattle.error_ledger.specs.declared.kind.Kind.{Kind}
-use Rattle.error_ledger.specs.declared.kind.Kind.TheVariants.{BadUna, NoUnb, NoUnz, Syntax, SecondUnb, AfterEnd, Outside, EmptyInterchange, Tail, Mixed, Reference, Count, NoUne, EmptyGroup, GroupType, NoTable, MissingSegment, MissingGroup, TooManySegments, TooManyGroups, Unplaced, BadTag, UnknownSegment, TooManyElements, TooManyComponents, Missing, Repertoire, WrongType, Decimal, TooLong, TooShort, Code}
+use Rattle.error_ledger.specs.declared.kind.Kind.TheVariants.{BadUna, NoUnb, NoUnz, Syntax, SecondUnb, AfterEnd, Outside, EmptyInterchange, Tail, Mixed, Reference, Count, NoUne, EmptyGroup, GroupType, NoTable, MissingSegment, MissingGroup, TooManySegments, TooManyGroups, Unplaced, BadTag, UnknownSegment, TooManyElements, TooManyComponents, Missing, Repertoire, WrongType, Decimal, TooLong, TooShort, Code, TooManyRepetitions}
 use Rattle.error_ledger.specs.Kinds.{number_of}
 
 -- the numbers go by the order of the variants
@@ -41,10 +41,11 @@ number_of-variant Decimal = refl
 number_of-variant TooLong = refl
 number_of-variant TooShort = refl
 number_of-variant Code = refl
+number_of-variant TooManyRepetitions = refl
 
 -- the kinds by their numbers
 by_number : List Kind
-by_number = BadUna ∷ NoUnb ∷ NoUnz ∷ Syntax ∷ SecondUnb ∷ AfterEnd ∷ Outside ∷ EmptyInterchange ∷ Tail ∷ Mixed ∷ Reference ∷ Count ∷ NoUne ∷ EmptyGroup ∷ GroupType ∷ NoTable ∷ MissingSegment ∷ MissingGroup ∷ TooManySegments ∷ TooManyGroups ∷ Unplaced ∷ BadTag ∷ UnknownSegment ∷ TooManyElements ∷ TooManyComponents ∷ Missing ∷ Repertoire ∷ WrongType ∷ Decimal ∷ TooLong ∷ TooShort ∷ Code ∷ []
+by_number = BadUna ∷ NoUnb ∷ NoUnz ∷ Syntax ∷ SecondUnb ∷ AfterEnd ∷ Outside ∷ EmptyInterchange ∷ Tail ∷ Mixed ∷ Reference ∷ Count ∷ NoUne ∷ EmptyGroup ∷ GroupType ∷ NoTable ∷ MissingSegment ∷ MissingGroup ∷ TooManySegments ∷ TooManyGroups ∷ Unplaced ∷ BadTag ∷ UnknownSegment ∷ TooManyElements ∷ TooManyComponents ∷ Missing ∷ Repertoire ∷ WrongType ∷ Decimal ∷ TooLong ∷ TooShort ∷ Code ∷ TooManyRepetitions ∷ []
 
 kind_at : ℕ → Kind
 kind_at n = get_or by_number (n - 1) BadUna
@@ -83,6 +84,7 @@ kind_at-number_of Decimal = refl
 kind_at-number_of TooLong = refl
 kind_at-number_of TooShort = refl
 kind_at-number_of Code = refl
+kind_at-number_of TooManyRepetitions = refl
 
 -- no two kinds have one number
 pub number_of-distinct : (one other : Kind) → number_of one ≡ number_of other → one ≡ other

@@ -2,7 +2,7 @@
 use Rattle.std.specs.Prelude.{ℕ, Bool, ◌&&◌, nat_le, codes}
 use Rattle.edi_tables.specs.Octets.{Octets}
 use Rattle.error_ledger.specs.declared.kind.Kind.{Kind}
-use Rattle.error_ledger.specs.declared.kind.Kind.TheVariants.{BadUna, NoUnb, NoUnz, Syntax, SecondUnb, AfterEnd, Outside, EmptyInterchange, Tail, Mixed, Reference, Count, NoUne, EmptyGroup, GroupType, NoTable, MissingSegment, MissingGroup, TooManySegments, TooManyGroups, Unplaced, BadTag, UnknownSegment, TooManyElements, TooManyComponents, Missing, Repertoire, WrongType, Decimal, TooLong, TooShort, Code}
+use Rattle.error_ledger.specs.declared.kind.Kind.TheVariants.{BadUna, NoUnb, NoUnz, Syntax, SecondUnb, AfterEnd, Outside, EmptyInterchange, Tail, Mixed, Reference, Count, NoUne, EmptyGroup, GroupType, NoTable, MissingSegment, MissingGroup, TooManySegments, TooManyGroups, Unplaced, BadTag, UnknownSegment, TooManyElements, TooManyComponents, Missing, Repertoire, WrongType, Decimal, TooLong, TooShort, Code, TooManyRepetitions}
 
 -- a row of the table of kinds: the number of the kind, the word that is printed for it, and its code
 pub record KindRow : Type 0 where
@@ -48,6 +48,7 @@ row_of Decimal = row 29 (codes "decimal") 19
 row_of TooLong = row 30 (codes "too-long") 39
 row_of TooShort = row 31 (codes "too-short") 40
 row_of Code = row 32 (codes "code") 12
+row_of TooManyRepetitions = row 33 (codes "too-many-repetitions") 35
 
 -- the number of a kind, which orders the errors of one place
 unfoldable pub number_of : Kind → ℕ
@@ -65,6 +66,6 @@ code_of kind = (row_of kind).code
 abbrev pub is_of_segment : Kind → Bool
 is_of_segment kind = nat_le 17 (number_of kind) && nat_le (number_of kind) 23
 
--- kinds that tell of an element or a component: 24 to 32
+-- kinds that tell of an element or a component: 24 to 33
 abbrev pub is_of_element : Kind → Bool
-is_of_element kind = nat_le 24 (number_of kind) && nat_le (number_of kind) 32
+is_of_element kind = nat_le 24 (number_of kind) && nat_le (number_of kind) 33

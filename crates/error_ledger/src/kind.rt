@@ -43,10 +43,11 @@ pub enum Kind {
     TooLong,
     TooShort,
     Code,
+    TooManyRepetitions,
 }
 
 impl Kind {
-    /// Its number, from 1 to 32.
+    /// Its number, from 1 to 33.
     pub fn number(self) -> u8
         ensures { result ≡ number_of self }
     {
@@ -91,6 +92,7 @@ impl Kind {
             Kind::TooLong => b"too-long",
             Kind::TooShort => b"too-short",
             Kind::Code => b"code",
+            Kind::TooManyRepetitions => b"too-many-repetitions",
         }
     }
 
@@ -105,7 +107,7 @@ impl Kind {
     pub fn is_of_element(self) -> bool
         ensures { result ≡ is_of_element self }
     {
-        (24..=32).contains(&self.number())
+        (24..=33).contains(&self.number())
     }
 }
 
@@ -147,5 +149,6 @@ pub fn code_of(kind: Kind) -> u8
         Kind::TooLong => 39,
         Kind::TooShort => 40,
         Kind::Code => 12,
+        Kind::TooManyRepetitions => 35,
     }
 }

@@ -1,4 +1,5 @@
 pub mod AppendLemmas
+pub mod ContextEnds
 mod ContextLemmas
 mod CountLemmas
 mod CutLemmas

@@ -52,7 +52,7 @@ advised-single : (text : List ℕ) → (advised_service text).repetition ≡ Non
 advised-single text =
     cond_both (nat_le 9 (length text) && is_acceptable (advice_in text)) _ _ (λ (s : Service). s.repetition ≡ None) (λ _. refl) (λ _. refl)
 
--- no service characters separate repetitions
+-- without a version no service characters separate repetitions
 pub service_of-single : (text : List ℕ) → (service_of text).repetition ≡ None
 unfolding service_of
 service_of-single text =

@@ -20,7 +20,7 @@ default_service = record {
 }
 
 -- octets 3 to 8 of a service string advice: component separator, element separator, decimal mark,
--- release character (a space: none), a reserved place, terminator
+-- release character (a space: none), a place that only version 4 uses, terminator
 abbrev pub advice_in : Octets → Service
 advice_in text = record {
   component = slice_index text 3;

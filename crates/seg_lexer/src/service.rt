@@ -22,7 +22,8 @@ pub struct Service {
     pub terminator: u8,
     /// The first octet after the service string advice.
     pub body: usize,
-    /// False where there is a service string advice that isn't acceptable: the default characters are used then.
+    /// False where the service string advice isn't acceptable, and the default characters are used, or where in version 4
+    /// its octet for repetitions can't separate them.
     pub sound: bool,
 }
 
@@ -88,7 +89,7 @@ pub fn read_service<O: Octets>(text: &O) -> Service
     }
 }
 
-fn begins_with_advice<O: Octets>(text: &O) -> bool
+pub(crate) fn begins_with_advice<O: Octets>(text: &O) -> bool
     ensures { result ≡ starts_with nat_eq (O.octets text.now) (codes "UNA") }
 {
     text.len() >= 3 && text.octet(0) == b'U' && text.octet(1) == b'N' && text.octet(2) == b'A'
@@ -136,7 +137,7 @@ fn is_acceptable(service: &Service) -> bool
 }
 
 /// Whether an octet is a letter, a digit, a space, CR or LF.
-fn is_plain(octet: u8) -> bool
+pub(crate) fn is_plain(octet: u8) -> bool
     ensures { result ≡ is_plain_of octet }
 {
     octet.is_ascii_alphanumeric() || matches!(octet, b' ' | b'\r' | b'\n')

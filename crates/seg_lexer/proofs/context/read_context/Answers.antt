@@ -1,4 +1,5 @@
 use Rattle.std.proofs.Common.{sym, ◌∙◌, arith}
+use Rattle.seg_lexer.proofs.ContextEnds.{usable-by}
 use Rattle.seg_lexer.proofs.ContextLemmas.{context-ended, context-left}
 use Rattle.seg_lexer.proofs.SegmentsLemmas.{boundary-zero, first-boundary}
 use Rattle.seg_lexer.proofs.context.read_context.Goals as goal
@@ -16,8 +17,14 @@ pub returns-in-Ended-clause-context : goal.returns-in-Ended-clause-context
 returns-in-Ended-clause-context g c =
     c.opening_context.ensures ∙ sym (context-ended _ _ c.read_service-service.ensures.service _ _ (c.in-Ended.ensures.lexed 0 (boundary-zero _ _)).segment)
 
-pub returns-in-Tail : goal.returns-in-Tail
-returns-in-Tail g c = record {
-  context = c.unopened_context.ensures ∙ sym (context-left _ _ c.read_service-service.ensures.service c.next_segment.result c.next_segment.ensures.lexed c.in-Tail.is);
-  counted = c.next_segment.ensures.counted;
-}
+pub returns-in-Ended-clause-usable : goal.returns-in-Ended-clause-usable
+returns-in-Ended-clause-usable g c =
+    usable-by _ _ (c.opening_context.ensures ∙ sym (context-ended _ _ c.read_service-service.ensures.service _ _ (c.in-Ended.ensures.lexed 0 (boundary-zero _ _)).segment))
+
+pub returns-in-Tail-clause-context : goal.returns-in-Tail-clause-context
+returns-in-Tail-clause-context g c =
+    c.context_by.ensures ∙ sym (context-left _ _ c.read_service-service.ensures.service c.next_segment.result c.next_segment.ensures.lexed c.in-Tail.is)
+
+pub returns-in-Tail-clause-usable : goal.returns-in-Tail-clause-usable
+returns-in-Tail-clause-usable g c =
+    usable-by _ _ (c.context_by.ensures ∙ sym (context-left _ _ c.read_service-service.ensures.service c.next_segment.result c.next_segment.ensures.lexed c.in-Tail.is))

@@ -1,9 +1,9 @@
 -- What a first look shows of the errors of a segment.
 use Rattle.std.proofs.Common.{◌≡◌, ◌≢◌, ℕ, ◌+◌, ◌<◌, ◌≤◌, eqb, Bool, true, false, not, ◌&&◌, ◌||◌, cond, List, [], ◌∷◌, ◌++◌, ◌-◌, drop, get_or, length, take, Option, Some, None, refl, sym, ap, ◌∙◌, inl, inr, arith}
 use Rattle.std.specs.Prelude.{map, if◌then◌else◌}
-use Rattle.std.specs.List.{enumerate_from, flat_map, list_any}
+use Rattle.std.specs.List.{enumerate_from, filter, flat_map, list_all, list_any}
 use Rattle.std.proofs.Math.Seq.{take-length}
-use Rattle.std.proofs.lemmas.Bool.{cases_Bool, ne_eqb, not-true, or_parts}
+use Rattle.std.proofs.lemmas.Bool.{and_parts, cases_Bool, ne_eqb, not-true, or_parts}
 use Rattle.std.proofs.lemmas.Bool.Decides.{nat_tests}
 use Rattle.std.proofs.lemmas.List.{append_assoc}
 use Rattle.edi_tables.specs.Rows.{when}
@@ -14,18 +14,19 @@ use Rattle.edi_tables.specs.declared.element.Repr.{Repr}
 use Rattle.error_ledger.specs.declared.kind.Kind.{Kind}
 use Rattle.error_ledger.specs.declared.kind.Kind.TheVariants.{Missing, Repertoire, WrongType, Decimal, TooLong, TooShort}
 use Rattle.dir_compile.specs.declared.parts.Parts.{Parts}
-use Rattle.seg_lexer.specs.Fields.{Component, PlacedComponent, component_in, components_in, element_in, is_cut, is_repeat, repetition_in, stretches, unplaced}
+use Rattle.seg_lexer.specs.Fields.{Component, PlacedComponent, are_single, component_in, components_in, element_in, is_cut, is_repeat, repetition_in, stretches, unplaced}
 use Rattle.seg_lexer.specs.Stretch.{places_that}
 use Rattle.seg_lexer.specs.Place.{fields_after, fields_from, repetitions_after}
-use Rattle.seg_lexer.specs.Tag.{tag_in, tag_of}
+use Rattle.seg_lexer.specs.Tag.{tag_field, tag_in, tag_of}
 use Rattle.seg_lexer.specs.Fields.{IsInOrder}
 use Rattle.seg_lexer.specs.declared.context.Context.{Context}
 use Rattle.seg_lexer.specs.declared.service.Separators.{Separators}
-use Rattle.element_check.specs.Local.{errors_by, errors_tagged, error_at, has_octet, local_errors_of}
+use Rattle.element_check.specs.Local.{errors_by, errors_tagged, error_at, has_octet, local_errors_of, values_in}
 use Rattle.element_check.specs.Rules.{SegmentRules, list_of, rules_of}
-use Rattle.element_check.specs.Streams.{after_front, alone_errors, front_values, items_errors, part_errors, part_rules, parts_errors, surplus_components, told_errors}
+use Rattle.element_check.specs.Streams.{after_front, alone_errors, front_values, is_repeatable, items_errors, part_errors, part_rules, parts_errors, surplus_components, told_errors}
 use Rattle.element_check.specs.Value.{fails, test_results}
-use Rattle.element_check.proofs.BridgeLemmas.{elements-walk, front-is}
+use Rattle.element_check.proofs.BridgeLemmas.{elements-walk}
+use Rattle.element_check.proofs.RepetitionLemmas.{front-is}
 use Rattle.element_check.proofs.StreamLemmas.{IsNext, alone-next, parts-next, parts_errors-end, told-none}
 use Rattle.element_check.specs.declared.error.LocalError.{LocalError}
 use Rattle.clean_segments.specs.Start.{plain_rest}
@@ -89,20 +90,34 @@ unfolding fields_from
 front-other sp xs s n other =
     first-from sp xs s.element n (ne_eqb _ _ other) 1 s.component s.at (length xs) (places_that (is_cut sp.release xs sp.element) s.at (length xs))
 
+field_more : (b : Bool) (x : Component) (one other : List Component) → map (λ e. e.octets) one ≡ map (λ e. e.octets) other
+    → map (λ e. e.octets) (cond (b && true) (x ∷ one) one) ≡ map (λ e. e.octets) (cond b (x ∷ other) other)
+field_more true x one other same = ap (λ (vs : List (List ℕ)). x.octets ∷ vs) same
+field_more false x one other same = same
+
+-- where nothing is repeated, the tag field is what element 0 says in its one repetition
+field_single : (components : List Component) → are_single components ≡ true → values_in components 0 1 ≡ tag_field components
+field_single [] single = refl
+field_single (x ∷ xs) single =
+    let parts = and_parts (eqb x.repetition 1) (are_single xs) single in
+    let one : List Component = filter (λ e. eqb e.element 0 && eqb e.repetition 1) xs in
+    ap (λ (b : Bool). map (λ e. e.octets) (cond (eqb x.element 0 && b) (x ∷ one) one)) parts.0
+    ∙ field_more (eqb x.element 0) x one (filter (λ e. eqb e.element 0) xs) (field_single xs parts.1)
+
 -- the tag field is one component, which is a tag
-pub tagged : (components : List Component) (t : List ℕ) → IsInOrder 0 components → front_values 0 components ≡ t ∷ [] → is_tag_of t ≡ true → tag_of components ≡ Some t
+pub tagged : (components : List Component) (t : List ℕ) → IsInOrder 0 components → are_single components ≡ true → front_values 0 components ≡ t ∷ [] → is_tag_of t ≡ true → tag_of components ≡ Some t
 unfolding tag_of
-tagged components t order field is =
-    ap tag_in (sym (front-is 0 components order) ∙ field)
+tagged components t order single field is =
+    ap tag_in (sym (front-is 0 components order single ∙ field_single components single) ∙ field)
     ∙ ap (λ (b : Bool). cond (b && true) (Some t) None) is
 
 -- no error of an element is an error of the segment
 pub none-wrong : (parts : Parts) (context : Context) (components : List Component) (t : List ℕ) (rules : SegmentRules)
-    → IsInOrder 0 components → tag_of components ≡ Some t → rules_of parts context t ≡ Some rules
+    → IsInOrder 0 components → are_single components ≡ true → list_all is_repeatable rules.items ≡ true → tag_of components ≡ Some t → rules_of parts context t ≡ Some rules
     → items_errors rules 0 rules.items (after_front 0 components) ≡ [] → local_errors_of parts context components ≡ []
 unfolding local_errors_of
-none-wrong parts context components t rules order tag known none =
-    ap (errors_tagged parts context components) tag ∙ ap (errors_by components) known ∙ sym (elements-walk rules components order) ∙ none
+none-wrong parts context components t rules order single all tag known none =
+    ap (errors_tagged parts context components) tag ∙ ap (errors_by components) known ∙ sym (elements-walk rules components all single order) ∙ none
 
 -- a value that passes its tests by a list passes them without one
 unlisted : (context : Context) (repr : Repr) (list : Option CodeList) (value : List ℕ)

@@ -5,7 +5,7 @@ ghost use Rattle.std.specs.List.{list_any};
 ghost use Rattle.std.specs.Option.{ForSome};
 ghost use Rattle.edi_tables.specs.Tag.{is_tag_of};
 ghost use Rattle.memchr.specs.Find.{IsFirst};
-ghost use Rattle.seg_lexer.specs.Fields.{components_of, is_separator};
+ghost use Rattle.seg_lexer.specs.Fields.{are_single, components_of, is_separator};
 ghost use Rattle.seg_lexer.specs.Released.{is_release as is_release_of};
 ghost use Rattle.element_check.specs.Streams.{after_front, front_values};
 ghost use Rattle.clean_segments.specs.Start.{IsSeparator, IsStart};
@@ -42,8 +42,10 @@ impl<'a> PlainFields<'a> {
     #[tactic(auto, unfolding(crate::specs::Plain::plain_left))]
     pub(crate) fn of(octets: &'a [u8], separators: Separators) -> Option<PlainFields<'a>>
         requires short { length octets.now ≤ LONGEST_TEXT }
-        ensures { IfSome result
+        ensures components { IfSome result
             (λ fields. plain_left fields ≡ components_of separators octets.now) }
+        ensures single { IfSome result
+            (λ fields. are_single (components_of separators octets.now) ≡ true) }
     {
         if has_release(separators.release, octets) {
             return None;

@@ -15,7 +15,7 @@ use Rattle.seg_lexer.specs.Fields.{Component}
 use Rattle.seg_lexer.specs.Tag.{tag_of}
 use Rattle.seg_lexer.specs.declared.context.Context.{Context}
 use Rattle.element_check.specs.Ascending.{AreAscending, order_key_of}
-use Rattle.element_check.specs.Local.{element_errors, elements_errors, element_kinds, error_at, errors_by, errors_tagged, is_broken_at, is_broken_whole, last_component, local_errors_of, values_in}
+use Rattle.element_check.specs.Local.{element_errors, elements_errors, element_kinds, error_at, errors_by, errors_tagged, is_component_broken, is_element_broken, last_component, local_errors_of, repetitions_of}
 use Rattle.element_check.specs.Rules.{SegmentRules, rules_of}
 use Rattle.element_check.specs.declared.error.LocalError.{LocalError}
 
@@ -42,7 +42,7 @@ each-map P Q f g (x ∷ xs) h = (g x h.0, each-map P Q f g xs h.1)
 
 -- each member is before all later ones
 module _ {X : Type 0} (Before : X → X → Type 0) where
-  abbrev Rises : List X → Type 0
+  abbrev pub Rises : List X → Type 0
   Rises [] = ⊤
   Rises (x ∷ xs) = AllByRecursion (Before x) xs × Rises xs
 
@@ -82,7 +82,7 @@ module _ {X : Type 0} (Before : X → X → Type 0) (P : X → Type 0) (place : 
         (f first) (flat_map f (range_with_len (first + 1) len)) (here first) (each-range (first + 1) len) (up first) (rises-range (first + 1) len)
 
 -- one error is before another: by its element, its component, or its kind
-abbrev IsBefore : LocalError → LocalError → Type 0
+abbrev pub IsBefore : LocalError → LocalError → Type 0
 IsBefore x y = compare_keys (order_key_of x) (order_key_of y) ≡ Less
 
 less : (a b : ℕ) → a < b → nat_cmp a b ≡ Less
@@ -105,10 +105,10 @@ before-by_kind element component a b h = rw (same element element refl, same com
 
 kinds-rise : Rises IsLower element_kinds
 unfolding number_of
-kinds-rise = ((refl, (refl, (refl, (refl, (refl, (refl, (refl, (refl, tt)))))))), ((refl, (refl, (refl, (refl, (refl, (refl, (refl, tt))))))), ((refl, (refl, (refl, (refl, (refl, (refl, tt)))))), ((refl, (refl, (refl, (refl, (refl, tt))))), ((refl, (refl, (refl, (refl, tt)))), ((refl, (refl, (refl, tt))), ((refl, (refl, tt)), ((refl, tt), (tt, tt)))))))))
+kinds-rise = ((refl, (refl, (refl, (refl, (refl, (refl, (refl, (refl, (refl, tt))))))))), ((refl, (refl, (refl, (refl, (refl, (refl, (refl, (refl, tt)))))))), ((refl, (refl, (refl, (refl, (refl, (refl, (refl, tt))))))), ((refl, (refl, (refl, (refl, (refl, (refl, tt)))))), ((refl, (refl, (refl, (refl, (refl, tt))))), ((refl, (refl, (refl, (refl, tt)))), ((refl, (refl, (refl, tt))), ((refl, (refl, tt)), ((refl, tt), (tt, tt))))))))))
 
 -- the errors of one place
-abbrev place_errors : ℕ → ℕ → (Kind → Bool) → List LocalError
+abbrev pub place_errors : ℕ → ℕ → (Kind → Bool) → List LocalError
 place_errors element component broken = map (error_at element component) (filter broken element_kinds)
 
 each-at : (element component : ℕ) (kinds : List Kind) → AllByRecursion (λ x. (x.element ≡ element) × (x.component ≡ component)) (map (error_at element component) kinds)
@@ -122,7 +122,7 @@ rises-at element component broken =
 
 -- the errors of one element
 module _ (element : ℕ) (whole : Kind → Bool) (broken : ℕ → Kind → Bool) (len : ℕ) where
-  abbrev components_errors : List LocalError
+  abbrev pub components_errors : List LocalError
   components_errors = flat_map (λ component. place_errors element component (broken component)) (range_with_len 1 len)
 
   each-component : AllByRecursion (λ x. (x.element ≡ element) × (1 ≤ x.component)) components_errors
@@ -143,31 +143,31 @@ module _ (element : ℕ) (whole : Kind → Bool) (broken : ℕ → Kind → Bool
       (λ x y h k. before-by_component x y (h ∙ sym k))
       (λ component. rises-at element component (broken component)) 1 len
 
-  rises-of_element : Rises IsBefore (place_errors element 0 whole ++ components_errors)
+  pub rises-of_element : Rises IsBefore (place_errors element 0 whole ++ components_errors)
   rises-of_element =
       rises-append IsBefore (λ x. (x.element ≡ element) × (x.component ≡ 0)) (λ x. (x.element ≡ element) × (1 ≤ x.component))
       (λ x y h k. before-by_component x y (h.0 ∙ sym k.0) (omega arith))
       (place_errors element 0 whole) components_errors (each-at element 0 (filter whole element_kinds)) each-component (rises-at element 0 whole) rises-components
 
-each-of_errors : (rules : SegmentRules) (item : Option ItemDef) (values : List (List ℕ)) (element : ℕ) → AllByRecursion (λ x. ⊤ × (x.element ≡ element)) (element_errors rules item values element)
+each-of_errors : (rules : SegmentRules) (item : Option ItemDef) (repetitions : List (List (List ℕ))) (element : ℕ) → AllByRecursion (λ x. ⊤ × (x.element ≡ element)) (element_errors rules item repetitions element)
 unfolding element_errors
-each-of_errors rules item values element =
-    each-then (λ x. x.element ≡ element) (λ x. ⊤ × (x.element ≡ element)) (λ x h. (tt, h)) (element_errors rules item values element)
-    (each-of_element element (is_broken_whole rules item values) (is_broken_at rules item values) (last_component rules item values))
+each-of_errors rules item repetitions element =
+    each-then (λ x. x.element ≡ element) (λ x. ⊤ × (x.element ≡ element)) (λ x h. (tt, h)) (element_errors rules item repetitions element)
+    (each-of_element element (is_element_broken rules item repetitions) (is_component_broken rules item repetitions) (last_component rules item repetitions))
 
-rises-of_errors : (rules : SegmentRules) (item : Option ItemDef) (values : List (List ℕ)) (element : ℕ) → Rises IsBefore (element_errors rules item values element)
+rises-of_errors : (rules : SegmentRules) (item : Option ItemDef) (repetitions : List (List (List ℕ))) (element : ℕ) → Rises IsBefore (element_errors rules item repetitions element)
 unfolding element_errors
-rises-of_errors rules item values element =
-    rises-of_element element (is_broken_whole rules item values) (is_broken_at rules item values) (last_component rules item values)
+rises-of_errors rules item repetitions element =
+    rises-of_element element (is_element_broken rules item repetitions) (is_component_broken rules item repetitions) (last_component rules item repetitions)
 
 -- the errors of all elements
-rises-of_elements : (rules : SegmentRules) (components : List Component) (len : ℕ) → Rises IsBefore (flat_map (λ element. element_errors rules (slice_get rules.items (element - 1)) (values_in components element) element) (range_with_len 1 len))
+rises-of_elements : (rules : SegmentRules) (components : List Component) (len : ℕ) → Rises IsBefore (flat_map (λ element. element_errors rules (slice_get rules.items (element - 1)) (repetitions_of components element) element) (range_with_len 1 len))
 rises-of_elements rules components len =
     rises-range IsBefore (λ x. ⊤) (λ x. x.element)
-    (λ element. element_errors rules (slice_get rules.items (element - 1)) (values_in components element) element)
-    (λ element. each-of_errors rules (slice_get rules.items (element - 1)) (values_in components element) element)
+    (λ element. element_errors rules (slice_get rules.items (element - 1)) (repetitions_of components element) element)
+    (λ element. each-of_errors rules (slice_get rules.items (element - 1)) (repetitions_of components element) element)
     (λ x y h k. before-by_element x y)
-    (λ element. rises-of_errors rules (slice_get rules.items (element - 1)) (values_in components element) element) 1 len
+    (λ element. rises-of_errors rules (slice_get rules.items (element - 1)) (repetitions_of components element) element) 1 len
 
 rises-by : (components : List Component) (rules : Option SegmentRules) → Rises IsBefore (errors_by components rules)
 unfolding elements_errors
@@ -179,7 +179,7 @@ rises-tagged parts context components None = (tt, tt)
 rises-tagged parts context components (Some tag) = rises-by components (rules_of parts context tag)
 
 -- a list that rises is sorted
-sorted-rising : (xs : List LocalError) → Rises IsBefore xs → AreAscending xs
+pub sorted-rising : (xs : List LocalError) → Rises IsBefore xs → AreAscending xs
 unfolding IsStrictlySortedBy
 sorted-rising [] up = tt
 sorted-rising (x ∷ xs) up =

@@ -1,4 +1,4 @@
--- The errors of an element, component after component, are those of each place.
+-- The errors of a repetition, component after component, are those of each place.
 use Rattle.std.proofs.Common.{◌≡◌, ℕ, suc, ◌+◌, ◌-◌, max, Bool, true, false, not, ◌&&◌, ◌||◌, cond, zero, zero-add, List, [], ◌∷◌, ◌++◌, map, filter, length, refl, sym, ap, ◌∙◌, inl, inr, arith}
 use Rattle.std.proofs.lemmas.Bool.{cases_Bool}
 use Rattle.std.specs.Prelude.{Option, Some, None, slice_get, unwrap_or}
@@ -9,18 +9,18 @@ use Rattle.edi_tables.specs.declared.segment.ItemDef.{ItemDef}
 use Rattle.edi_tables.specs.declared.segment.ItemDef.TheVariants.{Alone, Composite}
 use Rattle.edi_tables.specs.declared.element.Code.{Code}
 use Rattle.error_ledger.specs.declared.kind.Kind.{Kind}
-use Rattle.error_ledger.specs.declared.kind.Kind.TheVariants.{TooManyElements, TooManyComponents, Missing}
-use Rattle.element_check.specs.Local.{element_errors, element_kinds, error_at, component_errors_at, errors_whole, is_broken_part, has_octet, is_list_named, list_in, parts_in, value_at}
+use Rattle.error_ledger.specs.declared.kind.Kind.TheVariants.{TooManyComponents, Missing}
+use Rattle.element_check.specs.Local.{error_at, is_broken_part, has_octet, is_list_named, list_in, parts_in, value_at}
 use Rattle.element_check.specs.Rules.{SegmentRules, list_of, parts_of}
-use Rattle.element_check.specs.Streams.{alone_errors, composite_errors, first_value, item_errors, later_values, part_errors, part_rules, parts_errors, surplus_components, told_errors}
+use Rattle.element_check.specs.Streams.{alone_errors, composite_errors, first_value, item_errors, later_values, part_errors, part_rules, parts_errors, repetition_errors, repetition_errors_at, repetition_errors_whole, repetition_kinds, surplus_components, told_errors}
 use Rattle.element_check.specs.Value.{fails, value_kinds}
 use Rattle.element_check.specs.declared.error.LocalError.{LocalError}
 
-and_false : (b : Bool) → (b && false) ≡ false
+pub and_false : (b : Bool) → (b && false) ≡ false
 and_false true = refl
 and_false false = refl
 
-and_true : (b : Bool) → (b && true) ≡ b
+pub and_true : (b : Bool) → (b && true) ≡ b
 and_true true = refl
 and_true false = refl
 
@@ -36,7 +36,7 @@ append-nil : {X : Type 0} (xs : List X) → xs ++ [] ≡ xs
 append-nil [] = refl
 append-nil (x ∷ xs) = ap (λ ys. x ∷ ys) (append-nil xs)
 
-flat_map-empty : {X Y : Type 0} (f : X → List Y) (xs : List X) → ((x : X) → f x ≡ []) → flat_map f xs ≡ []
+pub flat_map-empty : {X Y : Type 0} (f : X → List Y) (xs : List X) → ((x : X) → f x ≡ []) → flat_map f xs ≡ []
 flat_map-empty f [] h = refl
 flat_map-empty f (x ∷ xs) h = ap (λ ys. ys ++ flat_map f xs) (h x) ∙ flat_map-empty f xs h
 
@@ -51,7 +51,7 @@ told-filter element component f (k ∷ ks) =
     told-one false = refl
 
 -- one kind, where it is broken
-one-kind : (element component : ℕ) (k : Kind) (b : Bool) → map (error_at element component) (cond b (k ∷ []) []) ≡ when b (error_at element component k)
+pub one-kind : (element component : ℕ) (k : Kind) (b : Bool) → map (error_at element component) (cond b (k ∷ []) []) ≡ when b (error_at element component k)
 one-kind element component k true = refl
 one-kind element component k false = refl
 
@@ -102,17 +102,17 @@ value-here : (xs : List (List ℕ)) (i : ℕ) (ys : List (List ℕ)) → HoldsFr
 value-here xs i ys h = ap (λ o. unwrap_or o []) (holds-here xs i ys h) ∙ first-value ys
 
 module _ (rules : SegmentRules) (item : ItemDef) (values : List (List ℕ)) (element : ℕ) where
-  abbrev at_place : ℕ → Option PartDef → List LocalError
-  at_place component o = map (error_at element component) (filter (is_broken_part rules item values (o, value_at values component)) element_kinds)
+  abbrev pub at_place : ℕ → Option PartDef → List LocalError
+  at_place component o = map (error_at element component) (filter (is_broken_part rules item values (o, value_at values component)) repetition_kinds)
 
   -- the components past the last part
   surplus-walk : (i : ℕ) (ws : List (List ℕ)) → HoldsFrom (parts_in rules item) i [] → HoldsFrom values i ws
-      → flat_map (component_errors_at rules (Some item) values element) (range_with_len (i + 1) (length ws)) ≡ surplus_components element (i + 1) ws
+      → flat_map (repetition_errors_at rules (Some item) values element) (range_with_len (i + 1) (length ws)) ≡ surplus_components element (i + 1) ws
   surplus-walk i [] parts_none values_are = refl
   surplus-walk i (w ∷ ws) parts_none values_are =
-      ap (λ o. at_place (i + 1) o ++ flat_map (component_errors_at rules (Some item) values element) (range_with_len (i + 1 + 1) (length ws))) (holds-here (parts_in rules item) i [] parts_none)
-      ∙ ap (λ es. es ++ flat_map (component_errors_at rules (Some item) values element) (range_with_len (i + 1 + 1) (length ws))) (one-kind element (i + 1) TooManyComponents (has_octet (value_at values (i + 1))))
-      ∙ ap (λ (v : List ℕ). when (has_octet v) (error_at element (i + 1) TooManyComponents) ++ flat_map (component_errors_at rules (Some item) values element) (range_with_len (i + 1 + 1) (length ws))) (value-here values i (w ∷ ws) values_are)
+      ap (λ o. at_place (i + 1) o ++ flat_map (repetition_errors_at rules (Some item) values element) (range_with_len (i + 1 + 1) (length ws))) (holds-here (parts_in rules item) i [] parts_none)
+      ∙ ap (λ es. es ++ flat_map (repetition_errors_at rules (Some item) values element) (range_with_len (i + 1 + 1) (length ws))) (one-kind element (i + 1) TooManyComponents (has_octet (value_at values (i + 1))))
+      ∙ ap (λ (v : List ℕ). when (has_octet v) (error_at element (i + 1) TooManyComponents) ++ flat_map (repetition_errors_at rules (Some item) values element) (range_with_len (i + 1 + 1) (length ws))) (value-here values i (w ∷ ws) values_are)
       ∙ ap (λ es. when (has_octet w) (error_at element (i + 1) TooManyComponents) ++ es) (surplus-walk (i + 1) ws (holds-none (parts_in rules item) i parts_none) (holds-later values i w ws values_are))
 
 -- how many components parts and values make, whichever are more
@@ -140,13 +140,13 @@ module _ (rules : SegmentRules) (code : Code) (must : Bool) (reps : ℕ) (values
 
   -- the parts of a composite and what is past them
   parts-walk : (i : ℕ) (ps : List PartDef) (ws : List (List ℕ)) → list_any has_octet values ≡ true → HoldsFrom parts i ps → HoldsFrom values i ws
-      → flat_map (component_errors_at rules (Some composite) values element) (range_with_len (i + 1) (span ps ws)) ≡ parts_errors (part_rules rules named) element (i + 1) ps ws
+      → flat_map (repetition_errors_at rules (Some composite) values element) (range_with_len (i + 1) (span ps ws)) ≡ parts_errors (part_rules rules named) element (i + 1) ps ws
   parts-walk i [] ws any parts_are values_are = surplus-walk rules composite values element i ws parts_are values_are
   parts-walk i (p ∷ ps) ws any parts_are values_are =
-      ap (λ o. at_place rules composite values element (i + 1) o ++ flat_map (component_errors_at rules (Some composite) values element) (range_with_len (i + 1 + 1) (span ps (later_values ws)))) (holds-here parts i (p ∷ ps) parts_are)
-      ∙ ap (λ es. es ++ flat_map (component_errors_at rules (Some composite) values element) (range_with_len (i + 1 + 1) (span ps (later_values ws))))
+      ap (λ o. at_place rules composite values element (i + 1) o ++ flat_map (repetition_errors_at rules (Some composite) values element) (range_with_len (i + 1 + 1) (span ps (later_values ws)))) (holds-here parts i (p ∷ ps) parts_are)
+      ∙ ap (λ es. es ++ flat_map (repetition_errors_at rules (Some composite) values element) (range_with_len (i + 1 + 1) (span ps (later_values ws))))
       (part-place element (i + 1) (list_any has_octet values) p.must (has_octet (value_at values (i + 1))) (results p (value_at values (i + 1))) any)
-      ∙ ap (λ (v : List ℕ). part_errors (part_rules rules named) element (i + 1) p v ++ flat_map (component_errors_at rules (Some composite) values element) (range_with_len (i + 1 + 1) (span ps (later_values ws)))) (value-here values i ws values_are)
+      ∙ ap (λ (v : List ℕ). part_errors (part_rules rules named) element (i + 1) p v ++ flat_map (repetition_errors_at rules (Some composite) values element) (range_with_len (i + 1 + 1) (span ps (later_values ws)))) (value-here values i ws values_are)
       ∙ ap (λ es. part_errors (part_rules rules named) element (i + 1) p (first_value ws) ++ es) (parts-walk (i + 1) ps (later_values ws) any (holds-later parts i p ps parts_are) (holds-values values i ws values_are))
 
   -- a value of an element without a filled component is empty
@@ -161,21 +161,21 @@ module _ (rules : SegmentRules) (code : Code) (must : Bool) (reps : ℕ) (values
       ap (λ (a : Bool). value_place element component ((a && part.must) && not (has_octet (value_at values component))) (has_octet (value_at values component)) (results part (value_at values component))) none
       ∙ ap (λ (b : Bool). value_place element component false b (results part (value_at values component))) empty
 
-  pub element-composite : element_errors rules (Some composite) values element ≡ composite_errors rules element must parts values
-  unfolding element_errors
+  pub element-composite : repetition_errors rules (Some composite) values element ≡ composite_errors rules element must parts values
+  unfolding repetition_errors
   element-composite = elim (cases_Bool (list_any has_octet values)) [
     | inl any ↦
-        ap (λ es. es ++ flat_map (component_errors_at rules (Some composite) values element) (range_with_len 1 (max (length parts) (length values)))) (one-kind element 0 Missing (must && not (list_any has_octet values)))
-        ∙ ap (λ (a : Bool). when (must && not a) (error_at element 0 Missing) ++ flat_map (component_errors_at rules (Some composite) values element) (range_with_len 1 (max (length parts) (length values)))) any
-        ∙ ap (λ (b : Bool). when b (error_at element 0 Missing) ++ flat_map (component_errors_at rules (Some composite) values element) (range_with_len 1 (max (length parts) (length values)))) (and_false must)
-        ∙ ap (λ (n : ℕ). flat_map (component_errors_at rules (Some composite) values element) (range_with_len 1 n)) (max-span parts values)
+        ap (λ es. es ++ flat_map (repetition_errors_at rules (Some composite) values element) (range_with_len 1 (max (length parts) (length values)))) (one-kind element 0 Missing (must && not (list_any has_octet values)))
+        ∙ ap (λ (a : Bool). when (must && not a) (error_at element 0 Missing) ++ flat_map (repetition_errors_at rules (Some composite) values element) (range_with_len 1 (max (length parts) (length values)))) any
+        ∙ ap (λ (b : Bool). when b (error_at element 0 Missing) ++ flat_map (repetition_errors_at rules (Some composite) values element) (range_with_len 1 (max (length parts) (length values)))) (and_false must)
+        ∙ ap (λ (n : ℕ). flat_map (repetition_errors_at rules (Some composite) values element) (range_with_len 1 n)) (max-span parts values)
         ∙ parts-walk 0 parts values any (λ k. ap (slice_get parts) (zero-add k)) (λ k. ap (slice_get values) (zero-add k))
         ∙ sym (ap (λ (a : Bool). cond a (parts_errors (part_rules rules named) element 1 parts values) (when must (error_at element 0 Missing))) any)
     | inr none ↦
-        ap (λ es. errors_whole rules (Some composite) values element ++ es)
-        (flat_map-empty (component_errors_at rules (Some composite) values element) (range_with_len 1 (max (length parts) (length values)))
+        ap (λ es. repetition_errors_whole rules (Some composite) values element ++ es)
+        (flat_map-empty (repetition_errors_at rules (Some composite) values element) (range_with_len 1 (max (length parts) (length values)))
         (λ c. empty-place c (slice_get parts (c - 1)) none (none-filled values (c - 1) none)))
-        ∙ append-nil (errors_whole rules (Some composite) values element)
+        ∙ append-nil (repetition_errors_whole rules (Some composite) values element)
         ∙ one-kind element 0 Missing (must && not (list_any has_octet values))
         ∙ ap (λ (a : Bool). when (must && not a) (error_at element 0 Missing)) none
         ∙ ap (λ (b : Bool). when b (error_at element 0 Missing)) (and_true must)
@@ -190,28 +190,20 @@ module _ (rules : SegmentRules) (part : PartDef) (reps : ℕ) (values : List (Li
   first-at = first-value values
 
   -- past the one part of a stand-alone data element
-  alone-walk : (n : ℕ) → n ≡ span (part ∷ []) values → flat_map (component_errors_at rules (Some alone) values element) (range_with_len 1 n) ≡ surplus_components element 2 (later_values values)
+  alone-walk : (n : ℕ) → n ≡ span (part ∷ []) values → flat_map (repetition_errors_at rules (Some alone) values element) (range_with_len 1 n) ≡ surplus_components element 2 (later_values values)
   alone-walk n is =
-      ap (λ (m : ℕ). flat_map (component_errors_at rules (Some alone) values element) (range_with_len 1 m)) is
+      ap (λ (m : ℕ). flat_map (repetition_errors_at rules (Some alone) values element) (range_with_len 1 m)) is
       ∙ surplus-walk rules alone values element 1 (later_values values) (holds-later (part ∷ []) 0 part [] (λ k. ap (slice_get (part ∷ [])) (zero-add k))) (holds-values values 0 values (λ k. ap (slice_get values) (zero-add k)))
 
-  pub element-alone : element_errors rules (Some alone) values element ≡ alone_errors rules element part values
-  unfolding element_errors
+  pub element-alone : repetition_errors rules (Some alone) values element ≡ alone_errors rules element part values
+  unfolding repetition_errors
   element-alone =
-      ap (λ es. es ++ flat_map (component_errors_at rules (Some alone) values element) (range_with_len 1 (max 1 (length values))))
+      ap (λ es. es ++ flat_map (repetition_errors_at rules (Some alone) values element) (range_with_len 1 (max 1 (length values))))
       (value-place element 0 part.must (has_octet (value_at values 1)) (fails rules.context part.repr (list_of rules part.code.octets) (value_at values 1)))
-      ∙ ap (λ (v : List ℕ). part_errors (part_rules rules false) element 0 part v ++ flat_map (component_errors_at rules (Some alone) values element) (range_with_len 1 (max 1 (length values)))) first-at
+      ∙ ap (λ (v : List ℕ). part_errors (part_rules rules false) element 0 part v ++ flat_map (repetition_errors_at rules (Some alone) values element) (range_with_len 1 (max 1 (length values)))) first-at
       ∙ ap (λ es. part_errors (part_rules rules false) element 0 part (first_value values) ++ es) (alone-walk (max 1 (length values)) (max-span (part ∷ []) values))
 
--- the errors of an element that has an item
-pub element-item : (rules : SegmentRules) (item : ItemDef) (values : List (List ℕ)) (element : ℕ) → element_errors rules (Some item) values element ≡ item_errors rules element item values
+-- the errors of a repetition of an element that has an item
+pub element-item : (rules : SegmentRules) (item : ItemDef) (values : List (List ℕ)) (element : ℕ) → repetition_errors rules (Some item) values element ≡ item_errors rules element item values
 element-item rules (Alone part reps) values element = element-alone rules part reps values element
 element-item rules (Composite code must reps) values element = element-composite rules code must reps values element
-
--- the errors of an element past the last item
-pub element-past : (rules : SegmentRules) (values : List (List ℕ)) (element : ℕ) → element_errors rules None values element ≡ when (list_any has_octet values) (error_at element 0 TooManyElements)
-unfolding element_errors
-element-past rules values element =
-    ap (λ es. errors_whole rules None values element ++ es) (flat_map-empty (component_errors_at rules None values element) (range_with_len 1 (length values)) (λ c. refl))
-    ∙ append-nil (errors_whole rules None values element)
-    ∙ one-kind element 0 TooManyElements (list_any has_octet values)

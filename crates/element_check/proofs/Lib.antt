@@ -3,8 +3,17 @@ pub mod BridgeLemmas
 mod CodeLemmas
 pub mod ElementLemmas
 mod ErrorsLemmas
+pub mod FirstRepetition
+mod GatherLemmas
+mod MergeLemmas
 mod NumberLemmas
+pub mod OneLemmas
+mod OrderedLemmas
+mod PlaceLemmas
+mod RepeatedLemmas
+pub mod RepetitionLemmas
 pub mod RulesLemmas
+pub mod RunLemmas
 pub mod StreamLemmas
 mod TallyLemmas
 mod WorkedElements

@@ -1,6 +1,6 @@
 -- The rules of segments are short.
 use Rattle.std.proofs.Common.{◌≡◌, ℕ, ◌≤◌, Bool, true, ◌&&◌, cond, List, [], ◌∷◌, Some, None, length, refl, sym, ap, subst, ◌∙◌, inl, inr, arith, lit≤}
-use Rattle.std.proofs.lemmas.Bool.{and_parts, cases_Bool}
+use Rattle.std.proofs.lemmas.Bool.{and_from, and_parts, cases_Bool}
 use Rattle.std.proofs.lemmas.Option.{same_Some}
 use Rattle.std.proofs.lemmas.Bool.Decides.{nat_tests}
 use Rattle.std.specs.Prelude.{Option, IfSome, nat_le, unwrap_or}
@@ -13,7 +13,8 @@ use Rattle.edi_tables.specs.declared.element.CompositeDef.{CompositeDef}
 use Rattle.edi_tables.specs.declared.element.PartDef.{PartDef}
 use Rattle.edi_tables.specs.declared.segment.ItemDef.{ItemDef}
 use Rattle.edi_tables.specs.declared.segment.SegmentDef.{SegmentDef}
-use Rattle.edi_tables.specs.Forms.{is_composite_code, is_composite_formed, is_count_formed, is_item_formed, is_part_formed, is_segment_formed}
+use Rattle.edi_tables.specs.declared.segment.ItemDef.TheVariants.{Alone, Composite}
+use Rattle.edi_tables.specs.Forms.{is_composite_code, is_composite_formed, is_count_formed, is_item_formed, is_part_formed, is_reps_formed, is_segment_formed, reps_of}
 use Rattle.edi_tables.specs.Tag.{is_tag_of}
 use Rattle.dir_compile.specs.Compile.{composite_name, list_name, named_in, segment_name, value_name}
 use Rattle.dir_compile.specs.Directory.{IsDirectory}
@@ -22,6 +23,7 @@ use Rattle.dir_compile.proofs.Apart.{named-is}
 use Rattle.dir_compile.proofs.AscendingLemmas.{Contains-from-Has}
 use Rattle.service_tables.specs.ServiceTables.{held_by, service_composites, service_items_of, service_parts_of, service_segments}
 use Rattle.seg_lexer.specs.declared.context.Context.{Context}
+use Rattle.element_check.specs.Streams.{is_repeatable, is_single_item}
 use Rattle.element_check.specs.Rules.{SegmentRules, defined_rules, parts_by, parts_of, rules_of, service_rules}
 
 -- what is found by its name passes the test that all pass
@@ -105,6 +107,50 @@ service_rules-few parts context tag (Some items) rules lawful found is =
 pub rules_of-few : (parts : Parts) (context : Context) (tag : List ℕ) (rules : SegmentRules) → IsDirectory parts → Some rules ≡ rules_of parts context tag → length rules.items ≤ 99
 unfolding rules_of
 rules_of-few parts context tag rules lawful is = service_rules-few parts context tag (service_items_of tag) rules lawful refl is
+
+-- each item may be there at least once, and in a service segment only once
+item-repeatable : (item : ItemDef) → is_item_formed item ≡ true → is_repeatable item ≡ true
+item-repeatable (Alone part reps) formed =
+    (and_parts (nat_le 1 reps) (nat_le reps 99) (and_parts (is_part_formed part) (is_reps_formed reps) formed).1).0
+item-repeatable (Composite code must reps) formed =
+    (and_parts (nat_le 1 reps) (nat_le reps 99) (and_parts (is_composite_code code.octets) (is_reps_formed reps) formed).1).0
+
+items-repeatable : (items : List ItemDef) → list_all is_item_formed items ≡ true → list_all is_repeatable items ≡ true
+items-repeatable [] formed = refl
+items-repeatable (item ∷ items) formed =
+    let parts = and_parts (is_item_formed item) (list_all is_item_formed items) formed in
+    and_from _ _ (item-repeatable item parts.0) (items-repeatable items parts.1)
+
+single-repeatable : (item : ItemDef) → is_single_item item ≡ true → is_repeatable item ≡ true
+single-repeatable item single = let one : reps_of item ≡ 1 = grind (arith, nat_tests) in ap (nat_le 1) one
+
+singles-repeatable : (items : List ItemDef) → list_all is_single_item items ≡ true → list_all is_repeatable items ≡ true
+singles-repeatable [] single = refl
+singles-repeatable (item ∷ items) single =
+    let parts = and_parts (is_single_item item) (list_all is_single_item items) single in
+    and_from _ _ (single-repeatable item parts.0) (singles-repeatable items parts.1)
+
+pub service-single : (tag : List ℕ) (items : List ItemDef) → service_items_of tag ≡ Some items → list_all is_single_item items ≡ true
+unfolding service_items_of
+service-single tag items found = held_by-passes segment_name (λ segment. segment.items) (λ xs. list_all is_single_item xs) service_segments tag items refl found
+
+defined-repeatable : (parts : Parts) (context : Context) (tag : List ℕ) (o : Option SegmentDef) (rules : SegmentRules) → IsDirectory parts → named_in segment_name parts.segments tag ≡ o
+    → Some rules ≡ defined_rules parts context o → list_all is_repeatable rules.items ≡ true
+defined-repeatable parts context tag None rules lawful found is = absurd (cc)
+defined-repeatable parts context tag (Some segment) rules lawful found is =
+    let formed = named_in-passes segment_name is_segment_formed parts.segments tag segment lawful.forms.segments found in
+    let items = and_parts (is_tag_of segment.tag.octets && is_count_formed (length segment.items)) (list_all is_item_formed segment.items) formed in
+    subst (λ (r : SegmentRules). list_all is_repeatable r.items ≡ true) (sym (same_Some _ _ is)) (items-repeatable segment.items items.1)
+
+service-repeatable : (parts : Parts) (context : Context) (tag : List ℕ) (o : Option (List ItemDef)) (rules : SegmentRules) → IsDirectory parts → service_items_of tag ≡ o
+    → Some rules ≡ service_rules parts context tag o → list_all is_repeatable rules.items ≡ true
+service-repeatable parts context tag None rules lawful found is = defined-repeatable parts context tag (named_in segment_name parts.segments tag) rules lawful refl is
+service-repeatable parts context tag (Some items) rules lawful found is =
+    subst (λ (r : SegmentRules). list_all is_repeatable r.items ≡ true) (sym (same_Some _ _ is)) (singles-repeatable items (service-single tag items found))
+
+pub rules_of-repeatable : (parts : Parts) (context : Context) (tag : List ℕ) (rules : SegmentRules) → IsDirectory parts → Some rules ≡ rules_of parts context tag → list_all is_repeatable rules.items ≡ true
+unfolding rules_of
+rules_of-repeatable parts context tag rules lawful is = service-repeatable parts context tag (service_items_of tag) rules lawful refl is
 
 -- the code list that a directory has for a data element has its codes in ascending order
 pub named-ascending : (parts : Parts) (element : List ℕ) (o : Option CodeList) → IsDirectory parts → o ≡ named_in list_name parts.lists element → IfSome o (λ list. IsAscendingBy value_name list.values)

@@ -16,9 +16,9 @@ use Rattle.error_ledger.specs.declared.kind.Kind.{Kind}
 use Rattle.error_ledger.specs.declared.kind.Kind.TheVariants.{TooManyElements, TooManyComponents, Missing}
 use Rattle.seg_lexer.specs.Fields.{Component}
 use Rattle.seg_lexer.specs.declared.context.Context.{Context}
-use Rattle.element_check.specs.Local.{error_at, has_octet, is_list_named, names_list}
+use Rattle.element_check.specs.Local.{element_errors, error_at, has_octet, is_list_named, names_list, repetitions_of}
 use Rattle.element_check.specs.Rules.{SegmentRules, list_of}
-use Rattle.element_check.specs.Streams.{after_front, alone_errors, first_value, front_values, item_errors, items_errors, later_values, part_errors, part_rules, parts_errors, surplus_components, surplus_elements, told_errors}
+use Rattle.element_check.specs.Streams.{after_front, after_run, alone_errors, first_value, front_run, front_values, is_of, item_errors, items_errors, later_values, part_errors, part_rules, parts_errors, is_filled, repeated_errors, surplus_components, surplus_elements, told_errors}
 use Rattle.element_check.specs.Value.{test_results}
 use Rattle.element_check.specs.declared.error.LocalError.{LocalError}
 use Rattle.element_check.proofs.ErrorsLemmas.{full_step}
@@ -54,19 +54,21 @@ surplus_components-full old now total element c vs v ws empty same steps empty_i
     full
 
 -- the next element past the last one is reported
-surplus_elements-first : (n : ℕ) (x : Component) (xs : List Component) (empty : Bool) → n < x.element → empty ≡ eqb (length x.octets) 0 → empty ≡ false
+surplus_elements-first : (n : ℕ) (x : Component) (xs : List Component) (empty : Bool) → n < x.element → 0 < x.repetition → empty ≡ eqb (length x.octets) 0 → empty ≡ false
     → surplus_elements n (x ∷ xs) ≡ error_at x.element 0 TooManyElements ∷ surplus_elements x.element xs
-surplus_elements-first n x xs empty past empty_is filled =
+surplus_elements-first n x xs empty past numbered empty_is filled =
     let later : ltb n x.element ≡ true = grind (arith, nat_tests) in
-    ap (λ (b : Bool). cond (b && not (eqb (length x.octets) 0)) (error_at x.element 0 TooManyElements ∷ surplus_elements x.element xs) (surplus_elements n xs)) later
+    let from_one : ltb 0 x.repetition ≡ true = grind (arith, nat_tests) in
+    ap (λ (b : Bool). cond (b && is_filled x) (error_at x.element 0 TooManyElements ∷ surplus_elements x.element xs) (surplus_elements n xs)) later
+    ∙ ap (λ (b : Bool). cond (b && not (eqb (length x.octets) 0)) (error_at x.element 0 TooManyElements ∷ surplus_elements x.element xs) (surplus_elements n xs)) from_one
     ∙ ap (λ (b : Bool). cond (not b) (error_at x.element 0 TooManyElements ∷ surplus_elements x.element xs) (surplus_elements n xs)) (sym empty_is ∙ filled)
 
 pub surplus_elements-full : (old now total : List LocalError) (n : ℕ) (components : List Component) (x : Component) (xs : List Component) (empty : Bool)
-    → now ++ surplus_elements n components ≡ old ++ total → components ≡ x ∷ xs → n < x.element → empty ≡ eqb (length x.octets) 0 → empty ≡ false
+    → now ++ surplus_elements n components ≡ old ++ total → components ≡ x ∷ xs → n < x.element → 0 < x.repetition → empty ≡ eqb (length x.octets) 0 → empty ≡ false
     → 4 < length now + 1 → 4 < length old + length total
-surplus_elements-full old now total n components x xs empty same steps past empty_is filled full =
+surplus_elements-full old now total n components x xs empty same steps past numbered empty_is filled full =
     full_step old now (error_at x.element 0 TooManyElements ∷ []) (surplus_elements x.element xs) total
-    (ap (λ (es : List LocalError). now ++ es) (sym (surplus_elements-first n x xs empty past empty_is filled))
+    (ap (λ (es : List LocalError). now ++ es) (sym (surplus_elements-first n x xs empty past numbered empty_is filled))
     ∙ sym (ap (λ (es : List Component). now ++ surplus_elements n es) steps) ∙ same)
     full
 
@@ -99,16 +101,6 @@ module _ (rules : SegmentRules) (element : ℕ) where
 pub parts_errors-end : (rules : SegmentRules) (element c : ℕ) (named : Bool) (parts : List PartDef) (i : ℕ) (vs : List (List ℕ)) → length parts ≤ i
     → surplus_components element c vs ≡ parts_errors (part_rules rules named) element c (drop i parts) vs
 parts_errors-end rules element c named parts i vs past = sym (ap (λ (ps : List PartDef). parts_errors (part_rules rules named) element c ps vs) (drop_of_length-le parts past))
-
-items_errors-end : (rules : SegmentRules) (n : ℕ) (items : List ItemDef) (i : ℕ) (components : List Component) → length items ≤ i
-    → surplus_elements n components ≡ items_errors rules n (drop i items) components
-items_errors-end rules n items i components past = sym (ap (λ (is : List ItemDef). items_errors rules n is components) (drop_of_length-le items past))
-
--- the errors of the elements whose items are those from place i on
-items-next : (rules : SegmentRules) (n : ℕ) (items : List ItemDef) (i : ℕ) (d : ItemDef) (components : List Component) → i < length items
-    → item_errors rules (n + 1) (get_or items i d) (front_values (n + 1) components) ++ items_errors rules (n + 1) (drop (i + 1) items) (after_front (n + 1) components)
-    ≡ items_errors rules n (drop i items) components
-items-next rules n items i d components within = ap (λ (is : List ItemDef). items_errors rules n is components) (sym (drop-first items i d within))
 
 -- the kinds from place i on
 pub told-next : (element component : ℕ) (ps : List (Kind × Bool)) (i : ℕ) (d : Kind × Bool) → i < length ps
@@ -144,22 +136,34 @@ pub items-step : (rules : SegmentRules) (n : ℕ) (given : List ItemDef) (i : �
     ≡ items_errors rules n (drop i rules.items) components
 items-step rules n given i d components same within =
     ap (λ (is : List ItemDef). item_errors rules (n + 1) (get_or given i d) (front_values (n + 1) components) ++ items_errors rules (n + 1) (drop (i + 1) is) (after_front (n + 1) components)) (sym same)
-    ∙ items-next rules n given i d components within
+    ∙ ap (λ (is : List ItemDef). items_errors rules n is components) (sym (drop-first given i d within))
     ∙ ap (λ (is : List ItemDef). items_errors rules n (drop i is) components) same
 
 pub items-end : (rules : SegmentRules) (n : ℕ) (given : List ItemDef) (i : ℕ) (components : List Component) → given ≡ rules.items → length given ≤ i
     → surplus_elements n components ≡ items_errors rules n (drop i rules.items) components
 items-end rules n given i components same past =
-    items_errors-end rules n given i components past ∙ ap (λ (is : List ItemDef). items_errors rules n (drop i is) components) same
+    sym (ap (λ (is : List ItemDef). items_errors rules n is components) (drop_of_length-le given past))
+    ∙ ap (λ (is : List ItemDef). items_errors rules n (drop i is) components) same
+
+-- the same with all repetitions
+pub repeated-step : (rules : SegmentRules) (n : ℕ) (given : List ItemDef) (i : ℕ) (d : ItemDef) (components : List Component) → given ≡ rules.items → i < length given
+    → element_errors rules (Some (get_or given i d)) (repetitions_of components (n + 1)) (n + 1) ++ repeated_errors rules (n + 1) (drop (i + 1) rules.items) (after_front (n + 1) components)
+    ≡ repeated_errors rules n (drop i rules.items) components
+repeated-step rules n given i d components same within =
+    ap (λ (is : List ItemDef). element_errors rules (Some (get_or given i d)) (repetitions_of components (n + 1)) (n + 1) ++ repeated_errors rules (n + 1) (drop (i + 1) is) (after_front (n + 1) components)) (sym same)
+    ∙ ap (λ (is : List ItemDef). repeated_errors rules n is components) (sym (drop-first given i d within))
+    ∙ ap (λ (is : List ItemDef). repeated_errors rules n (drop i is) components) same
+
+pub repeated-end : (rules : SegmentRules) (n : ℕ) (given : List ItemDef) (i : ℕ) (components : List Component) → given ≡ rules.items → length given ≤ i
+    → surplus_elements n components ≡ repeated_errors rules n (drop i rules.items) components
+repeated-end rules n given i components same past =
+    sym (ap (λ (is : List ItemDef). repeated_errors rules n is components) (drop_of_length-le given past))
+    ∙ ap (λ (is : List ItemDef). repeated_errors rules n (drop i is) components) same
 
 -- an element and what comes after it are no more than what was left
 front-cond : (b : Bool) (v : List ℕ) (vs : List (List ℕ)) (n : ℕ) → length vs ≤ n → length (cond b (v ∷ vs) []) ≤ suc n
 front-cond true v vs n h = omega arith
 front-cond false v vs n h = omega arith
-
-front-length : (element : ℕ) (xs : List Component) → length (front_values element xs) ≤ length xs
-front-length element [] = le_refl 0
-front-length element (x ∷ xs) = front-cond (eqb x.element element) x.octets (front_values element xs) (length xs) (front-length element xs)
 
 after-cond : (b : Bool) (x : Component) (xs ys : List Component) → length ys ≤ length xs → length (cond b ys (x ∷ xs)) ≤ suc (length xs)
 after-cond true x xs ys h = omega arith
@@ -168,9 +172,6 @@ after-cond false x xs ys h = le_refl (suc (length xs))
 after-length : (element : ℕ) (xs : List Component) → length (after_front element xs) ≤ length xs
 after-length element [] = le_refl 0
 after-length element (x ∷ xs) = after-cond (eqb x.element element) x xs (after_front element xs) (after-length element xs)
-
-pub front-few : (element n : ℕ) (xs : List Component) → length xs < n → length (front_values element xs) < n
-front-few element n xs h = let e = front-length element xs in omega arith
 
 pub after-few : (element n : ℕ) (xs ys : List Component) → ys ≡ after_front element xs → length xs < n → length ys < n
 after-few element n xs ys is h =
@@ -183,13 +184,21 @@ after_none-cond : (b : Bool) (v : List ℕ) (vs : List (List ℕ)) (x : Componen
 after_none-cond true v vs x xs ys none = absurd (cc)
 after_none-cond false v vs x xs ys none = refl
 
-pub after_front-none : (element : ℕ) (xs : List Component) → front_values element xs ≡ [] → after_front element xs ≡ xs
-after_front-none element [] none = refl
-after_front-none element (x ∷ xs) none = after_none-cond (eqb x.element element) x.octets (front_values element xs) x xs (after_front element xs) none
-
 -- nothing is reported where no test was failed
 pub told-none : (element component : ℕ) (results : List (Kind × Bool)) → list_any (λ test. test.1) results ≡ false → told_errors element component results ≡ []
 told-none element component [] none = refl
 told-none element component (p ∷ ps) none =
     let parts = or_parts p.1 (list_any (λ (test : Kind × Bool). test.1) ps) none in
     ap (λ (b : Bool). when b (error_at element component p.0) ++ told_errors element component ps) parts.0 ∙ told-none element component ps parts.1
+
+-- where no value of a repetition is next, what comes after it is all
+pub after_run-none : (element r : ℕ) (xs : List Component) → front_run element r xs ≡ [] → after_run element r xs ≡ xs
+after_run-none element r [] none = refl
+after_run-none element r (x ∷ xs) none = after_none-cond (is_of element r x) x.octets (front_run element r xs) x xs (after_run element r xs) none
+
+run-length : (element r : ℕ) (xs : List Component) → length (front_run element r xs) ≤ length xs
+run-length element r [] = le_refl 0
+run-length element r (x ∷ xs) = front-cond (is_of element r x) x.octets (front_run element r xs) (length xs) (run-length element r xs)
+
+pub run-few : (element r n : ℕ) (xs : List Component) → length xs < n → length (front_run element r xs) < n
+run-few element r n xs h = let e = run-length element r xs in omega arith

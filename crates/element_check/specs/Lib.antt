@@ -1,5 +1,7 @@
 pub mod Ascending
 pub mod Local
+pub mod Merging
+pub mod Repeated
 pub mod Repertoire
 pub mod Rules
 pub mod Streams

@@ -1,9 +1,10 @@
 -- For bodies and their invariants: the errors of a segment as one way through its components finds them.
-use Rattle.std.specs.Prelude.{ℕ, ◌+◌, Bool, false, ◌&&◌, ◌==◌, nat_lt, List, [], ◌∷◌, ◌++◌, Option, Some, None, if◌then◌else◌}
-use Rattle.std.specs.List.{list_any}
+use Rattle.std.specs.Prelude.{ℕ, ◌+◌, ◌≡◌, ◌≤◌, ⊤, Bool, false, ◌&&◌, ◌==◌, nat_le, nat_lt, List, [], ◌∷◌, ◌++◌, map, filter, Option, Some, None, if◌then◌else◌}
+use Rattle.std.specs.List.{flat_map, list_any, range_with_len}
 use Rattle.dir_compile.specs.Directory.{Directory}
 use Rattle.edi_tables.specs.Octets.{Octets}
 use Rattle.edi_octets.specs.declared.octets.Octets.{Ghosts}
+use Rattle.edi_tables.specs.Forms.{reps_of}
 use Rattle.edi_tables.specs.Rows.{when}
 use Rattle.edi_tables.specs.declared.element.CodeList.{CodeList}
 use Rattle.edi_tables.specs.declared.element.PartDef.{PartDef}
@@ -15,9 +16,9 @@ use Rattle.seg_lexer.specs.Fields.{Component, unplaced}
 use Rattle.seg_lexer.specs.Left.{components_left, placed_in}
 use Rattle.seg_lexer.specs.declared.components.Component.{Component as ReadComponent}
 use Rattle.seg_lexer.specs.declared.context.Context.{Context}
-use Rattle.element_check.specs.Local.{error_at, has_octet, is_list_named}
+use Rattle.element_check.specs.Local.{component_count, element_errors, error_at, has_octet, is_broken_at, is_broken_whole, is_list_named, is_used, repetitions_of}
 use Rattle.element_check.specs.Rules.{SegmentRules, list_of, parts_of, rules_of}
-use Rattle.element_check.specs.Value.{test_results}
+use Rattle.element_check.specs.Value.{test_results, value_kinds}
 use Rattle.element_check.specs.declared.error.LocalError.{LocalError}
 use Rattle.element_check.specs.declared.values.Ahead.{Ahead}
 
@@ -30,6 +31,37 @@ front_values element (x ∷ xs) = if x.element == element then x.octets ∷ fron
 abbrev pub after_front : ℕ → List Component → List Component
 after_front element [] = []
 after_front element (x ∷ xs) = if x.element == element then after_front element xs else x ∷ xs
+
+-- a component belongs to a repetition of an element
+abbrev pub is_of : ℕ → ℕ → Component → Bool
+is_of element repetition x = x.element == element && x.repetition == repetition
+
+-- the values of the components at the front that belong to a repetition of an element
+abbrev pub front_run : ℕ → ℕ → List Component → List Octets
+front_run element repetition [] = []
+front_run element repetition (x ∷ xs) =
+    if is_of element repetition x then x.octets ∷ front_run element repetition xs else []
+
+-- the components after those
+abbrev pub after_run : ℕ → ℕ → List Component → List Component
+after_run element repetition [] = []
+after_run element repetition (x ∷ xs) = if is_of element repetition x then after_run element repetition xs else x ∷ xs
+
+-- the first component, if there is one, belongs to an element
+abbrev pub is_next : ℕ → List Component → Bool
+is_next element [] = false
+is_next element (x ∷ xs) = x.element == element
+
+-- the first component, if there is one, belongs to this repetition or to another element
+abbrev pub IsAtRepetition : ℕ → ℕ → List Component → Type 0
+IsAtRepetition element repetition [] = ⊤
+IsAtRepetition element repetition (x ∷ xs) = x.element ≡ element → x.repetition ≡ repetition
+
+-- components come in order of their elements, and within an element of its repetitions, from this one on
+abbrev pub AreOrdered : ℕ → ℕ → List Component → Type 0
+AreOrdered element repetition [] = ⊤
+AreOrdered element repetition (x ∷ xs) =
+    (element ≤ x.element) × (x.element ≡ element → repetition ≤ x.repetition) × AreOrdered x.element x.repetition xs
 
 -- a component that was read
 abbrev pub seen : {O : Type 0} {o : Ghosts O} → ReadComponent O o → Component
@@ -44,9 +76,13 @@ after_read (Some c) xs = seen c ∷ xs
 unfoldable pub components_ahead : {O : Type 0} {o : Ghosts O} → Ahead O o → List Component
 components_ahead a = after_read a.read (components_left a.rest)
 
--- the values of an element that are left
+-- the values that are left of the repetition of an element that is read
 unfoldable pub values_left : {O : Type 0} {o : Ghosts O} → ℕ → Ahead O o → List Octets
-values_left element a = front_values element (components_ahead a)
+values_left element a = front_run element a.repetition (components_ahead a)
+
+-- the components after those
+unfoldable pub after_left : {O : Type 0} {o : Ghosts O} → ℕ → Ahead O o → List Component
+after_left element a = after_run element a.repetition (components_ahead a)
 
 -- the first value, or an empty one
 abbrev pub first_value : List Octets → Octets
@@ -120,25 +156,81 @@ item_errors rules element (Alone part reps) values = alone_errors rules element 
 item_errors rules element (Composite code must reps) values =
     composite_errors rules element must (parts_of rules code.octets) values
 
+-- a component is filled, and belongs to a repetition: they are numbered from 1
+abbrev pub is_filled : Component → Bool
+is_filled x = nat_lt 0 x.repetition && has_octet x.octets
+
 -- the errors of the elements past the one of this number
 abbrev pub surplus_elements : ℕ → List Component → List LocalError
 surplus_elements n [] = []
 surplus_elements n (x ∷ xs) =
-    if nat_lt n x.element && has_octet x.octets
+    if nat_lt n x.element && is_filled x
     then error_at x.element 0 TooManyElements ∷ surplus_elements x.element xs
     else surplus_elements n xs
 
--- the errors of the elements past the one of this number, of which the next ones have these items
+-- the errors of the elements past the one of this number, none of which is repeated, and of which the next ones have
+-- these items
 abbrev pub items_errors : SegmentRules → ℕ → List ItemDef → List Component → List LocalError
 items_errors rules n [] components = surplus_elements n components
 items_errors rules n (item ∷ items) components =
     item_errors rules (n + 1) item (front_values (n + 1) components)
     ++ items_errors rules (n + 1) items (after_front (n + 1) components)
 
+-- the same item, which needs a value only if this says so
+abbrev pub demanded : Bool → ItemDef → ItemDef
+demanded must (Alone part reps) = Alone (record part { must = must }) reps
+demanded must (Composite code is_mandatory reps) = Composite code must reps
+
+-- an item may be there once
+abbrev pub is_repeatable : ItemDef → Bool
+is_repeatable item = nat_le 1 (reps_of item)
+
+-- an item may be there only once
+abbrev pub is_single_item : ItemDef → Bool
+is_single_item item = reps_of item == 1
+
+-- an item needs a value
+abbrev pub is_mandatory : ItemDef → Bool
+is_mandatory (Alone part reps) = part.must
+is_mandatory (Composite code must reps) = must
+
+-- a repetition has a value that its item may need: a stand-alone data element its first component, a composite any
+abbrev pub has_needed : ItemDef → List Octets → Bool
+has_needed (Alone part reps) values = is_first_filled values
+has_needed (Composite code must reps) values = is_used values
+
+-- the kinds of errors of a repetition, by their numbers
+abbrev pub repetition_kinds : List Kind
+repetition_kinds = TooManyElements ∷ TooManyComponents ∷ Missing ∷ value_kinds
+
+-- the errors of a repetition as a whole, as if it were the only one
+abbrev pub repetition_errors_whole : SegmentRules → Option ItemDef → List Octets → ℕ → List LocalError
+repetition_errors_whole rules item values element =
+    map (error_at element 0) (filter (is_broken_whole rules item values) repetition_kinds)
+
+-- the errors of a repetition at a component
+abbrev pub repetition_errors_at : SegmentRules → Option ItemDef → List Octets → ℕ → ℕ → List LocalError
+repetition_errors_at rules item values element component =
+    map (error_at element component) (filter (is_broken_at rules item values component) repetition_kinds)
+
+-- the errors of a repetition, as if it were the only one
+unfoldable pub repetition_errors : SegmentRules → Option ItemDef → List Octets → ℕ → List LocalError
+repetition_errors rules item values element =
+    repetition_errors_whole rules item values element
+    ++ flat_map (repetition_errors_at rules item values element) (range_with_len 1 (component_count rules item values))
+
+-- the errors of the elements past the one of this number, of which the next ones have these items, each with all its
+-- repetitions
+abbrev pub repeated_errors : SegmentRules → ℕ → List ItemDef → List Component → List LocalError
+repeated_errors rules n [] components = surplus_elements n components
+repeated_errors rules n (item ∷ items) components =
+    element_errors rules (Some item) (repetitions_of components (n + 1)) (n + 1)
+    ++ repeated_errors rules (n + 1) items (after_front (n + 1) components)
+
 -- the errors of a segment whose tag has these rules, by its components after the tag field
 abbrev pub errors_ruled : List Component → Option SegmentRules → List LocalError
 errors_ruled elements None = error_at 0 0 UnknownSegment ∷ []
-errors_ruled elements (Some rules) = items_errors rules 0 rules.items elements
+errors_ruled elements (Some rules) = repeated_errors rules 0 rules.items elements
 
 -- the errors of a segment that has a tag or none, by its components after the tag field
 abbrev pub errors_past : Directory → Context → List Component → Option Octets → List LocalError

@@ -10,6 +10,7 @@ use Rattle.edi_tables.specs.declared.element.CodeList.{CodeList}
 use Rattle.edi_tables.specs.Tag.{is_digit}
 use Rattle.error_ledger.specs.declared.kind.Kind.{Kind}
 use Rattle.error_ledger.specs.declared.kind.Kind.TheVariants.{Repertoire, WrongType, Decimal, TooLong, TooShort, Code}
+use Rattle.seg_lexer.specs.Fields.{is_separator}
 use Rattle.seg_lexer.specs.Released.{is_release}
 use Rattle.seg_lexer.specs.declared.context.Context.{Context}
 use Rattle.seg_lexer.specs.declared.service.Service.{Service}
@@ -17,7 +18,8 @@ use Rattle.element_check.specs.Repertoire.{is_admitted}
 
 -- an octet that separates, releases or ends the parts of a text
 abbrev pub is_service_character : Service → ℕ → Bool
-is_service_character s x = x == s.component || x == s.element || x == s.terminator || is_release s.release x
+is_service_character s x =
+    x == s.component || x == s.element || is_separator s.repetition x || x == s.terminator || is_release s.release x
 
 -- a decimal mark: `.`, `,` or the mark of the service characters, but none of the other service characters,
 -- no digit and no `-`

@@ -7,12 +7,12 @@ ghost use Rattle.seg_lexer.specs.Service.{IsUsable};
 ghost use Rattle.seg_lexer.specs.Tag.{tag_of};
 ghost use Rattle.element_check.specs.Ascending.{AreAscending};
 ghost use Rattle.element_check.specs.Local.{local_errors_of};
-ghost use Rattle.element_check.specs.Streams.{components_ahead, errors_past, items_errors, surplus_elements};
+ghost use Rattle.element_check.specs.Streams.{AreOrdered, components_ahead, errors_past, repeated_errors, surplus_elements};
 ghost use Rattle.edi_octets.specs.declared.octets.TheConstants.{LONGEST_TEXT};
 
 use crate::LocalError;
-use crate::element::check_item;
 use crate::error::ErrorList;
+use crate::repeated::check_element;
 use crate::rules::Rules;
 use crate::values::Ahead;
 use dir_compile::Directory;
@@ -85,6 +85,7 @@ fn gather<O: Octets>(
     errors: &mut ErrorList,
 ) -> Result<(), AllocError>
     requires few { length (components_left elements) < 2 ^ 31 }
+    requires ordered { AreOrdered 1 0 (components_left elements) }
     ensures ok { OnOk result (errors.new ≡ errors.old
         ++ errors_past directory.now context.now
         (components_left elements.entry) (option_map (λ t. t.octets) tag)) }
@@ -108,19 +109,19 @@ fn check_elements<O: Octets>(
     errors: &mut ErrorList,
 ) -> Result<(), AllocError>
     requires few { length (components_left elements) < 2 ^ 31 }
+    requires ordered { AreOrdered 1 0 (components_left elements) }
     requires short { length rules.now.items ≤ 99 }
     ensures ok { OnOk result (errors.new
-        ≡ errors.old ++ items_errors rules.now 0 rules.now.items (components_left elements.entry)) }
+        ≡ errors.old ++ repeated_errors rules.now 0 rules.now.items (components_left elements.entry)) }
     ensures full { OnErr result (4
         < length errors.old
-        + length (items_errors rules.now 0 rules.now.items (components_left elements.entry))) }
+        + length (repeated_errors rules.now 0 rules.now.items (components_left elements.entry))) }
 {
     let mut element = 0;
     let mut rest = Ahead::of(elements);
     for item in rules.items {
         element += 1;
-        check_item(rules, item, element, &mut rest, errors)?;
-        rest.pass(element);
+        check_element(rules, item, element, &mut rest, errors)?;
     }
     check_surplus(element, rest, errors)
 }
@@ -139,7 +140,7 @@ fn check_surplus<O: Octets>(
     let mut rest = elements;
     let mut told = last;
     while let Some(found) = rest.step() {
-        if found.element > told && !found.value.is_empty() {
+        if found.element > told && found.repetition > 0 && !found.value.is_empty() {
             told = found.element;
             errors.put_if(true, told, 0, Kind::TooManyElements)?;
         }

@@ -1,10 +1,10 @@
-//! The errors of one element.
+//! The errors of one repetition of an element.
 ghost use Rattle.std.specs.Prelude.{[], ◌≡◌, ◌+◌, ◌++◌, ◌<◌, ◌^◌, length, unwrap_or, OnOk, OnErr};
 ghost use Rattle.std.specs.List.{list_any};
 ghost use Rattle.std.specs.Option.{option_map};
 ghost use Rattle.seg_lexer.specs.Value.{octets_of};
 ghost use Rattle.element_check.specs.Local.{has_octet as is_filled_of, is_list_named as is_list_named_of, names_list};
-ghost use Rattle.element_check.specs.Streams.{after_front, alone_errors, components_ahead, composite_errors, item_errors, part_errors, part_rules, parts_errors, surplus_components, values_left};
+ghost use Rattle.element_check.specs.Streams.{after_left, alone_errors, components_ahead, composite_errors, demanded, item_errors, part_errors, part_rules, parts_errors, surplus_components, values_left};
 
 use crate::error::{ErrorList, put_failed};
 use crate::rules::Rules;
@@ -16,27 +16,32 @@ use error_ledger::Kind;
 use seg_lexer::Value;
 use std::alloc::AllocError;
 
-/// Puts the errors of an element that has this item, of which these are all values.
+/// Puts the errors of the repetition of an element that is read, and that has this item. It may need a value, whatever the
+/// item says.
 pub(crate) fn check_item<O: Octets>(
     rules: &Rules<'_>,
     item: &ItemDef,
+    must: bool,
     element: u32,
     values: &mut Ahead<'_, O>,
     errors: &mut ErrorList,
 ) -> Result<(), AllocError>
     requires few { length (values_left element values.old) < 2 ^ 31 }
     ensures ok { OnOk result (errors.new
-        ≡ errors.old ++ item_errors rules.now element item.now (values_left element values.old)) }
+        ≡ errors.old
+        ++ item_errors rules.now element (demanded must item.now) (values_left element values.old)) }
     ensures full { OnErr result (4
         < length errors.old
-        + length (item_errors rules.now element item.now (values_left element values.old))) }
-    ensures after { OnOk result (after_front element (components_ahead values.new)
-        ≡ after_front element (components_ahead values.old)) }
+        + length (item_errors
+        rules.now element (demanded must item.now) (values_left element values.old))) }
+    ensures after { OnOk result (after_left element values.new ≡ after_left element values.old) }
 {
     match item {
-        ItemDef::Alone { part, .. } => check_alone(rules, part, element, values, errors),
-        ItemDef::Composite { code, must, .. } => {
-            check_composite(rules, rules.parts(*code), *must, element, values, errors)
+        ItemDef::Alone { part, .. } => {
+            check_alone(rules, &PartDef { must, ..*part }, element, values, errors)
+        }
+        ItemDef::Composite { code, .. } => {
+            check_composite(rules, rules.parts(*code), must, element, values, errors)
         }
     }
 }
@@ -55,8 +60,7 @@ fn check_alone<O: Octets>(
     ensures full { OnErr result (4
         < length errors.old
         + length (alone_errors rules.now element part.now (values_left element values.old))) }
-    ensures after { OnOk result (after_front element (components_ahead values.new)
-        ≡ after_front element (components_ahead values.old)) }
+    ensures after { OnOk result (after_left element values.new ≡ after_left element values.old) }
 {
     let first = values.take(element);
     check_part(rules, part, false, first, element, 0, errors)?;
@@ -81,8 +85,7 @@ fn check_composite<O: Octets>(
         < length errors.old
         + length (composite_errors
         rules.now element must parts.now (values_left element values.old))) }
-    ensures after { OnOk result (after_front element (components_ahead values.new)
-        ≡ after_front element (components_ahead values.old)) }
+    ensures after { OnOk result (after_left element values.new ≡ after_left element values.old) }
 {
     if is_any_filled(element, values) {
         let named = is_list_named(parts, element, values);
@@ -92,11 +95,13 @@ fn check_composite<O: Octets>(
     }
 }
 
-/// Whether any value of an element is filled. Most often the first is, and then no other is read.
-fn is_any_filled<O: Octets>(element: u32, values: &mut Ahead<'_, O>) -> bool
+/// Whether any value of the repetition that is read is filled. Most often the first is, and then no other is read.
+pub(crate) fn is_any_filled<O: Octets>(element: u32, values: &mut Ahead<'_, O>) -> bool
     ensures filled { result ≡ list_any is_filled_of (values_left element values.old) }
     ensures values { values_left element values.new ≡ values_left element values.old }
+    ensures after { after_left element values.new ≡ after_left element values.old }
     ensures ahead { components_ahead values.new ≡ components_ahead values.old }
+    ensures same { values.new.repetition ≡ values.old.repetition }
 {
     values.begins_filled(element) || is_filled_behind(element, values)
 }
@@ -164,8 +169,7 @@ fn check_parts<O: Octets>(
         < length errors.old
         + length (parts_errors (part_rules rules.now named) element 1 parts.now
         (values_left element values.old))) }
-    ensures after { OnOk result (after_front element (components_ahead values.new)
-        ≡ after_front element (components_ahead values.old)) }
+    ensures after { OnOk result (after_left element values.new ≡ after_left element values.old) }
 {
     let mut component = 1;
     for part in parts {
@@ -242,8 +246,7 @@ fn check_surplus<O: Octets>(
     ensures full { OnErr result (4
         < length errors.old
         + length (surplus_components element first (values_left element values.old))) }
-    ensures after { OnOk result (after_front element (components_ahead values.new)
-        ≡ after_front element (components_ahead values.old)) }
+    ensures after { OnOk result (after_left element values.new ≡ after_left element values.old) }
 {
     let mut component = first;
     while let Some(value) = values.take(element) {

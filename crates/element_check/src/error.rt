@@ -1,5 +1,5 @@
 //! Local errors, and the list that they are gathered in.
-ghost use Rattle.std.specs.Prelude.{[], ◌≡◌, ◌+◌, ◌++◌, ◌<◌, length, OnOk, OnErr};
+ghost use Rattle.std.specs.Prelude.{[], ◌≡◌, ◌+◌, ◌∷◌, ◌++◌, ◌<◌, ◌≤◌, length, take, drop, IfOk, OnOk, OnErr};
 ghost use Rattle.edi_tables.specs.Rows.{when};
 ghost use Rattle.element_check.specs.Local.{error_at};
 ghost use Rattle.element_check.specs.Streams.{told_errors};
@@ -78,6 +78,69 @@ impl ErrorList {
             })?;
         }
         Ok(())
+    }
+
+    /// Puts an error at the end.
+    pub(crate) fn put(&mut self, error: LocalError) -> Result<(), AllocError>
+        ensures ok { OnOk result (self.new ≡ self.old ++ error ∷ []) }
+        ensures full { OnErr result (4 < length self.old + 1) }
+    {
+        self.list.push(error)?;
+        Ok(())
+    }
+
+    /// Puts errors at the end.
+    pub(crate) fn add(&mut self, more: &[LocalError]) -> Result<(), AllocError>
+        ensures ok { OnOk result (self.new ≡ self.old ++ more.now) }
+        ensures full { OnErr result (4 < length self.old + length more.now) }
+    {
+        self.list.extend_from_slice(more)
+    }
+
+    /// The errors, to be looked at.
+    pub(crate) fn as_slice(&self) -> &[LocalError]
+        ensures { result.now ≡ self.now }
+    {
+        self.list.as_slice()
+    }
+
+    /// Takes out the errors from a place on.
+    pub(crate) fn cut(&mut self, at: usize) -> Result<SmallVec<LocalError, 4>, AllocError>
+        requires { at ≤ length self.old }
+        ensures front { OnOk result (self.new ≡ take at self.old) }
+        ensures later { IfOk result (λ later. later.items ≡ drop at self.old) }
+        ensures full { OnErr result (4 < length self.old) }
+    {
+        let later = SmallVec::from_slice(*self.list.allocator(), &self.list.as_slice()[at..])?;
+        self.list.truncate(at);
+        Ok(later)
+    }
+
+    /// How many they are.
+    pub(crate) fn len(&self) -> usize
+        ensures { result ≡ length self.now }
+    {
+        self.list.len()
+    }
+
+    /// A list of no error, where memory is taken as here.
+    pub(crate) fn none(&self) -> ErrorList
+        ensures { result ≡ [] }
+    {
+        ErrorList::new(*self.list.allocator())
+    }
+
+    /// Takes out the errors from a place on, as a list of its own.
+    pub(crate) fn split_off(&mut self, at: usize) -> Result<ErrorList, AllocError>
+        requires { at ≤ length self.old }
+        ensures front { OnOk result (self.new ≡ take at self.old) }
+        ensures later { IfOk result (λ later. later ≡ drop at self.old) }
+        ensures full { OnErr result (4 < length self.old) }
+    {
+        let mut later = self.none();
+        later.add(&self.list.as_slice()[at..])?;
+        self.list.truncate(at);
+        Ok(later)
     }
 
     /// The list of them.

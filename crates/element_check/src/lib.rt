@@ -4,6 +4,8 @@
 mod check;
 mod element;
 mod error;
+mod merge;
+mod repeated;
 mod repertoire;
 mod rules;
 mod tally;

@@ -208,6 +208,9 @@ fn is_service_character(service: &Service, octet: u8) -> bool
 {
     octet == service.component
         || octet == service.element
+        || service
+            .repetition
+            .is_some_and(|repetition| octet == repetition)
         || octet == service.terminator
         || service.release.is_some_and(|release| octet == release)
 }

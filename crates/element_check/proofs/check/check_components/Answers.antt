@@ -7,11 +7,13 @@ use Rattle.element_check.specs.Streams.{errors_past}
 use Rattle.element_check.specs.declared.error.LocalError.{LocalError}
 use Rattle.element_check.proofs.AscendingLemmas.{told-ascending}
 use Rattle.element_check.proofs.BridgeLemmas.{errors-past, past-few}
+use Rattle.element_check.proofs.OrderedLemmas.{past-ordered}
 use Rattle.element_check.proofs.check.check_components.Goals as goal
 
 pub gather-requires : goal.gather-requires
 gather-requires g c = record {
   few = past-few (fields_left c.args.components) (fields_left c.take_tag-tag.new.self) _ c.requires.in_order c.take_tag-tag.ensures.rest c.requires.few;
+  ordered = past-ordered c.args.components (fields_left c.take_tag-tag.new.self) c.take_tag-tag.ensures.rest;
 }
 
 pub returns-in_err-gather-clause-only_past_four : goal.returns-in_err-gather-clause-only_past_four

@@ -2,7 +2,7 @@ use Rattle.std.proofs.Common.{◌≡◌, ◌++◌, ◌+◌, ◌<◌, List, lengt
 use Rattle.std.specs.Option.{option_map}
 use Rattle.edi_tables.specs.declared.tag.Tag.{Tag}
 use Rattle.seg_lexer.specs.Left.{components_left}
-use Rattle.element_check.specs.Streams.{errors_past, items_errors}
+use Rattle.element_check.specs.Streams.{errors_past, repeated_errors}
 use Rattle.element_check.specs.declared.error.LocalError.{LocalError}
 use Rattle.element_check.proofs.BridgeLemmas.{past-known, past-unknown, past-untagged}
 use Rattle.element_check.proofs.ErrorsLemmas.{on_err_then, on_ok_then}
@@ -34,7 +34,7 @@ pub check_elements-requires-clause-short : goal.check_elements-requires-clause-s
 check_elements-requires-clause-short g c =
     rules_of-few c.args.directory.now c.args.context.now c.in-Some.tag.octets c.in-Some-of.rules c.of.ensures.lawful (sym c.in-Some-of.is ∙ c.of.ensures.rules)
 
-known : (g : _) (c : After-check_elements g) → items_errors c.in-Some-of.rules 0 c.in-Some-of.rules.items (components_left c.args.elements)
+known : (g : _) (c : After-check_elements g) → repeated_errors c.in-Some-of.rules 0 c.in-Some-of.rules.items (components_left c.args.elements)
     ≡ errors_past c.args.directory.now c.args.context.now (components_left c.args.elements) (option_map (λ (t : Tag). t.octets) c.args.tag)
 known g c = past-known c.args.directory.now c.args.context.now (components_left c.args.elements) c.args.tag c.in-Some.tag c.in-Some-of.rules c.in-Some.is (sym c.of.ensures.rules ∙ c.in-Some-of.is)
 

@@ -1,7 +1,7 @@
 use Rattle.std.proofs.Common.{◌≡◌, ◌+◌, ◌<◌, ◌≤◌, ◌++◌, length, sym, subst, arith}
 use Rattle.std.specs.Result.{OnErr, OnOk}
 use Rattle.edi_tables.specs.declared.segment.ItemDef.{ItemDef}
-use Rattle.element_check.specs.Streams.{item_errors, values_left}
+use Rattle.element_check.specs.Streams.{demanded, item_errors, values_left}
 use Rattle.element_check.proofs.RulesLemmas.{parts_of-few}
 use Rattle.element_check.proofs.element.check_item.Goals as goal
 
@@ -13,10 +13,10 @@ check_composite-requires-clause-short g c =
 -- a stand-alone item is given by its part, whatever its number of repetitions is
 pub returns-in-Alone-clause-ok : goal.returns-in-Alone-clause-ok
 returns-in-Alone-clause-ok g c =
-    subst (λ (item : ItemDef). OnOk c.check_alone.result (c.check_alone.new.errors ≡ c.args.errors.now ++ item_errors c.args.rules.now c.args.element item (values_left c.args.element c.args.values.now)))
+    subst (λ (item : ItemDef). OnOk c.check_alone.result (c.check_alone.new.errors ≡ c.args.errors.now ++ item_errors c.args.rules.now c.args.element (demanded c.args.must item) (values_left c.args.element c.args.values.now)))
     (sym c.in-Alone.is) c.check_alone.ensures.ok
 
 pub returns-in-Alone-clause-full : goal.returns-in-Alone-clause-full
 returns-in-Alone-clause-full g c =
-    subst (λ (item : ItemDef). OnErr c.check_alone.result (4 < length c.args.errors.now + length (item_errors c.args.rules.now c.args.element item (values_left c.args.element c.args.values.now))))
+    subst (λ (item : ItemDef). OnErr c.check_alone.result (4 < length c.args.errors.now + length (item_errors c.args.rules.now c.args.element (demanded c.args.must item) (values_left c.args.element c.args.values.now))))
     (sym c.in-Alone.is) c.check_alone.ensures.full

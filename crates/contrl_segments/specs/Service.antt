@@ -1,5 +1,5 @@
 -- The service segments of an acknowledgement, except those of the reports of messages.
-use Rattle.std.specs.Prelude.{ℕ, List, [], ◌∷◌, ◌++◌, Option, codes, decimal}
+use Rattle.std.specs.Prelude.{ℕ, ◌==◌, List, [], ◌∷◌, ◌++◌, Option, codes, decimal, if◌then◌else◌}
 use Rattle.edi_tables.specs.Octets.{Octets}
 use Rattle.error_ledger.specs.declared.error.ErrorLine.{ErrorLine}
 use Rattle.seg_lexer.specs.declared.context.Level.{Level}
@@ -31,9 +31,13 @@ level_word D = codes "UNOD"
 level_word E = codes "UNOE"
 level_word F = codes "UNOF"
 
--- S001: the level and the version of the syntax
+-- the version of the syntax that an answer is written in: that of the text that is answered, but 3 where that is 4
+abbrev pub answered_version : ℕ → ℕ
+answered_version version = if version == 4 then 3 else version
+
+-- S001: the level and the version of the syntax of an answer to a text of this level and version
 abbrev pub syntax_identifier : Level → ℕ → Element
-syntax_identifier level version = level_word level ∷ decimal version ∷ []
+syntax_identifier level version = level_word level ∷ decimal (answered_version version) ∷ []
 
 -- S002 and S003: a party of an interchange
 abbrev pub interchange_party : Party → Element

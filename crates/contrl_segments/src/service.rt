@@ -1,7 +1,7 @@
 //! The segments round the reports of an acknowledgement.
 ghost use Rattle.std.specs.Prelude.{◌≡◌, ◌++◌, OnOk, map};
 ghost use Rattle.contrl_segments.specs.Written.{segment_text};
-ghost use Rattle.contrl_segments.specs.Service.{group_party as group_party_of, interchange_party as interchange_party_of, level_word as level_word_of, syntax_identifier, uci, unb, unh, unt, unz};
+ghost use Rattle.contrl_segments.specs.Service.{answered_version as answered_version_of, group_party as group_party_of, interchange_party as interchange_party_of, level_word as level_word_of, syntax_identifier, uci, unb, unh, unt, unz};
 ghost use Rattle.contrl_segments.specs.Lent.{action_for, value_lent};
 ghost use Rattle.std.specs.Option.{option_copied};
 ghost use Rattle.edi_tables.specs.Growing.{HasGrown};
@@ -63,6 +63,7 @@ pub fn put_unb<'a>(
         (unb (syntax_identifier level version) sender.now recipient.now stamp.now reference.now)) }
     ensures grown { HasGrown out.old out.new }
 {
+    let version = answered_version(version);
     let syntax = [Octets(level_word(level)), Number(u32::from(version))];
     let from = interchange_party(recipient);
     let to = interchange_party(sender);
@@ -72,6 +73,13 @@ pub fn put_unb<'a>(
         UNB,
         &[&syntax, &from, &to, &made, &[Octets(reference)]],
     )
+}
+
+/// The version of the syntax that an answer is written in: that of the text that is answered, but 3 where that is 4.
+fn answered_version(version: u8) -> u8
+    ensures { result ≡ answered_version_of version }
+{
+    if version == 4 { 3 } else { version }
 }
 
 fn level_word<'a>(level: Level) -> &'a [u8]

@@ -5,11 +5,12 @@ use Rattle.std.proofs.lemmas.Bool.{cases_lt, cases_order}
 use Rattle.std.proofs.lemmas.List.{length-map}
 use Rattle.std.proofs.lemmas.Option.{same_Some, slice_get-get_or, slice_get_within}
 use Rattle.dir_compile.specs.declared.parts.Parts.{Parts}
+use Rattle.seg_lexer.specs.Context.{context_of}
 use Rattle.seg_lexer.specs.Segments.{boundaries_of, ends_of}
-use Rattle.seg_lexer.specs.Service.{IsUsable, service_of}
+use Rattle.seg_lexer.specs.Service.{IsUsable}
 use Rattle.seg_lexer.specs.Whole.{after_last}
 use Rattle.seg_lexer.proofs.EndsLemmas.{IsAscending, IsAscending-lower, below-none, ends-ascending}
-use Rattle.seg_lexer.proofs.ServiceLemmas.{service_of-usable}
+use Rattle.seg_lexer.proofs.ContextEnds.{context-usable}
 use Rattle.segment_records.specs.Records.{Kept}
 use Rattle.segment_records.specs.WalkedSegments.{kept_in, octets_in}
 use Rattle.kept_text.specs.Edit.{Edit, edited}
@@ -74,20 +75,20 @@ module _ (b place : ℕ) (es : List ℕ) (kept : List Kept) (order : IsAscending
   ]
 
 module _ (dir : Parts) (text : List ℕ) (edit : Edit) (first : ℕ)
-    (it : IsLastBefore (kept_in dir text) (service_of text).body edit.at first) where
+    (it : IsLastBefore (kept_in dir text) (context_of text).service.body edit.at first) where
   -- these records are of the segments that end before the edit
-  pub first_is : first ≡ segments_kept (service_of text) text edit
+  pub first_is : first ≡ segments_kept (context_of text).service text edit
   first_is =
-      let s = service_of text in
+      let s = (context_of text).service in
       first_below s.body edit.at (ends_of s text) (kept_in dir text)
-      (ends-ascending s text (service_of-usable text).body) (records_bound dir text) (records_count dir text) first it
+      (ends-ascending s text (context-usable text).body) (records_bound dir text) (records_count dir text) first it
 
   -- and the stretch begins after their octets
-  pub from_first : edit.at + edit.cut ≤ length text → IsUsable (service_of text) (edited text edit)
-      → (service_of text).body + octets_in (take first (kept_in dir text)) ≡ stretch_from (service_of text) text edit
+  pub from_first : edit.at + edit.cut ≤ length text → IsUsable (context_of text).service (edited text edit)
+      → (context_of text).service.body + octets_in (take first (kept_in dir text)) ≡ stretch_from (context_of text).service text edit
   from_first within usable_too =
-      let s = service_of text in
+      let s = (context_of text).service in
       same_Some _ _
       (sym (boundary_number dir text first it.within)
       ∙ ap (slice_get (boundaries_of s text)) first_is
-      ∙ from_old s text edit within (service_of-usable text) usable_too)
+      ∙ from_old s text edit within (context-usable text) usable_too)

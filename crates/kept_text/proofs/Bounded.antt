@@ -6,8 +6,8 @@ use Rattle.std.proofs.lemmas.Bool.{eqb-true, false≢true, leb-true, or_cases}
 use Rattle.std.proofs.lemmas.Option.{slice_get_within, slice_get-get_or}
 use Rattle.dir_compile.specs.declared.parts.Parts.{Parts}
 use Rattle.dir_compile.specs.Directory.{IsDirectory}
+use Rattle.seg_lexer.specs.Context.{context_of}
 use Rattle.seg_lexer.specs.Segments.{boundaries_of, ends_of}
-use Rattle.seg_lexer.specs.Service.{service_of}
 use Rattle.seg_lexer.specs.declared.service.Service.{Service}
 use Rattle.seg_lexer.proofs.EndsLemmas.{ends-ascending}
 use Rattle.segment_records.specs.Bounds.{stops_message}
@@ -55,16 +55,16 @@ module _ (passes : ℕ → Bool) (moves : ℕ → ℕ) (place : ℕ) where
 
 module _ (dir : Parts) (directory : IsDirectory dir) (text : List ℕ) (edit : Edit)
     (within : edit.at + edit.cut ≤ length text)
-    (service : service_of (edited text edit) ≡ service_of text) where
+    (service : (context_of (edited text edit)).service ≡ (context_of text).service) where
   abbrev s : Service
-  s = service_of text
+  s = (context_of text).service
 
   abbrev new : List ℕ
   new = edited text edit
 
   -- how many segments come before the stretch
   abbrev first : ℕ
-  first = length (filter (λ end. nat_lt end edit.at) (ends_of (service_of text) (edited text edit)))
+  first = length (filter (λ end. nat_lt end edit.at) (ends_of (context_of text).service (edited text edit)))
 
   begins : slice_get (boundaries_of s new) first ≡ Some (stretch_from s text edit)
   unfolding boundaries_of
@@ -123,4 +123,5 @@ module _ (dir : Parts) (directory : IsDirectory dir) (text : List ℕ) (edit : E
       omega arith
 
   pub rerun_bounded : IsRerunBounded dir text edit
+  unfolding context_of ends_of
   rerun_bounded = bounded_by (first_kept s text edit) refl

@@ -10,12 +10,12 @@ use Rattle.dir_compile.specs.declared.parts.Parts.{Parts}
 use Rattle.dir_compile.specs.Directory.{IsDirectory}
 use Rattle.seg_lexer.specs.Context.{context_of}
 use Rattle.seg_lexer.specs.Segments.{boundaries_of, ends_of}
-use Rattle.seg_lexer.specs.Service.{IsUsable, service_of}
+use Rattle.seg_lexer.specs.Service.{IsUsable}
 use Rattle.seg_lexer.specs.Whole.{at_start}
 use Rattle.seg_lexer.specs.declared.context.Context.{Context}
 use Rattle.seg_lexer.specs.declared.service.Service.{Service}
 use Rattle.seg_lexer.proofs.EditLemmas.{drop-spliced}
-use Rattle.seg_lexer.proofs.ServiceLemmas.{service_of-usable}
+use Rattle.seg_lexer.proofs.ContextEnds.{context-usable}
 use Rattle.segment_records.specs.Messages.{mode_after}
 use Rattle.segment_records.specs.Records.{IsModeOf, Kept, kept_from, records_from}
 use Rattle.segment_records.specs.Segments.{Segment, segments_by, segments_of_text}
@@ -34,6 +34,7 @@ use Rattle.kept_text.specs.Rerun.{is_same_mode, rerun_of}
 use Rattle.kept_text.specs.Stretch.{first_kept, reach_of, stretch_from}
 use Rattle.kept_text.specs.declared.stretch.Span.{Span}
 use Rattle.kept_text.proofs.Begins.{IsLastBefore, first_is, from_first}
+use Rattle.kept_text.proofs.Contexts.{count_same, same_service}
 use Rattle.kept_text.proofs.Edited.{placed_whole, placed_within}
 use Rattle.kept_text.proofs.Fronts.{before_same, from_new, from_old, segments_kept}
 use Rattle.kept_text.proofs.KeptEnds.{IsSpanOf}
@@ -45,7 +46,7 @@ use Rattle.kept_text.proofs.RecordEnds.{octets_grow}
 use Rattle.kept_text.proofs.Records.{drop_kept}
 use Rattle.kept_text.proofs.RestCounts.{boundary_low, rest_few, rest_is}
 use Rattle.kept_text.proofs.Stops.{gone_on, old_boundary, reach_gone_on, reach_stopped, stopped}
-use Rattle.kept_text.proofs.Whole.{records_spliced, records_to_end, same_service}
+use Rattle.kept_text.proofs.Whole.{records_spliced, records_to_end}
 
 -- what was read of it: these records, up to a boundary, and the number of the old record after that, where it is one's end
 pub record IsStretchRead (dir : Parts) (s : Service) (context : Context) (old : List Kept) (new : List ℕ) (span : Span) (before : Mode) (from : ℕ) (read : List Kept) (to : ℕ) (next : Option ℕ) : Type 0 where
@@ -82,7 +83,7 @@ some_records old body place (suc j) low ends = omega arith
 module _ (dir : Parts) (directory : IsDirectory dir) (text : List ℕ) (edit : Edit) (within : edit.at + edit.cut ≤ length text)
     (same : context_of (edited text edit) ≡ context_of text) (short : length (edited text edit) ≤ 4194304) where
   abbrev s : Service
-  s = service_of text
+  s = (context_of text).service
 
   abbrev new : List ℕ
   new = edited text edit
@@ -99,46 +100,46 @@ module _ (dir : Parts) (directory : IsDirectory dir) (text : List ℕ) (edit : E
   span_is : IsSpanOf span edit
   span_is = record { at = refl; cut = refl; put = refl }
 
-  service_same : service_of (edited text edit) ≡ service_of text
+  service_same : (context_of (edited text edit)).service ≡ (context_of text).service
   service_same = same_service text new same
 
-  usable : IsUsable (service_of text) text
-  usable = service_of-usable text
+  usable : IsUsable (context_of text).service text
+  usable = context-usable text
 
-  usable_new : IsUsable (service_of text) (edited text edit)
-  usable_new = subst (λ (s : Service). IsUsable s new) service_same (service_of-usable new)
+  usable_new : IsUsable (context_of text).service (edited text edit)
+  usable_new = subst (λ (s : Service). IsUsable s new) service_same (context-usable new)
 
   -- how many segments the edited text has
-  count_new : segment_count_of (edited text edit) ≡ length (segments_by (service_of text) (edited text edit))
-  count_new = same_count (service_of new) new ∙ ap (λ (s : Service). length (segments_by s new)) service_same
+  count_new : segment_count_of (edited text edit) ≡ length (segments_by (context_of text).service (edited text edit))
+  count_new = count_same new ∙ ap (λ (s : Service). length (segments_by s new)) service_same
 
-  count_old : length (kept_in dir text) ≡ length (segments_by (service_of text) text)
+  count_old : length (kept_in dir text) ≡ length (segments_by (context_of text).service text)
   unfolding kept_in segments_of_text
   count_old = length_kept dir (context_of text) Outside (segments_by s text)
 
   -- where the stretch begins
-  module _ (first from : ℕ) (start : IsLastBefore (kept_in dir text) (service_of text).body edit.at first)
-      (from_is : from ≡ (service_of text).body + octets_in (take first (kept_in dir text))) where
-    first_same : first ≡ segments_kept (service_of text) text edit
+  module _ (first from : ℕ) (start : IsLastBefore (kept_in dir text) (context_of text).service.body edit.at first)
+      (from_is : from ≡ (context_of text).service.body + octets_in (take first (kept_in dir text))) where
+    first_same : first ≡ segments_kept (context_of text).service text edit
     first_same = first_is dir text edit first start
 
-    from_same : from ≡ stretch_from (service_of text) text edit
+    from_same : from ≡ stretch_from (context_of text).service text edit
     from_same = from_is ∙ from_first dir text edit first start within usable_new
 
-    begins : slice_get (boundaries_of (service_of text) (edited text edit)) first ≡ Some (stretch_from (service_of text) text edit)
+    begins : slice_get (boundaries_of (context_of text).service (edited text edit)) first ≡ Some (stretch_from (context_of text).service text edit)
     begins = ap (slice_get (boundaries_of s new)) first_same ∙ from_new s text edit within usable usable_new
 
-    begins_old : slice_get (boundaries_of (service_of text) text) first ≡ Some (stretch_from (service_of text) text edit)
+    begins_old : slice_get (boundaries_of (context_of text).service text) first ≡ Some (stretch_from (context_of text).service text edit)
     begins_old = ap (slice_get (boundaries_of s text)) first_same ∙ from_old s text edit within usable usable_new
 
-    front_same : take first (segments_by (service_of text) (edited text edit)) ≡ take first (segments_by (service_of text) text)
+    front_same : take first (segments_by (context_of text).service (edited text edit)) ≡ take first (segments_by (context_of text).service text)
     front_same =
         ap (λ (k : ℕ). take k (segments_by s new)) first_same
         ∙ before_same s text edit within usable usable_new
         ∙ sym (ap (λ (k : ℕ). take k (segments_by s text)) first_same)
 
     -- it is at a boundary of the edited text
-    pub start_at : slice_get (boundaries_of (service_of text) (edited text edit)) first ≡ Some from
+    pub start_at : slice_get (boundaries_of (context_of text).service (edited text edit)) first ≡ Some from
     start_at = begins ∙ ap Some (sym from_same)
 
     -- and no count of a mode there is greater than the number of octets before
@@ -151,7 +152,7 @@ module _ (dir : Parts) (directory : IsDirectory dir) (text : List ℕ) (edit : E
         (mode_belongs dir directory segments first (omega (arith, start.within)))
 
     -- no more segments come after it than the edited text has
-    pub start_count : rest_count (service_of text) (edited text edit) from ≤ segment_count_of (edited text edit)
+    pub start_count : rest_count (context_of text).service (edited text edit) from ≤ segment_count_of (edited text edit)
     start_count = omega (arith, rest_is s new usable_new first from start_at, count_new)
 
     module _ (before : Mode) (before_is : before ≡ mode_after dir (segments_of_text text) first) (read : List Kept) (to : ℕ) where
@@ -159,7 +160,7 @@ module _ (dir : Parts) (directory : IsDirectory dir) (text : List ℕ) (edit : E
       reads : (octets : List ℕ) → octets ≡ drop to (edited text edit)
           → read ++ records_from dir (context_of text) (last_mode before read) (drop to (edited text edit)) ≡ records_from dir (context_of text) before (drop from (edited text edit))
           → read ++ records_from dir (context_of text) (last_mode before read) octets
-          ≡ records_from dir (context_of text) (mode_after dir (segments_of_text text) first) (drop (stretch_from (service_of text) text edit) (edited text edit))
+          ≡ records_from dir (context_of text) (mode_after dir (segments_of_text text) first) (drop (stretch_from (context_of text).service text edit) (edited text edit))
       reads octets octets_are it =
           ap (λ (xs : List ℕ). read ++ records_from dir (context_of text) (last_mode before read) xs) octets_are
           ∙ it
@@ -167,27 +168,26 @@ module _ (dir : Parts) (directory : IsDirectory dir) (text : List ℕ) (edit : E
           ∙ ap (λ (n : ℕ). records_from dir (context_of text) (mode_after dir segments first) (drop n new)) from_same
 
       -- the stretch goes on to the text's end
-      module _ (it : IsStretchRead dir (service_of text) (context_of text) (kept_in dir text) (edited text edit) span before from read to None) where
-        at_end : first + length read ≡ length (ends_of (service_of text) (edited text edit))
+      module _ (it : IsStretchRead dir (context_of text).service (context_of text) (kept_in dir text) (edited text edit) span before from read to None) where
+        at_end : first + length read ≡ length (ends_of (context_of text).service (edited text edit))
         at_end = it.all first start_at refl
 
         none_left : records_from dir (context_of text) (last_mode before read) (drop to (edited text edit)) ≡ []
-        unfolding context_of
         none_left =
             records_none dir (context_of text) new usable_new (first + length read) to (it.number first start_at) (last_mode before read)
             (omega (arith, same_count s new, length_segments s new, at_end))
 
-        at_end_too : segments_kept (service_of text) text edit + length read ≡ length (ends_of (service_of text) (edited text edit))
+        at_end_too : segments_kept (context_of text).service text edit + length read ≡ length (ends_of (context_of text).service (edited text edit))
         at_end_too = ap (λ (k : ℕ). k + length read) (sym first_same) ∙ at_end
 
-        none_told_whole : NoneBefore (kept_in dir text) (service_of text).body span (ends_of (service_of text) (edited text edit))
-            (segments_kept (service_of text) text edit, segments_kept (service_of text) text edit + length read)
+        none_told_whole : NoneBefore (kept_in dir text) (context_of text).service.body span (ends_of (context_of text).service (edited text edit))
+            (segments_kept (context_of text).service text edit, segments_kept (context_of text).service text edit + length read)
         none_told_whole =
             let last_is : first + length read - one_where_some None ≡ first + length read = omega arith in
             subst (λ (k : ℕ). NoneBefore old s.body span (ends_of s new) (k, k + length read)) first_same
             (subst (λ (m : ℕ). NoneBefore old s.body span (ends_of s new) (first, m)) last_is (it.apart first start_at))
 
-        none_kept : first_kept (service_of text) text edit ≡ None
+        none_kept : first_kept (context_of text).service text edit ≡ None
         none_kept = gone_on dir text edit within usable_new span span_is (length read) at_end_too none_told_whole
 
         pub whole_records : take first (kept_in dir text) ++ (read ++ []) ++ drop (length (kept_in dir text)) (kept_in dir text) ≡ kept_in dir (edited text edit)
@@ -208,17 +208,17 @@ module _ (dir : Parts) (directory : IsDirectory dir) (text : List ℕ) (edit : E
         whole_rerun = omega (arith, at_end, placed_whole dir text edit service_same first begins none_kept)
 
       -- or up to an end that is kept, where the record after it is number j
-      module _ (j : ℕ) (it : IsStretchRead dir (service_of text) (context_of text) (kept_in dir text) (edited text edit) span before from read to (Some j)) where
-        end_is : IsEndOf (kept_in dir text) (service_of text).body span (to - 1) j
+      module _ (j : ℕ) (it : IsStretchRead dir (context_of text).service (context_of text) (kept_in dir text) (edited text edit) span before from read to (Some j)) where
+        end_is : IsEndOf (kept_in dir text) (context_of text).service.body span (to - 1) j
         end_is = it.kept j refl
 
         some : 0 < length read
         some = it.some j refl
 
-        to_at : slice_get (boundaries_of (service_of text) (edited text edit)) (first + length read) ≡ Some to
+        to_at : slice_get (boundaries_of (context_of text).service (edited text edit)) (first + length read) ≡ Some to
         to_at = it.number first start_at
 
-        ends_at : (slice_get (ends_of (service_of text) (edited text edit)) (first + length read - 1) ≡ Some (to - 1)) × (0 < to)
+        ends_at : (slice_get (ends_of (context_of text).service (edited text edit)) (first + length read - 1) ≡ Some (to - 1)) × (0 < to)
         unfolding boundaries_of
         ends_at =
             let place : first + length read ≡ suc (first + length read - 1) = omega (arith, some) in
@@ -228,22 +228,22 @@ module _ (dir : Parts) (directory : IsDirectory dir) (text : List ℕ) (edit : E
         place_now : to - 1 + 1 ≡ to
         place_now = let some_octets = ends_at.1 in omega arith
 
-        end_at : slice_get (ends_of (service_of text) (edited text edit)) (segments_kept (service_of text) text edit + length read - 1) ≡ Some (to - 1)
+        end_at : slice_get (ends_of (context_of text).service (edited text edit)) (segments_kept (context_of text).service text edit + length read - 1) ≡ Some (to - 1)
         end_at = ap (λ (k : ℕ). slice_get (ends_of s new) (k + length read - 1)) (sym first_same) ∙ ends_at.0
 
-        none_told : NoneBefore (kept_in dir text) (service_of text).body span (ends_of (service_of text) (edited text edit))
-            (segments_kept (service_of text) text edit, segments_kept (service_of text) text edit + length read - 1)
+        none_told : NoneBefore (kept_in dir text) (context_of text).service.body span (ends_of (context_of text).service (edited text edit))
+            (segments_kept (context_of text).service text edit, segments_kept (context_of text).service text edit + length read - 1)
         none_told =
             subst (λ (k : ℕ). NoneBefore old s.body span (ends_of s new) (k, k + length read - 1)) first_same (it.apart first start_at)
 
-        kept_here : first_kept (service_of text) text edit ≡ Some (to - 1)
+        kept_here : first_kept (context_of text).service text edit ≡ Some (to - 1)
         kept_here = stopped dir text edit within usable_new span span_is (length read) (to - 1) j some end_at end_is none_told
 
         -- what is left is of the old text
-        left_at : slice_get (boundaries_of (service_of text) text) j ≡ Some (to - 1 + 1 - length edit.put + edit.cut)
+        left_at : slice_get (boundaries_of (context_of text).service text) j ≡ Some (to - 1 + 1 - length edit.put + edit.cut)
         left_at = old_boundary dir text edit within usable_new span span_is (to - 1) j end_is
 
-        after_at : slice_get (boundaries_of (service_of text) (edited text edit)) (first + length read) ≡ Some (to - 1 + 1)
+        after_at : slice_get (boundaries_of (context_of text).service (edited text edit)) (first + length read) ≡ Some (to - 1 + 1)
         after_at = to_at ∙ ap Some (sym place_now)
 
         -- so many octets after the edit
@@ -283,7 +283,7 @@ module _ (dir : Parts) (directory : IsDirectory dir) (text : List ℕ) (edit : E
         later_within = end_is.within
 
         -- as many segments as records are left
-        left_count : rest_count (service_of text) (edited text edit) to + j ≡ length (kept_in dir text)
+        left_count : rest_count (context_of text).service (edited text edit) to + j ≡ length (kept_in dir text)
         left_count =
             let rest = rest_is s text usable j (to - 1 + 1 - length edit.put + edit.cut) left_at in
             let alike = ap (λ (octets : List ℕ). length (segments_by (at_start s) octets)) left_is in

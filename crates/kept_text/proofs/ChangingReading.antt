@@ -3,7 +3,7 @@ use Rattle.std.proofs.Common.{◌≡◌, ℕ, ◌+◌, ◌-◌, ◌≤◌, List,
 use Rattle.std.specs.List.{slice_get}
 use Rattle.seg_lexer.specs.Context.{context_of}
 use Rattle.seg_lexer.specs.Segments.{IsBoundary, boundaries_of}
-use Rattle.seg_lexer.specs.Service.{IsUsable, service_of}
+use Rattle.seg_lexer.specs.Service.{IsUsable}
 use Rattle.seg_lexer.specs.declared.context.Context.{Context}
 use Rattle.seg_lexer.specs.declared.service.Service.{Service}
 use Rattle.segment_records.specs.Messages.{mode_after}
@@ -59,23 +59,23 @@ module _ (e : Inside) (it : IsKeptText e) (r : Reading) (view_is : reading e ≡
 
   module _ (first from : ℕ) (begins : IsLastBefore e.records e.context.service.body at first)
       (from_is : from ≡ e.context.service.body + octets_in (take first e.records)) where
-    body_is : e.context.service.body ≡ (service_of e.text).body
+    body_is : e.context.service.body ≡ (context_of e.text).service.body
     body_is = ap (λ (s : Service). s.body) (service_is e it)
 
-    begins_so : IsLastBefore (kept_in e.directory.now e.text) (service_of e.text).body at first
+    begins_so : IsLastBefore (kept_in e.directory.now e.text) (context_of e.text).service.body at first
     begins_so =
-        subst (λ (kept : List Kept). IsLastBefore kept (service_of e.text).body at first) it.records
+        subst (λ (kept : List Kept). IsLastBefore kept (context_of e.text).service.body at first) it.records
         (subst (λ (n : ℕ). IsLastBefore e.records n at first) body_is begins)
 
-    from_so : from ≡ (service_of e.text).body + octets_in (take first (kept_in e.directory.now e.text))
+    from_so : from ≡ (context_of e.text).service.body + octets_in (take first (kept_in e.directory.now e.text))
     from_so =
         from_is ∙ ap (λ (n : ℕ). n + octets_in (take first e.records)) body_is
-        ∙ ap (λ (kept : List Kept). (service_of e.text).body + octets_in (take first kept)) it.records
+        ∙ ap (λ (kept : List Kept). (context_of e.text).service.body + octets_in (take first kept)) it.records
 
     start_place : slice_get (boundaries_of e.context.service text) first ≡ Some from
     start_place =
         ap (λ (s : Service). slice_get (boundaries_of s text) first) (service_is e it)
-        ∙ ap (λ (t : List ℕ). slice_get (boundaries_of (service_of e.text) t) first) text_is
+        ∙ ap (λ (t : List ℕ). slice_get (boundaries_of (context_of e.text).service t) first) text_is
         ∙ start_at e.directory.now it.directory e.text edit within same short_too first from begins_so from_so
 
     pub start_boundary : IsBoundary e.context.service text from
@@ -84,7 +84,7 @@ module _ (e : Inside) (it : IsKeptText e) (r : Reading) (view_is : reading e ≡
     pub few_left : rest_count e.context.service text from ≤ segment_count_of text
     few_left =
         subst (λ (s : Service). rest_count s text from ≤ segment_count_of text) (sym (service_is e it))
-        (subst (λ (t : List ℕ). rest_count (service_of e.text) t from ≤ segment_count_of t) (sym text_is)
+        (subst (λ (t : List ℕ). rest_count (context_of e.text).service t from ≤ segment_count_of t) (sym text_is)
         (start_count e.directory.now it.directory e.text edit within same short_too first from begins_so from_so))
 
     module _ (before : Mode) (before_is : before ≡ last_mode e.outside (take first e.records)) where
@@ -99,11 +99,11 @@ module _ (e : Inside) (it : IsKeptText e) (r : Reading) (view_is : reading e ≡
       module _ (read : List Kept) (to : ℕ) where
         -- the stretch goes on to the text's end
         module _ (reads : IsStretchRead e.directory.now e.context.service e.context e.records text span before from read to None) where
-          reads_so : IsStretchRead e.directory.now (service_of e.text) (context_of e.text) (kept_in e.directory.now e.text) (edited e.text (record { at = at; cut = cut; put = put })) span before from read to None
+          reads_so : IsStretchRead e.directory.now (context_of e.text).service (context_of e.text) (kept_in e.directory.now e.text) (edited e.text (record { at = at; cut = cut; put = put })) span before from read to None
           reads_so =
-              subst (λ (t : List ℕ). IsStretchRead e.directory.now (service_of e.text) (context_of e.text) (kept_in e.directory.now e.text) t span before from read to None) text_is
-              (subst (λ (kept : List Kept). IsStretchRead e.directory.now (service_of e.text) (context_of e.text) kept text span before from read to None) it.records
-              (subst (λ (c : Context). IsStretchRead e.directory.now (service_of e.text) c e.records text span before from read to None) it.context
+              subst (λ (t : List ℕ). IsStretchRead e.directory.now (context_of e.text).service (context_of e.text) (kept_in e.directory.now e.text) t span before from read to None) text_is
+              (subst (λ (kept : List Kept). IsStretchRead e.directory.now (context_of e.text).service (context_of e.text) kept text span before from read to None) it.records
+              (subst (λ (c : Context). IsStretchRead e.directory.now (context_of e.text).service c e.records text span before from read to None) it.context
               (subst (λ (s : Service). IsStretchRead e.directory.now s e.context e.records text span before from read to None) (service_is e it) reads)))
 
           pub end_records : (next : ℕ) (again : List Kept) → next ≡ length e.records → again ≡ []
@@ -128,11 +128,11 @@ module _ (e : Inside) (it : IsKeptText e) (r : Reading) (view_is : reading e ≡
 
         -- or up to where record j is next
         module _ (j : ℕ) (reads : IsStretchRead e.directory.now e.context.service e.context e.records text span before from read to (Some j)) where
-          reads_to : IsStretchRead e.directory.now (service_of e.text) (context_of e.text) (kept_in e.directory.now e.text) (edited e.text (record { at = at; cut = cut; put = put })) span before from read to (Some j)
+          reads_to : IsStretchRead e.directory.now (context_of e.text).service (context_of e.text) (kept_in e.directory.now e.text) (edited e.text (record { at = at; cut = cut; put = put })) span before from read to (Some j)
           reads_to =
-              subst (λ (t : List ℕ). IsStretchRead e.directory.now (service_of e.text) (context_of e.text) (kept_in e.directory.now e.text) t span before from read to (Some j)) text_is
-              (subst (λ (kept : List Kept). IsStretchRead e.directory.now (service_of e.text) (context_of e.text) kept text span before from read to (Some j)) it.records
-              (subst (λ (c : Context). IsStretchRead e.directory.now (service_of e.text) c e.records text span before from read to (Some j)) it.context
+              subst (λ (t : List ℕ). IsStretchRead e.directory.now (context_of e.text).service (context_of e.text) (kept_in e.directory.now e.text) t span before from read to (Some j)) text_is
+              (subst (λ (kept : List Kept). IsStretchRead e.directory.now (context_of e.text).service (context_of e.text) kept text span before from read to (Some j)) it.records
+              (subst (λ (c : Context). IsStretchRead e.directory.now (context_of e.text).service c e.records text span before from read to (Some j)) it.context
               (subst (λ (s : Service). IsStretchRead e.directory.now s e.context e.records text span before from read to (Some j)) (service_is e it) reads)))
 
           pub next_after : first ≤ j

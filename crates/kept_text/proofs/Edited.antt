@@ -7,13 +7,14 @@ use Rattle.std.proofs.lemmas.Bool.{and_from, and_left, and_right, cases_lt, le-l
 use Rattle.std.proofs.lemmas.Option.{slice_get-get_or}
 use Rattle.dir_compile.specs.declared.parts.Parts.{Parts}
 use Rattle.dir_compile.specs.Directory.{IsDirectory}
+use Rattle.seg_lexer.specs.Context.{context_of}
 use Rattle.seg_lexer.specs.Segments.{boundaries_of, ends_of}
-use Rattle.seg_lexer.specs.Service.{IsUsable, service_of}
+use Rattle.seg_lexer.specs.Service.{IsUsable}
 use Rattle.seg_lexer.specs.declared.service.Service.{Service}
 use Rattle.seg_lexer.proofs.EditLemmas.{drop-spliced}
 use Rattle.seg_lexer.proofs.EndsLemmas.{ends-ascending}
 use Rattle.seg_lexer.proofs.SegmentsLemmas.{boundary-high}
-use Rattle.seg_lexer.proofs.ServiceLemmas.{service_of-usable}
+use Rattle.seg_lexer.proofs.ContextEnds.{context-usable}
 use Rattle.segment_records.specs.Bounds.{stops_message}
 use Rattle.segment_records.specs.Messages.{mode_after}
 use Rattle.segment_records.specs.Segments.{Segment, segments_by, segments_of_text}
@@ -21,11 +22,12 @@ use Rattle.segment_records.specs.declared.mode.Mode.{Mode}
 use Rattle.kept_text.specs.Edit.{Edit, edited}
 use Rattle.kept_text.specs.Stretch.{first_kept, segments_before, stretch_from, stretch_to}
 use Rattle.kept_text.specs.Rerun.{is_same_mode, mode_before, modes_meet, rerun_of}
+use Rattle.kept_text.proofs.Contexts.{is_met, mode_before_is}
 use Rattle.kept_text.proofs.Later.{later_boundary, modes_after_head}
 use Rattle.kept_text.proofs.Modes.{same_from}
 use Rattle.kept_text.proofs.Places.{starts_ascend}
 use Rattle.kept_text.proofs.Reached.{before_boundary, boundary_after}
-use Rattle.kept_text.proofs.Rerunning.{is_met, rerun_least, rerun_most}
+use Rattle.kept_text.proofs.Rerunning.{rerun_least, rerun_most}
 
 -- a later boundary is greater
 ascend : (s : Service) (text : List ℕ) → IsUsable s text → (i m x y : ℕ) → i < m
@@ -35,24 +37,24 @@ unfolding boundaries_of
 ascend s text usable i m x y less one other =
     starts_ascend s.body (ends_of s text) i m x y (ends-ascending s text usable.body) less one other
 
-module _ (text : List ℕ) (edit : Edit) (service : service_of (edited text edit) ≡ service_of text) where
+module _ (text : List ℕ) (edit : Edit) (service : (context_of (edited text edit)).service ≡ (context_of text).service) where
   -- the edited text can be read by the same service characters
-  pub usable_too : IsUsable (service_of text) (edited text edit)
-  usable_too = subst (λ (s : Service). IsUsable s (edited text edit)) service (service_of-usable (edited text edit))
+  pub usable_too : IsUsable (context_of text).service (edited text edit)
+  usable_too = subst (λ (s : Service). IsUsable s (edited text edit)) service (context-usable (edited text edit))
 
-module _ (dir : Parts) (text : List ℕ) (edit : Edit) (service : service_of (edited text edit) ≡ service_of text)
+module _ (dir : Parts) (text : List ℕ) (edit : Edit) (service : (context_of (edited text edit)).service ≡ (context_of text).service)
     (first : ℕ)
-    (begins : slice_get (boundaries_of (service_of text) (edited text edit)) first
-    ≡ Some (stretch_from (service_of text) text edit)) where
+    (begins : slice_get (boundaries_of (context_of text).service (edited text edit)) first
+    ≡ Some (stretch_from (context_of text).service text edit)) where
   abbrev s : Service
-  s = service_of text
+  s = (context_of text).service
 
   abbrev new : List ℕ
   new = edited text edit
 
   -- where no end is kept, all segments from the stretch's beginning on are placed again
-  pub placed_whole : first_kept (service_of text) text edit ≡ None
-      → length (ends_of (service_of text) (edited text edit)) - first ≤ rerun_of dir text edit
+  pub placed_whole : first_kept (context_of text).service text edit ≡ None
+      → length (ends_of (context_of text).service (edited text edit)) - first ≤ rerun_of dir text edit
   placed_whole none =
       let to : stretch_to s text edit ≡ length new =
       ap (λ (o : Option ℕ). elim o [ None ↦ length new | Some end ↦ end + 1 ]) none in
@@ -70,13 +72,13 @@ module _ (dir : Parts) (text : List ℕ) (edit : Edit) (service : service_of (ed
       (omega arith) early
 
   module _ (within : edit.at + edit.cut ≤ length text) (e q j : ℕ)
-      (kept : first_kept (service_of text) text edit ≡ Some e)
+      (kept : first_kept (context_of text).service text edit ≡ Some e)
       (past : edit.at + length edit.put ≤ e)
-      (after : slice_get (boundaries_of (service_of text) (edited text edit)) q ≡ Some (e + 1))
-      (before : slice_get (boundaries_of (service_of text) text) j
+      (after : slice_get (boundaries_of (context_of text).service (edited text edit)) q ≡ Some (e + 1))
+      (before : slice_get (boundaries_of (context_of text).service text) j
       ≡ Some (e + 1 - length edit.put + edit.cut)) where
     -- the stretch ends after the end that is kept
-    to : stretch_to (service_of text) text edit ≡ e + 1
+    to : stretch_to (context_of text).service text edit ≡ e + 1
     to = ap (λ (o : Option ℕ). elim o [ None ↦ length new | Some end ↦ end + 1 ]) kept
 
     -- from there on the texts are the same
@@ -90,22 +92,22 @@ module _ (dir : Parts) (text : List ℕ) (edit : Edit) (service : service_of (ed
 
     mode_now : (m b : ℕ) → slice_get (boundaries_of s new) m ≡ Some b
         → mode_before dir new b ≡ mode_after dir (segments_by s new) m
-    unfolding segments_of_text
     mode_now m b at =
-        ap (λ (v : Service). mode_after dir (segments_by v new) (segments_before v new b)) service
+        mode_before_is dir new b
+        ∙ ap (λ (v : Service). mode_after dir (segments_by v new) (segments_before v new b)) service
         ∙ ap (mode_after dir (segments_by s new)) (before_boundary s new (usable_too text edit service) m b at)
 
     mode_then : (m b : ℕ) → slice_get (boundaries_of s text) m ≡ Some b
         → mode_before dir text b ≡ mode_after dir (segments_by s text) m
-    unfolding segments_of_text
     mode_then m b at =
-        ap (mode_after dir (segments_by s text)) (before_boundary s text (service_of-usable text) m b at)
+        mode_before_is dir text b
+        ∙ ap (mode_after dir (segments_by s text)) (before_boundary s text (context-usable text) m b at)
 
     later : (i b : ℕ) → slice_get (boundaries_of s new) (q + i) ≡ Some b
         → (z : ℕ) × (e + 1 + z ≡ b)
         × (slice_get (boundaries_of s text) (j + i) ≡ Some (e + 1 - length edit.put + edit.cut + z))
     later =
-        later_boundary s text new (service_of-usable text) (usable_too text edit service) j
+        later_boundary s text new (context-usable text) (usable_too text edit service) j
         (e + 1 - length edit.put + edit.cut) q (e + 1) before after shared
 
     -- the modes meet at a boundary where they are the same after as many segments from there on
@@ -160,7 +162,7 @@ module _ (dir : Parts) (text : List ℕ) (edit : Edit) (service : service_of (ed
         let modes : mode_after dir (segments_by s new) (q + (i + 1))
         ≡ mode_after dir (segments_by s text) (j + (i + 1)) =
         ap (mode_after dir (segments_by s new)) next
-        ∙ modes_after_head s text new (service_of-usable text) (usable_too text edit service) j
+        ∙ modes_after_head s text new (context-usable text) (usable_too text edit service) j
         (e + 1 - length edit.put + edit.cut) q (e + 1)
         before after shared dir directory i segment is bounds
         ∙ ap (mode_after dir (segments_by s text)) (sym next_too) in

@@ -6,10 +6,10 @@ use Rattle.std.proofs.lemmas.Option.{same_Some, slice_get_within}
 use Rattle.dir_compile.specs.declared.parts.Parts.{Parts}
 use Rattle.seg_lexer.specs.Context.{context_of}
 use Rattle.seg_lexer.specs.Segments.{boundaries_of, ends_of}
-use Rattle.seg_lexer.specs.Service.{IsUsable, service_of}
+use Rattle.seg_lexer.specs.Service.{IsUsable}
 use Rattle.seg_lexer.specs.declared.service.Service.{Service}
 use Rattle.seg_lexer.proofs.EndsLemmas.{ends-ascending}
-use Rattle.seg_lexer.proofs.ServiceLemmas.{service_of-usable}
+use Rattle.seg_lexer.proofs.ContextEnds.{context-usable}
 use Rattle.segment_records.specs.Segments.{segments_of_text, segments_by}
 use Rattle.segment_records.specs.declared.mode.Mode.TheVariants.{Outside}
 use Rattle.segment_records.proofs.ModeLaws.{length_kept}
@@ -32,23 +32,23 @@ pub record IsSpanOf (span : Span) (edit : Edit) : Type 0 where
 
 module _ (dir : Parts) (text : List ℕ) where
   -- a text has as many records as ends
-  pub records_count : length (kept_in dir text) ≡ length (ends_of (service_of text) text)
+  pub records_count : length (kept_in dir text) ≡ length (ends_of (context_of text).service text)
   unfolding kept_in segments_of_text
   records_count =
-      length_kept dir (context_of text) Outside (segments_by (service_of text) text)
-      ∙ length_segments (service_of text) text
+      length_kept dir (context_of text) Outside (segments_by (context_of text).service text)
+      ∙ length_segments (context_of text).service text
 
   -- its records end at its boundaries
-  pub records_bound : AreBoundaries (service_of text).body (ends_of (service_of text) text) (kept_in dir text)
+  pub records_bound : AreBoundaries (context_of text).service.body (ends_of (context_of text).service text) (kept_in dir text)
   unfolding kept_in segments_of_text segments_by boundaries_of
   records_bound =
-      let s = service_of text in
+      let s = (context_of text).service in
       boundaries_kept s text dir (context_of text) s.body (ends_of s text) Outside
-      (ends-ascending s text (service_of-usable text).body)
+      (ends-ascending s text (context-usable text).body)
 
   pub boundary_number : (j : ℕ) → j ≤ length (kept_in dir text)
-      → slice_get (boundaries_of (service_of text) text) j
-      ≡ Some ((service_of text).body + octets_in (take j (kept_in dir text)))
+      → slice_get (boundaries_of (context_of text).service text) j
+      ≡ Some ((context_of text).service.body + octets_in (take j (kept_in dir text)))
   unfolding boundaries_of
   boundary_number j within = let count = records_count in records_bound j (omega arith)
 
@@ -81,10 +81,10 @@ end_before s text (suc i) x low at =
 
 module _ (dir : Parts) (text : List ℕ) (edit : Edit) (span : Span) (same : IsSpanOf span edit) where
   -- where records end at an end of the edited text, it is one that is moved
-  pub kept_true : (end j : ℕ) → IsEndOf (kept_in dir text) (service_of text).body span end j
-      → is_among (ends_moved (service_of text) text edit) end ≡ true
+  pub kept_true : (end j : ℕ) → IsEndOf (kept_in dir text) (context_of text).service.body span end j
+      → is_among (ends_moved (context_of text).service text edit) end ≡ true
   kept_true end j it =
-      let s = service_of text in
+      let s = (context_of text).service in
       let at = same.at in
       let cut = same.cut in
       let put = same.put in
@@ -97,15 +97,15 @@ module _ (dir : Parts) (text : List ℕ) (edit : Edit) (span : Span) (same : IsS
       among_yes edit.at edit.cut (length edit.put) end (ends_of s text) found.0 x found.1 (omega arith) (omega arith)
 
   -- where none do, it isn't
-  pub kept_false : (end : ℕ) → ((j : ℕ) → IsEndOf (kept_in dir text) (service_of text).body span end j → ⊥)
-      → is_among (ends_moved (service_of text) text edit) end ≡ false
+  pub kept_false : (end : ℕ) → ((j : ℕ) → IsEndOf (kept_in dir text) (context_of text).service.body span end j → ⊥)
+      → is_among (ends_moved (context_of text).service text edit) end ≡ false
   kept_false end none =
-      let s = service_of text in
+      let s = (context_of text).service in
       let at = same.at in
       let cut = same.cut in
       let put = same.put in
       among_no edit.at edit.cut (length edit.put) end (ends_of s text) λ i x is past moved.
-      let low : s.body ≤ x = end_low s text (service_of-usable text) i x is in
+      let low : s.body ≤ x = end_low s text (context-usable text) i x is in
       let count = records_count dir text in
       let few : i < length (ends_of s text) = slice_get_within (ends_of s text) i x is in
       let bound : Some (s.body + octets_in (take (i + 1) (kept_in dir text))) ≡ Some (x + 1) =

@@ -4,6 +4,7 @@ pub mod Begun
 mod Bounded
 mod Changing
 mod ChangingReading
+mod Contexts
 mod Edited
 pub mod Edits
 mod Finds

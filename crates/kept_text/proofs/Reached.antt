@@ -4,13 +4,15 @@ use Rattle.std.specs.List.{find, slice_get}
 use Rattle.std.specs.Option.{option_map}
 use Rattle.std.proofs.lemmas.List.{length-map, length-take-le}
 use Rattle.std.proofs.lemmas.Option.{slice_get-map, slice_get_within}
+use Rattle.seg_lexer.specs.Context.{context_of}
 use Rattle.seg_lexer.specs.Segments.{boundaries_of, ends_of}
-use Rattle.seg_lexer.specs.Service.{IsUsable, service_of}
+use Rattle.seg_lexer.specs.Service.{IsUsable}
 use Rattle.seg_lexer.specs.declared.service.Service.{Service}
 use Rattle.seg_lexer.proofs.EndsLemmas.{below-all, ends-ascending, ends-below}
 use Rattle.kept_text.specs.Edit.{Edit, edited}
 use Rattle.kept_text.specs.Stretch.{ends_moved, first_kept, is_among, reach_of, segments_before, stretch_from}
 use Rattle.kept_text.proofs.Among.{among_no}
+use Rattle.kept_text.proofs.Contexts.{reach_is, reach_with}
 use Rattle.kept_text.proofs.Finds.{find_skip}
 use Rattle.kept_text.proofs.Fronts.{below_same, from_new, segments_kept}
 use Rattle.kept_text.proofs.Places.{below, below_start, counted_below}
@@ -41,13 +43,6 @@ boundary_after s text m e end =
     ap (slice_get (boundaries_of s text)) next
     ∙ slice_get-map (λ (e : ℕ). e + 1) (ends_of s text) m
     ∙ ap (option_map (λ (e : ℕ). e + 1)) end
-
--- the reach of an edit with this first end that is kept
-abbrev reach_with : Service → List ℕ → Edit → Option ℕ → ℕ
-reach_with s text edit kept =
-    segments_before s (edited text edit) (elim kept [ None ↦ length (edited text edit) | Some end ↦ end + 1 ])
-    - segments_before s (edited text edit) (stretch_from s text edit)
-    + elim kept [ None ↦ 1 | Some end ↦ 0 ]
 
 module _ (s : Service) (text : List ℕ) (edit : Edit) (within : edit.at + edit.cut ≤ length text)
     (usable : IsUsable s text) (usable_too : IsUsable s (edited text edit)) where
@@ -90,21 +85,21 @@ module _ (s : Service) (text : List ℕ) (edit : Edit) (within : edit.at + edit.
       omega arith
 
 module _ (text : List ℕ) (edit : Edit) (within : edit.at + edit.cut ≤ length text)
-    (usable : IsUsable (service_of text) text) (usable_too : IsUsable (service_of text) (edited text edit)) where
+    (usable : IsUsable (context_of text).service text) (usable_too : IsUsable (context_of text).service (edited text edit)) where
   -- a stretch that ends after end m has the segments up to there
-  pub reach_kept : (m e : ℕ) → slice_get (ends_of (service_of text) (edited text edit)) m ≡ Some e
-      → first_kept (service_of text) text edit ≡ Some e
-      → reach_of text edit ≡ m + 1 - segments_kept (service_of text) text edit
-  unfolding reach_of
+  pub reach_kept : (m e : ℕ) → slice_get (ends_of (context_of text).service (edited text edit)) m ≡ Some e
+      → first_kept (context_of text).service text edit ≡ Some e
+      → reach_of text edit ≡ m + 1 - segments_kept (context_of text).service text edit
   reach_kept m e end kept =
-      let s = service_of text in
-      ap (reach_with s text edit) kept ∙ reach_to s text edit within usable usable_too m e end
+      let s = (context_of text).service in
+      reach_is text edit
+      ∙ ap (reach_with s text edit) kept ∙ reach_to s text edit within usable usable_too m e end
 
   -- one that goes on to the end of the text has all others, and counts one more
-  pub reach_whole : first_kept (service_of text) text edit ≡ None
+  pub reach_whole : first_kept (context_of text).service text edit ≡ None
       → reach_of text edit
-      ≡ length (ends_of (service_of text) (edited text edit)) - segments_kept (service_of text) text edit + 1
-  unfolding reach_of
+      ≡ length (ends_of (context_of text).service (edited text edit)) - segments_kept (context_of text).service text edit + 1
   reach_whole kept =
-      let s = service_of text in
-      ap (reach_with s text edit) kept ∙ reach_all s text edit within usable usable_too
+      let s = (context_of text).service in
+      reach_is text edit
+      ∙ ap (reach_with s text edit) kept ∙ reach_all s text edit within usable usable_too

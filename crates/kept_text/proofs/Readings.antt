@@ -5,7 +5,7 @@ use Rattle.seg_lexer.specs.Segments.{boundaries_of, ends_of}
 use Rattle.seg_lexer.specs.Service.{IsUsable, service_of}
 use Rattle.seg_lexer.specs.declared.context.Context.{Context}
 use Rattle.seg_lexer.specs.declared.service.Service.{Service}
-use Rattle.seg_lexer.proofs.ServiceLemmas.{service_of-usable}
+use Rattle.seg_lexer.proofs.ContextEnds.{context-usable}
 use Rattle.segment_records.specs.Messages.{mode_after}
 use Rattle.segment_records.specs.Records.{Kept}
 use Rattle.segment_records.specs.Segments.{segments_of_text}
@@ -16,20 +16,20 @@ use Rattle.segment_records.specs.Count.{segment_count_of}
 use Rattle.kept_text.specs.declared.kept.KeptText.TheInside.{Inside}
 use Rattle.kept_text.specs.Again.{last_mode}
 use Rattle.kept_text.specs.Kept.{IsKeptText}
+use Rattle.kept_text.proofs.Contexts.{body_same, count_same}
 use Rattle.kept_text.proofs.ModesTaken.{modes_taken}
 use Rattle.segment_records.specs.WalkedSegments.{AreStretches, kept_in, octets_in, seen_from, seen_in}
-use Rattle.segment_records.proofs.Rests.{same_count}
-use Rattle.segment_records.proofs.Stretches.{context_service, few_segments, kept_stretches, last_boundary}
+use Rattle.segment_records.proofs.Stretches.{few_segments, kept_stretches, last_boundary}
 
 module _ (e : Inside) (it : IsKeptText e) where
-  pub service_is : e.context.service ≡ service_of e.text
-  service_is = ap (λ (c : Context). c.service) it.context ∙ context_service e.text
+  pub service_is : e.context.service ≡ (context_of e.text).service
+  service_is = ap (λ (c : Context). c.service) it.context
 
   pub service_usable : IsUsable e.context.service e.text
-  service_usable = subst (λ (s : Service). IsUsable s e.text) (sym service_is) (service_of-usable e.text)
+  service_usable = subst (λ (s : Service). IsUsable s e.text) (sym service_is) (context-usable e.text)
 
   body_is : e.context.service.body ≡ (service_of e.text).body
-  body_is = ap (λ (s : Service). s.body) service_is
+  body_is = ap (λ (s : Service). s.body) service_is ∙ body_same e.text
 
   pub body_within : e.context.service.body ≤ length e.text
   body_within = service_usable.body
@@ -61,12 +61,12 @@ module _ (e : Inside) (it : IsKeptText e) where
   count_is =
       ap length it.records
       ∙ length_kept e.directory.now (context_of e.text) Outside (segments_of_text e.text)
-      ∙ sym (same_count (service_of e.text) e.text)
+      ∙ sym (count_same e.text)
 
   pub few_records : length e.records ≤ length e.text
   unfolding kept_in segments_of_text
   few_records =
-      let few = few_segments (service_of e.text) e.text in
+      let few = few_segments (context_of e.text).service e.text in
       let count = ap length it.records ∙ length_kept e.directory.now (context_of e.text) Outside (segments_of_text e.text) in
       omega arith
 

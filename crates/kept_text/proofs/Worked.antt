@@ -8,9 +8,10 @@ use Rattle.edi_tables.specs.Rows.{end_of, parent_of}
 use Rattle.edi_tables.specs.Walk.{later_siblings, groups_round, candidates_of, later_nodes, missing_between}
 use Rattle.dir_compile.specs.declared.parts.Parts.{Parts}
 use Rattle.seg_lexer.specs.Breaks.{lead}
+use Rattle.seg_lexer.specs.Context.{context_of}
 use Rattle.seg_lexer.specs.Fields.{fields_of, stretches}
 use Rattle.seg_lexer.specs.Released.{is_released, run_before, value_of}
-use Rattle.seg_lexer.specs.Segments.{boundaries_of, ends_of}
+use Rattle.seg_lexer.specs.Segments.{boundaries_of, ends_of, segments_of}
 use Rattle.seg_lexer.specs.Service.{service_of}
 use Rattle.seg_lexer.specs.Stretch.{places_that}
 use Rattle.seg_lexer.specs.Tag.{tag_of}
@@ -60,5 +61,5 @@ acknowledgement = codes "UNB'UNH+1+CONTRL:D:3:UN'UCI'UCM'UCM'UCM'UNT'UNZ'"
 -- the first UCM is taken out: the second is read, from 28 to 32. It opens the first group once, and not twice, and the
 -- third twice; after UNT, at 40, the modes meet
 taken : rerun_of dir acknowledgement (record { at = 28; cut = 4; put = [] }) ≡ 3
-unfolding rerun_of service_of ends_of boundaries_of is_released run_before segments_of_text segments_by lead tag_of fields_of value_of places_that stretches mode_after position_at message_at message_closed_at message_extents candidates_of later_siblings groups_round later_nodes missing_between entry_count group_count is_over rank_of pairs_of end_of parent_of
+unfolding rerun_of service_of context_of segments_of ends_of boundaries_of is_released run_before segments_of_text segments_by lead tag_of fields_of value_of places_that stretches mode_after position_at message_at message_closed_at message_extents candidates_of later_siblings groups_round later_nodes missing_between entry_count group_count is_over rank_of pairs_of end_of parent_of
 taken = refl

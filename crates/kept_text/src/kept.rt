@@ -308,7 +308,7 @@ impl<'d> KeptText<'d> {
 
     /// The service characters that its segments are read by.
     pub fn service(&self) -> &Service
-        ensures service { result.now ≡ service_of self.now.text }
+        ensures service { result.now ≡ (context_of self.now.text).service }
         ensures usable { IsUsable result.now self.now.text }
     {
         &self.context.service

@@ -9,8 +9,7 @@ use Rattle.std.proofs.lemmas.Option.{slice_get_within}
 use Rattle.dir_compile.specs.declared.parts.Parts.{Parts}
 use Rattle.dir_compile.specs.Directory.{IsDirectory}
 use Rattle.seg_lexer.specs.Context.{context_of}
-use Rattle.seg_lexer.specs.Service.{service_of}
-use Rattle.seg_lexer.proofs.ServiceLemmas.{service_of-usable}
+use Rattle.seg_lexer.proofs.ContextEnds.{context-usable}
 use Rattle.segment_records.specs.Messages.{mode_after}
 use Rattle.segment_records.specs.Records.{IsModeOf}
 use Rattle.segment_records.specs.Segments.{Segment, segments_by, segments_of_text}
@@ -60,12 +59,12 @@ module _ (dir : Parts) (directory : IsDirectory dir) (text : List ℕ) where
 
   pub few_in : length (segments_of_text text) ≤ length text
   unfolding segments_of_text
-  few_in = omega (arith, few_segments (service_of text) text)
+  few_in = omega (arith, few_segments (context_of text).service text)
 
   pub stretch_in : (k : ℕ) (segment : Segment) → slice_get (segments_of_text text) k ≡ Some segment → IsStretch text segment
   unfolding segments_of_text
   stretch_in k segment is =
-      All-at (IsStretch text) (segments_by (service_of text) text) (all_stretches (service_of text) text (service_of-usable text).body) k segment is
+      All-at (IsStretch text) (segments_by (context_of text).service text) (all_stretches (context_of text).service text (context-usable text).body) k segment is
 
   -- the segments of a text lie in it
   pub lies_all : All (LiesIn text) (seen_in dir text)

@@ -18,6 +18,7 @@ use Rattle.seg_lexer.specs.Service.{service_of}
 use Rattle.seg_lexer.specs.declared.context.Context.{Context}
 use Rattle.seg_lexer.specs.declared.service.Service.{Service}
 use Rattle.seg_lexer.proofs.AppendLemmas.{pairs}
+use Rattle.seg_lexer.proofs.ContextEnds.{ends-same}
 use Rattle.envelope_check.specs.declared.head.Head.{Head}
 use Rattle.envelope_check.specs.declared.head.HeadKind.{HeadKind}
 use Rattle.envelope_check.specs.declared.head.HeadKind.TheVariants.{Unb, Ung, Unh, Unt, Une, Unz}
@@ -34,7 +35,7 @@ use Rattle.segment_records.specs.WalkedSegments.{SeenSegment, as_segment, seen_a
 use Rattle.segment_records.specs.Told.{components_seen, head_seen, head_when, mark_seen, tabled_seen}
 use Rattle.segment_records.proofs.Following.{All-at, stretch_in}
 use Rattle.segment_records.proofs.Looking.{all_enumerated, filter_map_alike, first_left, map_alike, next_left, seen_is}
-use Rattle.segment_records.proofs.Rests.{same_count}
+use Rattle.segment_records.proofs.Rests.{length_segments, same_count}
 use Rattle.segment_records.proofs.Stretches.{IsStretch}
 
 -- the components of a segment are those at its places
@@ -49,9 +50,11 @@ all_places : (s : Service) (text : List ℕ) → All (IsAtPlace s text) (segment
 unfolding segments_by boundaries_of
 all_places s text = places_of_pairs s text (pairs s.body (ends_of s text))
 
-pub place_in : (text : List ℕ) (i : ℕ) (segment : Segment) → slice_get (segments_of_text text) i ≡ Some segment → IsAtPlace (service_of text) text segment
+pub place_in : (text : List ℕ) (i : ℕ) (segment : Segment) → slice_get (segments_of_text text) i ≡ Some segment → IsAtPlace (context_of text).service text segment
 unfolding segments_of_text
-place_in text i segment is = All-at (IsAtPlace (service_of text) text) (segments_by (service_of text) text) (all_places (service_of text) text) i segment is
+place_in text i segment is =
+    let s = (context_of text).service in
+    All-at (IsAtPlace s text) (segments_by s text) (all_places s text) i segment is
 
 kind_named : (kind : HeadKind) → kind_of (named kind) ≡ Some kind
 kind_named Unb = refl
@@ -151,12 +154,12 @@ plain_map f n (x ∷ xs) = ap (λ ys. f x ∷ ys) (plain_map f (n + 1) xs)
 
 module _ (dir : Parts) (directory : IsDirectory dir) (text : List ℕ) where
   -- the heads of a text
-  pub heads_are : filter_map (head_when (service_of text) text) (seen_in dir text) ≡ heads_of dir (segments_of_text text)
+  pub heads_are : filter_map (head_when (context_of text).service text) (seen_in dir text) ≡ heads_of dir (segments_of_text text)
   unfolding heads_of
   heads_are =
       let context = context_of text in
       let segments : List Segment = segments_of_text text in
-      let s = service_of text in
+      let s = context.service in
       ap (filter_map (head_when s text)) (seen_is dir directory text)
       ∙ filter_map_alike (seen_at dir context segments) (head_when s text) (λ (p : ℕ × Segment). head_at dir (p.0 + 1, p.1)) (enumerate_from 0 segments)
       (all_enumerated (λ (p : ℕ × Segment). head_when s text (seen_at dir context segments p) ≡ head_at dir (p.0 + 1, p.1)) segments
@@ -168,7 +171,7 @@ module _ (dir : Parts) (directory : IsDirectory dir) (text : List ℕ) where
   marks_are =
       let context = context_of text in
       let segments : List Segment = segments_of_text text in
-      let s = service_of text in
+      let s = context.service in
       let mark : Segment → SegmentMark = λ segment. record { start = segment.start; tag = segment.tag } in
       ap (map mark_seen) (seen_is dir directory text)
       ∙ map_alike (seen_at dir context segments) mark_seen (λ (p : ℕ × Segment). mark p.1) (enumerate_from 0 segments)
@@ -221,9 +224,15 @@ module _ (dir : Parts) (all : List Segment) where
       fits_from 0 all refl
       ∙ ap (λ (n : ℕ). filter_map (head_place (marks_of all)) (range_with_len 0 n)) (sym (length-map all (λ (segment : Segment). record { start = segment.start; tag = segment.tag })))
 
+-- a text has as many segments by the service characters of its context as by its own
+pub count_segments : (text : List ℕ) → segment_count_of text ≡ length (segments_of_text text)
+unfolding segments_of_text
+count_segments text =
+    same_count (service_of text) text ∙ length_segments (service_of text) text
+    ∙ sym (length_segments (context_of text).service text ∙ ap length (ends-same text))
+
 -- there are as many marks as segments
 pub count_marks : (text : List ℕ) → segment_count_of text ≡ length (marks_of (segments_of_text text))
-unfolding segments_of_text
 count_marks text =
-    same_count (service_of text) text
-    ∙ sym (length-map (segments_by (service_of text) text) (λ (segment : Segment). record { start = segment.start; tag = segment.tag }))
+    count_segments text
+    ∙ sym (length-map (segments_of_text text) (λ (segment : Segment). record { start = segment.start; tag = segment.tag }))

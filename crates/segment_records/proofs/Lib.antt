@@ -18,6 +18,7 @@ pub mod Nearby
 pub mod Nodes
 pub mod PlaceLaws
 pub mod Prefixes
+pub mod Recut
 pub mod Rests
 pub mod Sites
 pub mod Spanned

@@ -8,19 +8,20 @@ use Rattle.dir_compile.specs.declared.parts.Parts.{Parts}
 use Rattle.dir_compile.specs.Directory.{IsDirectory}
 use Rattle.seg_lexer.specs.Context.{context_of}
 use Rattle.seg_lexer.specs.Segments.{boundaries_of, ends_of}
-use Rattle.seg_lexer.specs.Service.{service_of}
 use Rattle.seg_lexer.specs.declared.context.Context.{Context}
 use Rattle.seg_lexer.specs.declared.service.Service.{Service}
 use Rattle.seg_lexer.proofs.AppendLemmas.{pairs}
+use Rattle.seg_lexer.proofs.ContextEnds.{context-usable}
 use Rattle.seg_lexer.proofs.EndsLemmas.{IsAscending, ends-ascending}
-use Rattle.seg_lexer.proofs.ServiceLemmas.{service_of-usable}
 use Rattle.segment_records.specs.Messages.{mode_after}
 use Rattle.segment_records.specs.Records.{Kept, kept_from, kept_of}
 use Rattle.segment_records.specs.Segments.{Segment, segment_between, segments_by, segments_of_text}
 use Rattle.segment_records.specs.Steps.{step_of}
 use Rattle.segment_records.specs.declared.mode.Mode.{Mode}
+use Rattle.segment_records.specs.declared.mode.Mode.TheVariants.{Outside}
 use Rattle.segment_records.proofs.Held.{mode_first}
 use Rattle.segment_records.proofs.ModeLaws.{steps_are_modes}
+use Rattle.segment_records.proofs.Stretches.{body_same}
 use Rattle.segment_records.specs.WalkedSegments.{SeenSegment, kept_in, seen_at, seen_from, seen_in}
 
 -- the first of what is kept
@@ -76,10 +77,11 @@ pub seen_is : (dir : Parts) → IsDirectory dir → (text : List ℕ)
     → seen_in dir text ≡ map (seen_at dir (context_of text) (segments_of_text text)) (enumerate_from 0 (segments_of_text text))
 unfolding seen_in kept_in segments_of_text segments_by boundaries_of
 seen_is dir directory text =
-    let s = service_of text in
+    let s = (context_of text).service in
     let all : List Segment = map (segment_between s text) (pairs s.body (ends_of s text)) in
-    ap (λ (m : Mode). seen_from 1 s.body m (kept_from dir (context_of text) m all)) (sym (mode_first dir all))
-    ∙ seen_pairs dir directory (context_of text) s text all 0 s.body (ends_of s text) (ends-ascending s text (service_of-usable text).body) refl
+    ap (λ (b : ℕ). seen_from 1 b Outside (kept_from dir (context_of text) Outside all)) (sym (body_same text))
+    ∙ ap (λ (m : Mode). seen_from 1 s.body m (kept_from dir (context_of text) m all)) (sym (mode_first dir all))
+    ∙ seen_pairs dir directory (context_of text) s text all 0 s.body (ends_of s text) (ends-ascending s text (context-usable text).body) refl
 
 -- what holds of each member with its place holds of all
 module _ {A : Type 0} (P : ℕ × A → Type 0) (xs : List A) (each : (k : ℕ) (x : A) → slice_get xs k ≡ Some x → P (k, x)) where

@@ -1,7 +1,7 @@
 -- The stretches of the segments of a text: one after the other, from the body's start to the last boundary.
 use Rattle.std.proofs.Common.{◌≡◌, ℕ, ◌+◌, ◌-◌, ◌<◌, ◌≤◌, List, [], ◌∷◌, length, get_or, refl, sym, ap, ◌∙◌, arith}
 use Rattle.std.specs.Prelude.{map, All}
-use Rattle.std.specs.List.{sum_by, range_with_len}
+use Rattle.std.specs.List.{range_with_len}
 use Rattle.std.proofs.lemmas.List.Elements.{All-cons, All-nil}
 use Rattle.std.proofs.lemmas.List.FromFn.{length-range_with_len}
 use Rattle.std.proofs.lemmas.List.Sums.{sum_by-cons}
@@ -16,7 +16,7 @@ use Rattle.seg_lexer.proofs.AppendLemmas.{pairs}
 use Rattle.seg_lexer.proofs.EndsLemmas.{AllBelow, IsAscending, ends-ascending, ends-below}
 use Rattle.seg_lexer.proofs.PlacesLemmas.{length-filter-le}
 use Rattle.seg_lexer.proofs.SegmentsLemmas.{IsLead, lead-within}
-use Rattle.seg_lexer.proofs.ServiceLemmas.{service_of-usable}
+use Rattle.seg_lexer.proofs.ContextEnds.{boundaries-same, context-usable, ends-same}
 use Rattle.segment_records.specs.Records.{Kept, kept_from, kept_of}
 use Rattle.segment_records.specs.Segments.{Segment, segment_between, segments_by, segments_of_text}
 use Rattle.segment_records.specs.Steps.{step_of}
@@ -91,21 +91,22 @@ few_segments s text =
     let few = length-filter-le (is_end s text) (range_with_len s.body (length text - s.body)) in
     omega arith
 
--- the context of a text has its service characters
-pub context_service : (text : List ℕ) → (context_of text).service ≡ service_of text
+-- the body of a text begins at the same place by the service characters of its context
+pub body_same : (text : List ℕ) → (context_of text).service.body ≡ (service_of text).body
 unfolding context_of
-context_service text = refl
+body_same text = refl
 
 module _ (dir : Parts) (text : List ℕ) where
-  body_within : (service_of text).body ≤ length text
-  body_within = (service_of-usable text).body
+  body_within : (context_of text).service.body ≤ length text
+  body_within = (context-usable text).body
 
   -- the records of a text are of its stretches
   pub kept_stretches : length text ≤ 4194304 → AreStretches 1 (service_of text).body (kept_in dir text)
   unfolding kept_in segments_of_text segments_by boundaries_of
   kept_stretches short =
-      let s = service_of text in
+      let s = (context_of text).service in
       let es = ends_of s text in
+      let body = body_same text in
       let last = octets_last s text dir (context_of text) s.body es Outside (ends-ascending s text body_within) in
       let within = last_within s text s.body es body_within (ends-below s text body_within) in
       record {
@@ -118,6 +119,9 @@ module _ (dir : Parts) (text : List ℕ) where
   pub last_boundary : (service_of text).body + octets_in (kept_in dir text) ≡ get_or (boundaries_of (service_of text) text) (length (ends_of (service_of text) text)) 0
   unfolding kept_in segments_of_text segments_by boundaries_of
   last_boundary =
-      let s = service_of text in
-      octets_last s text dir (context_of text) s.body (ends_of s text) Outside (ends-ascending s text body_within)
+      let s = (context_of text).service in
+      ap (λ (b : ℕ). b + octets_in (kept_in dir text)) (sym (body_same text))
+      ∙ octets_last s text dir (context_of text) s.body (ends_of s text) Outside (ends-ascending s text body_within)
       ∙ sym (last_is s.body (ends_of s text))
+      ∙ ap (λ (bs : List ℕ). get_or bs (length (ends_of s text)) 0) (boundaries-same text)
+      ∙ ap (λ (es : List ℕ). get_or (boundaries_of (service_of text) text) (length es) 0) (ends-same text)

@@ -83,9 +83,9 @@ is_unknown value known = has_octet value && not (list_any (bytes_eq value) known
 abbrev pub levels : List Octets
 levels = codes "UNOA" ∷ codes "UNOB" ∷ codes "UNOC" ∷ codes "UNOD" ∷ codes "UNOE" ∷ codes "UNOF" ∷ []
 
--- the versions of the syntax (0002): 1 to 3
+-- the versions of the syntax (0002): 1 to 4
 abbrev pub versions : List Octets
-versions = codes "1" ∷ codes "2" ∷ codes "3" ∷ []
+versions = codes "1" ∷ codes "2" ∷ codes "3" ∷ codes "4" ∷ []
 
 -- the errors of the segment at place i by itself and by its message
 abbrev pub segment_lines : Directory → Context → List Segment → ℕ × Segment → List ErrorLine

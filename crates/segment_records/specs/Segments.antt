@@ -7,7 +7,7 @@ use Rattle.edi_tables.specs.declared.tag.Tag.{Tag}
 use Rattle.seg_lexer.specs.Fields.{Component, components_at, octets_at}
 use Rattle.seg_lexer.specs.Segments.{boundaries_of, ends_of}
 use Rattle.seg_lexer.specs.Breaks.{lead}
-use Rattle.seg_lexer.specs.Service.{service_of}
+use Rattle.seg_lexer.specs.Context.{context_of}
 use Rattle.seg_lexer.specs.Tag.{tag_of}
 use Rattle.seg_lexer.specs.declared.service.Service.{Service}
 
@@ -38,9 +38,9 @@ segment_between s text p = segment_read s text p.0 (lead text p.0 p.1) p.1
 unfoldable pub segments_by : Service → Octets → List Segment
 segments_by s text = map (segment_between s text) (zip (boundaries_of s text) (ends_of s text))
 
--- every segment of a text, in order
+-- every segment of a text, in order, by the service characters of its context
 unfoldable pub segments_of_text : Octets → List Segment
-segments_of_text text = segments_by (service_of text) text
+segments_of_text text = segments_by (context_of text).service text
 
 -- the tags of segments
 abbrev pub tags_in : List Segment → List (Option Tag)

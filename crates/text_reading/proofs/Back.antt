@@ -1,90 +1,42 @@
 -- What is read of the octets of an acknowledgement: its segments, their tags and values, and the context.
-use Rattle.std.proofs.Common.{◌≡◌, ℕ, zero, suc, ◌+◌, Bool, true, cond, Option, Some, None, List, [], ◌∷◌, ◌++◌, map, get_or, length, refl, sym, ap, ◌∙◌, inl, inr, arith}
+use Rattle.std.proofs.Common.{◌≡◌, ◌≢◌, ℕ, suc, ◌+◌, Bool, true, cond, Option, Some, None, List, [], ◌∷◌, ◌++◌, map, get_or, length, refl, sym, ap, ◌∙◌, arith}
 use Rattle.std.specs.Prelude.{codes, slice_get, unwrap_or}
-use Rattle.std.specs.List.{list_all, zip}
+use Rattle.std.specs.List.{zip}
 use Rattle.std.specs.Option.{option_map}
-use Rattle.std.proofs.lemmas.Bool.{and_parts, cases_Bool}
 use Rattle.std.proofs.lemmas.Slice.Eq.{bytes_eq-Decides}
 use Rattle.edi_tables.specs.Tag.{is_tag_of}
 use Rattle.edi_tables.specs.declared.tag.Tag.{Tag}
-use Rattle.seg_lexer.specs.Context.{context_in, context_of, is_tagged, level_in, opening_in, opening_components_of, version_in}
+use Rattle.seg_lexer.specs.Context.{context_of, is_tagged, level_in, opening_in, opening_components_of, version_in}
 use Rattle.seg_lexer.specs.Fields.{Component, components_of, octets_at, separators_of}
 use Rattle.seg_lexer.specs.Segments.{boundaries_of, ends_of, segment_in, segments_of}
 use Rattle.seg_lexer.specs.Service.{default_service, service_of}
 use Rattle.seg_lexer.specs.Stretch.{Stretch, octets_in}
 use Rattle.seg_lexer.specs.Tag.{tag_of}
+use Rattle.seg_lexer.specs.declared.context.Context.{Context}
 use Rattle.seg_lexer.specs.declared.context.Level.{Level}
 use Rattle.seg_lexer.specs.declared.context.Level.TheVariants as levels
 use Rattle.seg_lexer.specs.declared.service.Service.{Service}
+use Rattle.seg_lexer.proofs.ContextEnds.{context-service}
 use Rattle.segment_records.specs.Segments.{Segment, segment_between, segments_by, segments_of_text, tag_read, value_in}
 use Rattle.contrl_segments.specs.Service.{level_word}
 use Rattle.contrl_segments.specs.ReadBack.{IsReadAs, components_read, values_read}
 use Rattle.contrl_segments.specs.Written as written
 use Rattle.contrl_segments.specs.Written.{Element, is_empty_element, is_empty_value, trimmed}
-use Rattle.text_reading.proofs.Items.{empty-is, lists_of, read-numbered}
-use Rattle.text_reading.proofs.Numbered.{numbered-tag, numbered-value}
+use Rattle.text_reading.proofs.Items.{first-kept, lists_of, once, read-numbered}
+use Rattle.text_reading.proofs.Numbered.{first_list, numbered-tag, numbered-value}
 use Rattle.text_reading.proofs.Runs.{HaveTags}
 use Rattle.text_reading.proofs.Values.{context_with}
 
 -- a tag as it is read
 pub written-tag : (w : written.Segment) → is_tag_of w.tag ≡ true → tag_of (components_read w) ≡ Some w.tag
-written-tag w is = ap tag_of (read-numbered w) ∙ numbered-tag w.tag (map (λ e. values_read (trimmed is_empty_value e)) (trimmed is_empty_element w.elements)) is
-
--- values as they are read
-get-nil : {X : Type 0} (i : ℕ) (d : X) → get_or [] i d ≡ d
-get-nil zero d = refl
-get-nil (suc i) d = refl
-
-empty-values : (vs : List (List ℕ)) (j : ℕ) → list_all is_empty_value vs ≡ true → get_or vs j [] ≡ []
-empty-values [] j all = get-nil j []
-empty-values (v ∷ vs) zero all = empty-is v (and_parts (is_empty_value v) (list_all is_empty_value vs) all).0
-empty-values (v ∷ vs) (suc j) all = empty-values vs j (and_parts (is_empty_value v) (list_all is_empty_value vs) all).1
-
-empty-elements : (es : List Element) (i j : ℕ) → list_all is_empty_element es ≡ true → get_or (get_or es i []) j [] ≡ []
-empty-elements [] i j all = ap (λ (e : Element). get_or e j []) (get-nil i []) ∙ get-nil j []
-empty-elements (e ∷ es) zero j all = empty-values e j (and_parts (is_empty_element e) (list_all is_empty_element es) all).0
-empty-elements (e ∷ es) (suc i) j all = empty-elements es i j (and_parts (is_empty_element e) (list_all is_empty_element es) all).1
-
-same-next : (v : List ℕ) (ws vs : List (List ℕ)) (j : ℕ) → ((k : ℕ) → get_or ws k [] ≡ get_or vs k []) → get_or (v ∷ ws) j [] ≡ get_or (v ∷ vs) j []
-same-next v ws vs zero same = refl
-same-next v ws vs (suc j) same = same j
-
-trimmed-values : (vs : List (List ℕ)) (j : ℕ) → get_or (trimmed is_empty_value vs) j [] ≡ get_or vs j []
-trimmed-values [] j = refl
-trimmed-values (v ∷ vs) j = elim (cases_Bool (list_all is_empty_value (v ∷ vs))) [
-  | inl all ↦
-      ap (λ (b : Bool). get_or (cond b [] (v ∷ trimmed is_empty_value vs)) j []) all ∙ (get-nil j [] ∙ sym (empty-values (v ∷ vs) j all))
-  | inr some ↦ ap (λ (b : Bool). get_or (cond b [] (v ∷ trimmed is_empty_value vs)) j []) some ∙ same-next v (trimmed is_empty_value vs) vs j (trimmed-values vs)
-]
-
-read-values : (vs : List (List ℕ)) (j : ℕ) → get_or (values_read vs) j [] ≡ get_or vs j []
-read-values [] zero = refl
-read-values [] (suc j) = refl
-read-values (v ∷ vs) j = refl
-
-abbrev read : Element → List (List ℕ)
-read e = values_read (trimmed is_empty_value e)
-
-kept-next : (e : Element) (ks es : List Element) (i j : ℕ) → ((k : ℕ) → get_or (get_or (map read ks) k []) j [] ≡ get_or (get_or es k []) j [])
-    → get_or (get_or (map read (e ∷ ks)) i []) j [] ≡ get_or (get_or (e ∷ es) i []) j []
-kept-next e ks es zero j same = read-values (trimmed is_empty_value e) j ∙ trimmed-values e j
-kept-next e ks es (suc i) j same = same i
-
-kept-values : (es : List Element) (i j : ℕ) → get_or (get_or (map read (trimmed is_empty_element es)) i []) j [] ≡ get_or (get_or es i []) j []
-kept-values [] i j = refl
-kept-values (e ∷ es) i j = elim (cases_Bool (list_all is_empty_element (e ∷ es))) [
-  | inl all ↦
-      ap (λ (b : Bool). get_or (get_or (map read (cond b [] (e ∷ trimmed is_empty_element es))) i []) j []) all
-      ∙ (ap (λ (x : Element). get_or x j []) (get-nil i []) ∙ (get-nil j [] ∙ sym (empty-elements (e ∷ es) i j all)))
-  | inr some ↦
-      ap (λ (b : Bool). get_or (get_or (map read (cond b [] (e ∷ trimmed is_empty_element es))) i []) j []) some ∙ kept-next e (trimmed is_empty_element es) es i j (λ k. kept-values es k j)
-]
+written-tag w is = ap tag_of (read-numbered w) ∙ numbered-tag w.tag (map (λ e. once (values_read (trimmed is_empty_value e))) (trimmed is_empty_element w.elements)) is
 
 -- the value of a component is the one that was written
 pub value-back : (w : written.Segment) (e c i j : ℕ) → e ≡ suc i → c ≡ 1 + j → value_in (components_read w) e c ≡ get_or (get_or w.elements i []) j []
 value-back w e c i j here at =
     ap (λ (cs : List Component). value_in cs e c) (read-numbered w)
-    ∙ (numbered-value (lists_of w) e c (suc i) j here at ∙ kept-values w.elements i j)
+    ∙ (numbered-value (lists_of w) e c j at
+    ∙ (ap (λ (n : ℕ). get_or (first_list (get_or (lists_of w) n [])) j []) here ∙ first-kept w i j))
 
 -- segments that are read as these
 abbrev pub AreRead : List Segment → List written.Segment → Type 0
@@ -117,13 +69,14 @@ fuse-tags s text (p ∷ ps) = ap (λ (ts : List (Option Tag)). (segment_between 
 -- the tag of each segment of a text is that of its components
 pub tags-read : (text : List ℕ) → map (λ s. s.tag) (segments_of_text text) ≡ map (λ s. tag_read s.components) (segments_of_text text)
 unfolding segments_of_text segments_by
-tags-read text = fuse-tags (service_of text) text (zip (boundaries_of (service_of text) text) (ends_of (service_of text) text))
+tags-read text = let s = (context_of text).service in fuse-tags s text (zip (boundaries_of s text) (ends_of s text))
 
-module _ (ws : List written.Segment) (octets : List ℕ) (back : IsReadAs ws octets) where
+-- where the context doesn't cut at repetitions, a text is read as it was written
+module _ (ws : List written.Segment) (octets : List ℕ) (back : IsReadAs ws octets) (same : (context_of octets).service ≡ service_of octets) where
   components-back : map (λ s. s.components) (segments_of_text octets) ≡ map components_read ws
   unfolding segments_of_text segments_by segments_of
   components-back =
-      ap (λ (s : Service). map (λ x. x.components) (segments_by s octets)) back.service
+      ap (λ (s : Service). map (λ x. x.components) (segments_by s octets)) (same ∙ back.service)
       ∙ (fuse default_service octets (zip (boundaries_of default_service octets) (ends_of default_service octets))
       ∙ back.components)
 
@@ -171,18 +124,40 @@ pub level-back : (level : Level) (o : Option (List ℕ)) → unwrap_or o [] ≡ 
 level-back level None same = absurd (omega (arith, ap length same, word-length level))
 level-back level (Some v) same = ap (λ (w : List ℕ). level_in (Some w)) same ∙ level-known level
 
--- the context of an acknowledgement that begins with such a UNB
-pub context-back : (w : written.Segment) (ws : List written.Segment) (octets : List ℕ) → IsReadAs (w ∷ ws) octets → (level : Level) → w.tag ≡ codes "UNB" → get_or (get_or w.elements 0 []) 0 [] ≡ level_word level
-    → context_of octets ≡ context_with level (version_in (octets_at 1 2 (components_read w)))
-unfolding context_of
-context-back w ws octets back level tag word =
-    let is : is_tag_of w.tag ≡ true = ap is_tag_of tag in
-    let opened : opening_components_of default_service octets (slice_get (segments_of default_service octets) 0) ≡ components_read w =
-    opening-from default_service octets (segments_of default_service octets) (components_read w) (map components_read ws) back.components
-    ∙ ap (λ (b : Bool). cond b (components_read w) []) (ap (is_tagged (codes "UNB")) (written-tag w is) ∙ (bytes_eq-Decides w.tag (codes "UNB")).1 tag) in
-    ap (λ (s : Service). context_in s (opening_components_of s octets (slice_get (segments_of s octets) 0))) back.service
-    ∙ (ap (context_in default_service) opened
-    ∙ ap (λ (l : Level). context_with l (version_in (octets_at 1 2 (components_read w)))) (level-back level (octets_at 1 1 (components_read w)) (value-back w 1 1 0 0 refl refl ∙ word)))
+-- the context of an acknowledgement that begins with such a UNB, of a version before 4
+module _ (w : written.Segment) (ws : List written.Segment) (octets : List ℕ) (back : IsReadAs (w ∷ ws) octets) (level : Level) (tag : w.tag ≡ codes "UNB") where
+  abbrev version_read : ℕ
+  version_read = version_in (octets_at 1 2 (components_read w))
+
+  opened : opening_components_of default_service octets (slice_get (segments_of default_service octets) 0) ≡ components_read w
+  opened =
+      let is : is_tag_of w.tag ≡ true = ap is_tag_of tag in
+      opening-from default_service octets (segments_of default_service octets) (components_read w) (map components_read ws) back.components
+      ∙ ap (λ (b : Bool). cond b (components_read w) []) (ap (is_tagged (codes "UNB")) (written-tag w is) ∙ (bytes_eq-Decides w.tag (codes "UNB")).1 tag)
+
+  version-read : (context_of octets).version ≡ version_read
+  unfolding context_of
+  version-read =
+      ap (λ (s : Service). version_in (octets_at 1 2 (opening_components_of s octets (slice_get (segments_of s octets) 0)))) back.service
+      ∙ ap (λ (cs : List Component). version_in (octets_at 1 2 cs)) opened
+
+  level-read : get_or (get_or w.elements 0 []) 0 [] ≡ level_word level → (context_of octets).level ≡ level
+  unfolding context_of
+  level-read word =
+      ap (λ (s : Service). level_in (octets_at 1 1 (opening_components_of s octets (slice_get (segments_of s octets) 0)))) back.service
+      ∙ (ap (λ (cs : List Component). level_in (octets_at 1 1 cs)) opened
+      ∙ level-back level (octets_at 1 1 (components_read w)) (value-back w 1 1 0 0 refl refl ∙ word))
+
+  module _ (before : version_read ≢ 4) where
+    pub service-back : (context_of octets).service ≡ service_of octets
+    service-back = context-service octets (λ is. before (sym version-read ∙ is))
+
+    pub context-back : get_or (get_or w.elements 0 []) 0 [] ≡ level_word level → context_of octets ≡ context_with level version_read
+    context-back word =
+        let context : Context = context_of octets in
+        ap (λ (s : Service). let made : Context = record { service = s; level = context.level; version = context.version } in made) (service-back ∙ back.service)
+        ∙ (ap (λ (l : Level). let made : Context = record { service = default_service; level = l; version = context.version } in made) (level-read word)
+        ∙ ap (λ (v : ℕ). context_with level v) version-read)
 
 -- segments that are read as two lists are two lists themselves
 pub record SplitsBack (ss : List Segment) (ws us : List written.Segment) : Type 0 where

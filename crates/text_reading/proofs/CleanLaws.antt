@@ -1,8 +1,9 @@
 -- The octets of an acknowledgement have no error.
-use Rattle.std.proofs.Common.{◌≡◌, ◌⊎◌, ℕ, suc, ◌+◌, ◌<◌, Bool, true, false, cond, eqb, Option, Some, None, List, [], ◌∷◌, ◌++◌, map, length, refl, sym, ap, ◌∙◌, inl, inr, subst, arith, lt-ltb}
-use Rattle.std.specs.Prelude.{All, IfOk, IsTrue, Result, Ok, Err, codes, decimal, is_some, slice_get}
+use Rattle.std.proofs.Common.{◌≡◌, ◌≢◌, ◌⊎◌, ℕ, suc, ◌+◌, ◌<◌, Bool, true, false, cond, eqb, Option, Some, None, List, [], ◌∷◌, ◌++◌, get_or, map, length, refl, sym, ap, ◌∙◌, inl, inr, subst, arith, lt-ltb}
+use Rattle.std.specs.Prelude.{All, IfOk, IsTrue, Result, Ok, Err, codes, decimal, is_some, slice_get, unwrap_or}
 use Rattle.std.specs.List.{enumerate_from, flat_map}
 use Rattle.std.specs.Str.{bytes_eq}
+use Rattle.std.proofs.lemmas.Bool.{eqb-false}
 use Rattle.std.proofs.lemmas.List.{length-map, map-append}
 use Rattle.std.proofs.lemmas.Fmt.{decimal_digit}
 use Rattle.edi_octets.specs.Decimal.{decimal_in}
@@ -27,9 +28,10 @@ use Rattle.table_walk.specs.Errors.{StructureError}
 use Rattle.envelope_check.specs.Envelope.{envelope_errors_of}
 use Rattle.envelope_check.specs.Heads.{kind_of}
 use Rattle.segment_records.specs.Messages.{structure_errors_at, position_at, table_for}
-use Rattle.segment_records.specs.Segments.{Segment, segments_of_text, value_in}
-use Rattle.contrl_writer.specs.Contrl.{answer_by, contrl_of}
-use Rattle.contrl_segments.specs.Service.{level_word, unh, unt, unz}
+use Rattle.segment_records.specs.Segments.{Segment, segments_by, segments_of_text, value_in}
+use Rattle.contrl_writer.specs.Contrl.{answer_by, contrl_for, contrl_of, interchange_answer, lower_segments, message_of}
+use Rattle.contrl_writer.specs.Levels.{first_error, interchange_errors, levelled}
+use Rattle.contrl_segments.specs.Service.{answered_version, level_word, syntax_identifier, uci, unb, unh, unt, unz}
 use Rattle.contrl_segments.specs.ReadBack.{IsReadAs, components_read}
 use Rattle.contrl_segments.specs.Stamp.{IsStamp, is_reference_of}
 use Rattle.contrl_segments.specs.Written as written
@@ -39,10 +41,11 @@ use Rattle.contrl_writer.specs.declared.answer.Contrl.TheVariants as answers
 use Rattle.contrl_segments.specs.declared.stamp.Stamp.{Stamp}
 use Rattle.contrl_segments.specs.declared.summary.Opening.{Opening}
 use Rattle.contrl_segments.specs.declared.summary.Opening.TheVariants.{NoUnb, BadUnb, Good}
+use Rattle.contrl_segments.specs.declared.summary.Party.{Party}
 use Rattle.contrl_segments.specs.declared.summary.Summary.{Summary}
 use Rattle.contrl_segments.proofs.ReadLemmas.{written-read}
 use Rattle.contrl_writer.proofs.TaggedLemmas.{all-written, no-advice}
-use Rattle.text_reading.proofs.Back.{AllTagged, AreRead, context-back, have-tags, length-read, segments-back, splits-back, value-back}
+use Rattle.text_reading.proofs.Back.{AllTagged, AreRead, context-back, have-tags, length-read, segments-back, service-back, splits-back, value-back}
 use Rattle.text_reading.proofs.Each.{Each, each-get}
 use Rattle.text_reading.proofs.Items.{IsLawful, lawful-free}
 use Rattle.text_reading.proofs.Reports.{tags_of}
@@ -52,7 +55,7 @@ use Rattle.text_reading.proofs.Values.{context_with, decimal_back}
 use Rattle.text_reading.proofs.Walk.Spot.{AtHead}
 use Rattle.text_reading.specs.Clean.{IsCleanAnswer, IsGoodOpening}
 use Rattle.segment_records.specs.Errors.{fault_line, is_unknown, local_line, nodes_in, segment_lines, versions}
-use Rattle.text_reading.specs.Errors.{advice_lines, errors_found, errors_of, opening_lines, syntax_lines, tail_lines}
+use Rattle.text_reading.specs.Errors.{advice_lines, errors_found, errors_of, first_segment, opening_lines, syntax_lines, tail_lines}
 use Rattle.segment_records.specs.Errors as errors
 use Rattle.segment_records.specs.Heads.{heads_of, marks_of}
 use Rattle.text_reading.specs.Summary.{contrl_to, summary_of}
@@ -149,35 +152,52 @@ known_level levels.D = refl
 known_level levels.E = refl
 known_level levels.F = refl
 
--- a version is 1, 2 or 3
-abbrev IsVersion : ℕ → Type 0
-IsVersion n = (n ≡ 1) ⊎ ((n ≡ 2) ⊎ (n ≡ 3))
+-- the version of an answer is 1, 2 or 3
+abbrev IsAnswered : ℕ → Type 0
+IsAnswered n = (n ≡ 1) ⊎ ((n ≡ 2) ⊎ (n ≡ 3))
 
-known_version : (n : ℕ) → IsVersion n → is_unknown (decimal n) versions ≡ false
+-- and that of a text may be 4 too
+abbrev IsVersion : ℕ → Type 0
+IsVersion n = (n ≡ 4) ⊎ IsAnswered n
+
+known_version : (n : ℕ) → IsAnswered n → is_unknown (decimal n) versions ≡ false
 known_version n (inl is) = ap (λ (m : ℕ). is_unknown (decimal m) versions) is ∙ ap (λ (v : List ℕ). is_unknown v versions) (decimal_digit 1 (omega arith))
 known_version n (inr (inl is)) = ap (λ (m : ℕ). is_unknown (decimal m) versions) is ∙ ap (λ (v : List ℕ). is_unknown v versions) (decimal_digit 2 (omega arith))
 known_version n (inr (inr is)) = ap (λ (m : ℕ). is_unknown (decimal m) versions) is ∙ ap (λ (v : List ℕ). is_unknown v versions) (decimal_digit 3 (omega arith))
 
-version_before : (n : ℕ) → IsVersion n → eqb n 4 ≡ false
-version_before n (inl is) = ap (λ (m : ℕ). eqb m 4) is
-version_before n (inr (inl is)) = ap (λ (m : ℕ). eqb m 4) is
-version_before n (inr (inr is)) = ap (λ (m : ℕ). eqb m 4) is
+-- an answer is written in such a version
+answered : (n : ℕ) → IsVersion n → IsAnswered (answered_version n)
+answered n (inl is) = subst (λ (m : ℕ). IsAnswered (answered_version m)) (sym is) (inr (inr refl))
+answered n (inr (inl is)) = subst (λ (m : ℕ). IsAnswered (answered_version m)) (sym is) (inl refl)
+answered n (inr (inr (inl is))) = subst (λ (m : ℕ). IsAnswered (answered_version m)) (sym is) (inr (inl refl))
+answered n (inr (inr (inr is))) = subst (λ (m : ℕ). IsAnswered (answered_version m)) (sym is) (inr (inr refl))
 
-version_by : (one two : Bool) → IsVersion (cond one 1 (cond two 2 3))
-version_by true two = inl refl
-version_by false true = inr (inl refl)
-version_by false false = inr (inr refl)
+-- and read in one before 4
+version_before : (n : ℕ) → IsAnswered n → (o : Option (List ℕ)) → unwrap_or o [] ≡ decimal n → eqb (version_in o) 4 ≡ false
+version_before n known None is = refl
+version_before n (inl same) (Some v) is =
+    ap (λ (w : List ℕ). eqb (version_in (Some w)) 4) (is ∙ (ap decimal same ∙ decimal_digit 1 (omega arith)))
+version_before n (inr (inl same)) (Some v) is =
+    ap (λ (w : List ℕ). eqb (version_in (Some w)) 4) (is ∙ (ap decimal same ∙ decimal_digit 2 (omega arith)))
+version_before n (inr (inr same)) (Some v) is =
+    ap (λ (w : List ℕ). eqb (version_in (Some w)) 4) (is ∙ (ap decimal same ∙ decimal_digit 3 (omega arith)))
+
+version_by : (one two four : Bool) → IsVersion (cond one 1 (cond two 2 (cond four 4 3)))
+version_by true two four = inr (inl refl)
+version_by false true four = inr (inr (inl refl))
+version_by false false true = inl refl
+version_by false false false = inr (inr (inr refl))
 
 version_is : (o : Option (List ℕ)) → IsVersion (version_in o)
-version_is None = inr (inr refl)
-version_is (Some v) = version_by (bytes_eq v (codes "1")) (bytes_eq v (codes "2"))
+version_is None = inr (inr (inr refl))
+version_is (Some v) = version_by (bytes_eq v (codes "1")) (bytes_eq v (codes "2")) (bytes_eq v (codes "4"))
 
 context_version : (text : List ℕ) → IsVersion ((context_of text).version)
 unfolding context_of
 context_version text = let s : Service = service_of text in version_is (octets_at 1 2 (opening_components_of s text (slice_get (segments_of s text) 0)))
 
 module _ (dir : Parts) (directory : IsDirectory dir) (level : Level) (version : ℕ) (own : List ℕ) (ws : List written.Segment) (octets : List ℕ)
-    (read : IsReadAs ws octets) (shape : IsShaped level version own ws) (version_known : IsVersion version) where
+    (read : IsReadAs ws octets) (shape : IsShaped level version own ws) (version_known : IsAnswered (answered_version version)) where
   abbrev canonical : List written.Segment
   canonical = shaped shape.first shape.head shape.rest own
 
@@ -187,20 +207,35 @@ module _ (dir : Parts) (directory : IsDirectory dir) (level : Level) (version : 
   abbrev segments : List Segment
   segments = segments_of_text octets
 
+  abbrev version_back : ℕ
+  version_back = version_in (octets_at 1 2 (components_read shape.first))
+
+  before : eqb version_back 4 ≡ false
+  before =
+      version_before (answered_version version) version_known (octets_at 1 2 (components_read shape.first))
+      (value-back shape.first 1 2 0 1 refl refl ∙ shape.syntax)
+
+  other : version_back ≢ 4
+  other is = eqb-false version_back 4 before is
+
+  abbrev after : List written.Segment
+  after = unh ∷ shape.head ∷ (shape.rest ++ unt (length shape.rest + 3) ∷ unz own ∷ [])
+
+  -- the context of an answer doesn't cut at repetitions
+  single : (context_of octets).service ≡ service_of octets
+  single = service-back shape.first after octets back level shape.first_tag other
+
+  context_is : context_of octets ≡ context_with level version_back
+  context_is = context-back shape.first after octets back level shape.first_tag other shape.word
+
   are_read : AreRead segments canonical
-  are_read = segments-back canonical octets back
+  are_read = segments-back canonical octets back single
 
   parts : IsReadShaped shape.first shape.head shape.rest own segments
   parts = read_shaped shape.first shape.head shape.rest own segments are_read
 
-  abbrev version_back : ℕ
-  version_back = version_in (octets_at 1 2 (components_read shape.first))
-
-  context_is : context_of octets ≡ context_with level version_back
-  context_is = context-back shape.first (unh ∷ shape.head ∷ (shape.rest ++ unt (length shape.rest + 3) ∷ unz own ∷ [])) octets back level shape.first_tag shape.word
-
   lawful : Each (IsLawful (context_of octets)) canonical
-  lawful = subst (λ (context : Context). Each (IsLawful context) canonical) (sym context_is) (shape.lawful version_back (version_before version_back (version_is (octets_at 1 2 (components_read shape.first)))))
+  lawful = subst (λ (context : Context). Each (IsLawful context) canonical) (sym context_is) (shape.lawful version_back before)
 
   local_none : Each (λ (s : Segment). local_errors_of dir (context_of octets) s.components ≡ []) segments
   local_none = free_each dir (context_of octets) segments canonical are_read lawful
@@ -272,19 +307,24 @@ module _ (dir : Parts) (directory : IsDirectory dir) (level : Level) (version : 
       ∙ message_free dir parts.b parts.h parts.c parts.front parts.u parts.z own (codes "1") message
 
   -- the syntax that UNB names
-  syntax_none : syntax_lines (slice_get segments 0) ≡ []
+  first_same : first_segment octets ≡ slice_get segments 0
+  unfolding segments_of_text
+  first_same = ap (λ (s : Service). slice_get (segments_by s octets) 0) (sym single)
+
+  syntax_none : syntax_lines (first_segment octets) ≡ []
   syntax_none =
-      ap (λ (ss : List Segment). syntax_lines (slice_get ss 0)) parts.is
+      ap syntax_lines first_same
+      ∙ (ap (λ (ss : List Segment). syntax_lines (slice_get ss 0)) parts.is
       ∙ (ap (λ (t : Option Tag). cond (has_name (codes "UNB") t) (opening_lines parts.b) []) have_parts.0
       ∙ (ap (λ (b : Bool). when b (errors.error_of 1 parts.b 1 1 kind.Syntax) ++ when (is_unknown (value_in parts.b.components 1 2) versions) (errors.error_of 1 parts.b 1 2 kind.Syntax))
       (ap (λ (v : List ℕ). is_unknown v errors.levels) (ap (λ cs. value_in cs 1 1) parts.b_read ∙ (value-back shape.first 1 1 0 0 refl refl ∙ shape.word)) ∙ known_level level)
       ∙ ap (λ (b : Bool). when b (errors.error_of 1 parts.b 1 2 kind.Syntax))
-      (ap (λ (v : List ℕ). is_unknown v versions) (ap (λ cs. value_in cs 1 2) parts.b_read ∙ (value-back shape.first 1 2 0 1 refl refl ∙ shape.syntax)) ∙ known_version version version_known)))
+      (ap (λ (v : List ℕ). is_unknown v versions) (ap (λ cs. value_in cs 1 2) parts.b_read ∙ (value-back shape.first 1 2 0 1 refl refl ∙ shape.syntax)) ∙ known_version (answered_version version) version_known))))
 
   pub found_none : errors_found dir octets ≡ []
   unfolding errors_found
   found_none =
-      five_none (envelope_errors_of (heads_of dir segments) (marks_of segments)) (advice_lines (context_of octets).service.sound) (tail_lines (length segments) (tail_of (service_of octets) octets)) (syntax_lines (slice_get segments 0))
+      five_none (envelope_errors_of (heads_of dir segments) (marks_of segments)) (advice_lines (context_of octets).service.sound) (tail_lines (length segments) (tail_of (service_of octets) octets)) (syntax_lines (first_segment octets))
       (flat_map (segment_lines dir (context_of octets) segments) (enumerate_from 0 segments))
       envelope_none (ap (λ (context : Context). advice_lines context.service.sound) context_is)
       (ap (tail_lines (length segments)) (ap (λ (s : Service). tail_of s octets) back.service ∙ back.tail)) syntax_none
@@ -293,7 +333,8 @@ module _ (dir : Parts) (directory : IsDirectory dir) (level : Level) (version : 
 small_version : (n : ℕ) → IsVersion n → n < 10
 small_version n (inl is) = omega arith
 small_version n (inr (inl is)) = omega arith
-small_version n (inr (inr is)) = omega arith
+small_version n (inr (inr (inl is))) = omega arith
+small_version n (inr (inr (inr is))) = omega arith
 
 -- what is answered for this opening has no error
 clean_by : (dir : Parts) (directory : IsDirectory dir) (text : List ℕ) (stamp : Stamp) (own : List ℕ) → IsStamp stamp → IsTrue (is_reference_of own) → All (IsGoodOpening dir text) (segments_of_text text)
@@ -309,7 +350,45 @@ clean_by dir directory text stamp own stamped own_is good (Good level version se
     let shape : IsShaped level version own ws =
     contrl_shape level version sender recipient reference stamp own (small_version version version_known) opened.1.1 stamped.0 stamped.1 own_is s is
     (subst (λ (l : Level). IsGoodSummary l s) (sym opened.0) (summary_good dir text good)) in
-    subst (λ (o : List ℕ). errors_found dir o ≡ []) written_is (found_none dir directory level version own ws (contrl_text ws) read shape version_known)
+    subst (λ (o : List ℕ). errors_found dir o ≡ []) written_is (found_none dir directory level version own ws (contrl_text ws) read shape (answered version version_known))
+
+-- an acknowledgement begins with a UNB of the version that it is written in
+record BeginsIn (version : ℕ) (ws : List written.Segment) : Type 0 where
+  first : written.Segment
+  more : List written.Segment
+  is : ws ≡ first ∷ more
+  tag : first.tag ≡ codes "UNB"
+  syntax : get_or (get_or first.elements 0 []) 1 [] ≡ decimal (answered_version version)
+
+contrl_begins : (level : Level) (version : ℕ) (sender recipient : Party) (reference : List ℕ) (s : Summary) (stamp : Stamp) (own : List ℕ) → s.opening ≡ Good level version sender recipient reference → BeginsIn version (contrl_of s stamp own)
+unfolding contrl_of
+contrl_begins level version sender recipient reference s stamp own opened =
+    subst (λ (o : Opening). BeginsIn version (contrl_for o s stamp own)) (sym opened)
+    (record {
+      first = unb (syntax_identifier level version) sender recipient stamp own;
+      more = message_of (interchange_answer (uci sender recipient reference) (first_error (interchange_errors (levelled s))) (lower_segments (levelled s) s.messages s.groups)) ++ unz own ∷ [];
+      is = refl;
+      tag = refl;
+      syntax = refl;
+    })
+
+-- so it is read as it was written
+pub contrl_read : (dir : Parts) (text : List ℕ) (stamp : Stamp) (own : List ℕ) (level : Level) (version : ℕ) (sender recipient : Party) (reference : List ℕ)
+    → (summary_of dir text).opening ≡ Good level version sender recipient reference
+    → AreRead (segments_of_text (contrl_text (contrl_of (summary_of dir text) stamp own))) (contrl_of (summary_of dir text) stamp own)
+contrl_read dir text stamp own level version sender recipient reference is =
+    let s : Summary = summary_of dir text in
+    let ws : List written.Segment = contrl_of s stamp own in
+    let octets : List ℕ = contrl_text ws in
+    let opened : IsOpened (context_of text) (Good level version sender recipient reference) = subst (IsOpened (context_of text)) is (summary_opened dir text) in
+    let known : IsVersion version = subst IsVersion (sym opened.1.0) (context_version text) in
+    let begins = contrl_begins level version sender recipient reference s stamp own is in
+    let read : IsReadAs ws octets = written-read ws (all-written s stamp own) (no-advice s stamp own) in
+    let back : IsReadAs (begins.first ∷ begins.more) octets = subst (λ (xs : List written.Segment). IsReadAs xs octets) begins.is read in
+    let before =
+    version_before (answered_version version) (answered version known) (octets_at 1 2 (components_read begins.first)) (value-back begins.first 1 2 0 1 refl refl ∙ begins.syntax) in
+    segments-back ws octets read
+    (service-back begins.first begins.more octets back level begins.tag (eqb-false (version_in (octets_at 1 2 (components_read begins.first))) 4 before))
 
 order_none : in_order [] ≡ []
 unfolding in_order
@@ -319,7 +398,7 @@ order_none = refl
 pub contrl_clean : (dir : Parts) → IsDirectory dir → (text : List ℕ) (stamp : Stamp) (own : List ℕ) → IsStamp stamp → IsTrue (is_reference_of own) → IsCleanAnswer dir text (contrl_to dir text stamp own)
 unfolding contrl_to errors_of
 contrl_clean dir directory text stamp own stamped own_is good octets same =
-    ap in_order (clean_by dir directory text stamp own stamped own_is good (summary_of dir text).opening refl (summary_opened dir text good) octets same) ∙ order_none
+    ap in_order (clean_by dir directory text stamp own stamped own_is good (summary_of dir text).opening refl (summary_opened dir text) octets same) ∙ order_none
 
 -- so what is answered is clean, where anything is
 pub answer_clean : {E : Type 0} (dir : Parts) → IsDirectory dir → (text : List ℕ) (stamp : Stamp) (own : List ℕ) → IsStamp stamp → IsTrue (is_reference_of own)

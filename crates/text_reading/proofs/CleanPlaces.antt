@@ -1,6 +1,6 @@
 -- Among all errors of a text, one of an element names the element, and one of a segment as a whole is at element 0.
 use Rattle.std.proofs.Common.{◌≡◌, ℕ, ◌+◌, Bool, true, false, cond, Option, Some, None, List, [], ◌∷◌, ◌++◌, map, length, refl, sym, ◌∙◌, inl, inr, subst}
-use Rattle.std.specs.Prelude.{codes, is_some, nat_le, not, slice_get}
+use Rattle.std.specs.Prelude.{codes, is_some, nat_le, not}
 use Rattle.std.specs.List.{enumerate_from, flat_map, range_with_len}
 use Rattle.std.proofs.lemmas.Bool.{cases_Bool, false≢true}
 use Rattle.edi_tables.specs.declared.table.Node.{Node}
@@ -30,7 +30,7 @@ use Rattle.text_reading.proofs.Each.{Each, each-all, each-append, each-flat, eac
 use Rattle.text_reading.proofs.Lawful.{IsPlaced}
 use Rattle.text_reading.proofs.Places.{local_each}
 use Rattle.segment_records.specs.Errors.{error_of, error_with, fault_line, is_unknown, levels, local_line, nodes_in, segment_lines, structure_lines, versions}
-use Rattle.text_reading.specs.Errors.{advice_lines, errors_found, errors_in, errors_of, opening_lines, syntax_lines, tail_lines, untagged}
+use Rattle.text_reading.specs.Errors.{advice_lines, errors_found, errors_in, errors_of, first_segment, opening_lines, syntax_lines, tail_lines, untagged}
 use Rattle.segment_records.specs.Heads.{heads_of, marks_of}
 
 either_kind : (b : Bool) (one two : Kind) → is_of_element one ≡ false → is_of_element two ≡ false → is_of_element (cond b one two) ≡ false
@@ -118,19 +118,19 @@ module _ (P : ErrorLine → Type 0) (all : IsOfErrors P) where
   advice_each true = tt
   advice_each false = (all.free (error_with 0 (untagged 0) 0 0 kind.BadUna) refl refl, tt)
 
-  in_each : (dir : Parts) (context : Context) (segments : List Segment) (tail : Option ℕ) → Each P (errors_in dir context segments tail)
-  in_each dir context segments tail =
+  in_each : (dir : Parts) (context : Context) (segments : List Segment) (first : Option Segment) (tail : Option ℕ) → Each P (errors_in dir context segments first tail)
+  in_each dir context segments first tail =
       let envelope : List ErrorLine = envelope_errors_of (heads_of dir segments) (marks_of segments) in
       let advice : List ErrorLine = advice_lines context.service.sound in
       let last : List ErrorLine = tail_lines (length segments) tail in
-      let syntax : List ErrorLine = syntax_lines (slice_get segments 0) in
+      let syntax : List ErrorLine = syntax_lines first in
       let lines : List ErrorLine = flat_map (segment_lines dir context segments) (enumerate_from 0 segments) in
       each-append P (envelope ++ advice ++ last ++ syntax) lines
       (each-append P (envelope ++ advice ++ last) syntax
       (each-append P (envelope ++ advice) last
       (each-append P envelope advice (envelope_each (heads_of dir segments) (marks_of segments)) (advice_each context.service.sound))
       (tail_each (length segments) tail))
-      (syntax_each (slice_get segments 0)))
+      (syntax_each first))
       (each-flat (λ p. Unit {0}) P (segment_lines dir context segments) (λ p t. lines_each dir context segments p) (enumerate_from 0 segments) (each-all (λ p. Unit {0}) (λ p. tt) (enumerate_from 0 segments)))
 
 -- what holds of each error holds of each in order
@@ -152,7 +152,7 @@ each-ordered P errors all = each-sorted P is_before errors all
 -- what holds of errors holds of all errors of a text
 pub errors_each : (P : ErrorLine → Type 0) → IsOfErrors P → (dir : Parts) (text : List ℕ) → Each P (errors_of dir text)
 unfolding errors_of errors_found
-errors_each P all dir text = each-ordered P (errors_found dir text) (in_each P all dir (context_of text) (segments_of_text text) (tail_of (service_of text) text))
+errors_each P all dir text = each-ordered P (errors_found dir text) (in_each P all dir (context_of text) (segments_of_text text) (first_segment text) (tail_of (service_of text) text))
 
 -- those of elements name the element
 pub errors_placed : (dir : Parts) (text : List ℕ) → Each IsPlaced (errors_of dir text)

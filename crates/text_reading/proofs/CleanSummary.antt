@@ -160,6 +160,9 @@ module _ (dir : Parts) (text : List ℕ) (good : All (IsGoodOpening dir text) (s
     errors = each-map IsPlaced IsPlacedLevelled (with_level (groups_in segments) (messages_in segments)) (λ e placed. placed) (in_order (errors_of dir text)) (each-ordered IsPlaced (errors_of dir text) (errors_placed dir text));
   }
 
-  pub summary_opened : IsOpened context ((summary_of dir text).opening)
-  unfolding summary_of
-  summary_opened = opened_in dir context (slice_get segments 0) (λ s at. each-get IsRead segments 0 s (text-read text) at)
+-- what the opening of a text copies is good
+pub summary_opened : (dir : Parts) (text : List ℕ) → IsOpened (context_of text) ((summary_of dir text).opening)
+unfolding summary_of
+summary_opened dir text =
+    let segments : List Segment = segments_of_text text in
+    opened_in dir (context_of text) (slice_get segments 0) (λ s at. each-get IsRead segments 0 s (text-read text) at)

@@ -3,7 +3,7 @@ use Rattle.std.proofs.Common.{◌≡◌, ℕ, ◌+◌, ◌^◌, ◌<◌, ◌≤�
 use Rattle.std.specs.Prelude.{codes, decimal, nat_le, unwrap_or}
 use Rattle.std.specs.List.{list_all, list_any}
 use Rattle.std.specs.Str.{all_ascii_digits, bytes_eq}
-use Rattle.std.proofs.lemmas.Bool.{and_parts, cases_Bool, eqb-true, false≢true, or_cases}
+use Rattle.std.proofs.lemmas.Bool.{and_parts, cases_Bool, cond_both, eqb-true, false≢true, or_cases}
 use Rattle.std.proofs.lemmas.Slice.Eq.{bytes_eq-Decides}
 use Rattle.edi_tables.specs.Tag.{is_tag_octet_of}
 use Rattle.edi_tables.specs.declared.element.Class.TheVariants.{N, An}
@@ -19,7 +19,7 @@ use Rattle.service_tables.specs.ServiceTables.{C, service_items_of, service_part
 use Rattle.seg_lexer.specs.declared.context.Context.{Context}
 use Rattle.seg_lexer.specs.declared.context.Level.{Level}
 use Rattle.element_check.specs.Local.{has_octet}
-use Rattle.contrl_segments.specs.Service.{acknowledged, group_party, interchange_party, rejected, ucf, syntax_identifier, uci, unb, unh, unt, unz}
+use Rattle.contrl_segments.specs.Service.{acknowledged, answered_version, group_party, interchange_party, rejected, ucf, syntax_identifier, uci, unb, unh, unt, unz}
 use Rattle.contrl_segments.specs.Details.{code_told, component_told, details_told, element_told, envelope_tag, has_position, is_envelope_tag, is_near, position_of, tag_told}
 use Rattle.contrl_writer.specs.Levels.{first_error}
 use Rattle.contrl_writer.specs.Report.{identifier_of, ucd, ucm, ucs, whole_errors}
@@ -196,6 +196,7 @@ module _ (context : Context) where
     tag = refl;
     items = items_at (codes "UCI");
     known = refl;
+    single = refl;
     good = (ref, (sender_good sender one, (recipient_good recipient two, (act, details_good error))));
   }
 
@@ -205,6 +206,7 @@ module _ (context : Context) where
     tag = refl;
     items = items_at (codes "UCF");
     known = refl;
+    single = refl;
     good = (good.reference, (group_sender_good g.sender good.sender, (group_recipient_good g.recipient good.recipient, (act, details_good error))));
   }
 
@@ -214,6 +216,7 @@ module _ (context : Context) where
     tag = refl;
     items = items_at (codes "UCM");
     known = refl;
+    single = refl;
     good = (good.reference, (identifier_good m good, (rejected_good, details_good (first_error (whole_errors errors)))));
   }
 
@@ -223,6 +226,7 @@ module _ (context : Context) where
     tag = refl;
     items = items_at (codes "UCS");
     known = refl;
+    single = refl;
     good = (number_good context true false 6 (decimal position) (decimal_number 6 position (omega arith) few (omega (arith, few))) (no_more 6 (length (decimal position))), (good, tt));
   }
 
@@ -232,6 +236,7 @@ module _ (context : Context) where
     tag = refl;
     items = items_at (codes "UCD");
     known = refl;
+    single = refl;
     good = (number_an context true 3 (code_told x.error) (code_number x.error), (position_told true x.error is, tt));
   }
 
@@ -244,6 +249,7 @@ module _ (context : Context) where
     tag = refl;
     items = items_at (codes "UNH");
     known = refl;
+    single = refl;
     good = (
       one_good true 14 (omega arith),
       (
@@ -271,6 +277,7 @@ module _ (context : Context) where
     tag = refl;
     items = items_at (codes "UNT");
     known = refl;
+    single = refl;
     good = (
       number_good context true false 6 (decimal count) (decimal_number 6 count (omega arith) few (omega (arith, few))) (no_more 6 (length (decimal count))),
       (one_good true 14 (omega arith), tt),
@@ -283,6 +290,7 @@ module _ (context : Context) where
     tag = refl;
     items = items_at (codes "UNZ");
     known = refl;
+    single = refl;
     good = (number_good context true false 6 (codes "1") (record { digits = refl; some = omega arith; few = omega arith }) (no_more 6 1), (good, tt));
   }
 
@@ -302,6 +310,10 @@ reference_good context own is =
     let bounds = and_parts (nat_le 1 (length own)) (nat_le (length own) 14) parts.0 in
     octets_good context true false 14 own parts.1 (leb-true 1 (length own) bounds.0) (leb-true (length own) 14 bounds.1) (no_more 14 (length own))
 
+-- the version that an answer is written in has one digit
+answered_small : (version : ℕ) → version < 10 → answered_version version < 10
+answered_small version small = cond_both (eqb version 4) 3 version (λ (n : ℕ). n < 10) (λ is. omega arith) (λ is. small)
+
 module _ (level : Level) (read_version version : ℕ) where
   abbrev own_context : Context
   own_context = context_with level read_version
@@ -312,8 +324,10 @@ module _ (level : Level) (read_version version : ℕ) where
   unfolding service_items_of service_parts_of
   unb_lawful sender recipient stamp own small before one two date time is =
       let level_is = level_good level read_version in
-      let version_is : IsGoodValue own_context true (exactly N 1) (decimal version) =
-      let number = decimal_number 1 version (omega arith) (omega arith) (omega arith) in number_good own_context true true 1 (decimal version) number (λ need. number.some) in
+      let version_is : IsGoodValue own_context true (exactly N 1) (decimal (answered_version version)) =
+      let few = answered_small version small in
+      let number = decimal_number 1 (answered_version version) (omega arith) (omega (arith, few)) (omega (arith, few)) in
+      number_good own_context true true 1 (decimal (answered_version version)) number (λ need. number.some) in
       let six_is : IsGoodValue own_context true (exactly N 6) stamp.date = number_good own_context true true 6 stamp.date (stamp_number 6 stamp.date date (omega arith)) (λ need. stamp_long 6 stamp.date date) in
       let date_is : IsGoodValue own_context true (exactly N (cond (eqb read_version 4) 8 6)) stamp.date =
       subst (λ (b : Bool). IsGoodValue own_context true (exactly N (cond b 8 6)) stamp.date) (sym before) six_is in
@@ -322,8 +336,9 @@ module _ (level : Level) (read_version version : ℕ) where
         tag = refl;
         items = items_at own_context (codes "UNB");
         known = refl;
+        single = refl;
         good = (
-          inl (ap (λ (b : Bool). b || list_any has_octet (decimal version ∷ [])) (level_is.filled refl), (level_is, (version_is, tt))),
+          inl (ap (λ (b : Bool). b || list_any has_octet (decimal (answered_version version) ∷ [])) (level_is.filled refl), (level_is, (version_is, tt))),
           (
             sender_good own_context recipient two,
             (

@@ -7,7 +7,7 @@ use Rattle.error_ledger.specs.declared.error.ErrorLine.{ErrorLine}
 use Rattle.edi_tables.specs.declared.element.Class.TheVariants.{An}
 use Rattle.seg_lexer.specs.declared.context.Level.{Level}
 use Rattle.contrl_writer.specs.Contrl.{contrl_for, contrl_of, interchange_answer, lower_segments, message_of}
-use Rattle.contrl_segments.specs.Service.{acknowledged, level_word, rejected, syntax_identifier, uci, unb, unh, unt, unz}
+use Rattle.contrl_segments.specs.Service.{acknowledged, answered_version, level_word, rejected, syntax_identifier, uci, unb, unh, unt, unz}
 use Rattle.contrl_writer.specs.Levels.{first_error, interchange_errors, levelled}
 use Rattle.contrl_segments.specs.Stamp.{is_reference_of}
 use Rattle.contrl_segments.specs.Written.{Segment}
@@ -35,7 +35,7 @@ pub record IsShaped (level : Level) (version : ℕ) (own : List ℕ) (segments :
   pub is : segments ≡ shaped first head rest own
   pub first_tag : first.tag ≡ codes "UNB"
   pub word : get_or (get_or first.elements 0 []) 0 [] ≡ level_word level
-  pub syntax : get_or (get_or first.elements 0 []) 1 [] ≡ decimal version
+  pub syntax : get_or (get_or first.elements 0 []) 1 [] ≡ decimal (answered_version version)
   pub reference : get_or (get_or first.elements 4 []) 0 [] ≡ own
   pub head_tag : head.tag ≡ codes "UCI"
   pub walks : Accepts false AtHead (tags_of rest)

@@ -40,11 +40,9 @@ use Rattle.segment_records.specs.Told.{components_seen}
 use Rattle.text_reading.proofs.Bounds.{none_first, some_first}
 use Rattle.segment_records.proofs.Following.{stretch_in}
 use Rattle.text_reading.proofs.Grouping.{below_next, group_is, opened_below, opened_next}
-use Rattle.segment_records.proofs.Headed.{components_alike, place_in}
+use Rattle.segment_records.proofs.Headed.{components_alike, count_segments, place_in}
 use Rattle.segment_records.proofs.Looking.{first_left, next_left, seen_is}
-use Rattle.segment_records.proofs.Rests.{same_count}
 use Rattle.segment_records.proofs.Spanned.{AreAt, IsAt, heads_are, heads_mapped}
-use Rattle.segment_records.proofs.Stretches.{context_service}
 
 -- a UNH neither opens nor stops a group
 record IsApart (tag : Option Tag) : Type 0 where
@@ -118,7 +116,7 @@ module _ (all : List Segment) where
 
 module _ (dir : Parts) (directory : IsDirectory dir) (text : List ℕ) where
   abbrev s : Service
-  s = service_of text
+  s = (context_of text).service
 
   abbrev all : List Segment
   all = segments_of_text text
@@ -224,8 +222,7 @@ module _ (dir : Parts) (directory : IsDirectory dir) (text : List ℕ) where
   length_grouped begun group (x ∷ xs) = ap suc (length_grouped (begun_by x.kept.tag begun) (group_by x.kept.tag begun group) xs)
 
   count_is : segment_count_of text ≡ length (tags_in all)
-  unfolding segments_of_text
-  count_is = same_count s text ∙ sym (count_tags (segments_of_text text))
+  count_is = count_segments text ∙ sym (count_tags (segments_of_text text))
 
   groups_are : heads_from (group_spans s text) (segment_count_of text) None (seen_in dir text) ≡ groups_in all
   unfolding group_extents
@@ -304,7 +301,6 @@ module _ (dir : Parts) (directory : IsDirectory dir) (text : List ℕ) where
     opening_read named context octets context_is octets_is =
         ap (λ (c : Context). opening_by c (components_seen c.service octets first) first.kept.local) context_is
         ∙ ap (λ (t : List ℕ). opening_by (context_of text) (components_seen (context_of text).service t first) first.kept.local) octets_is
-        ∙ ap (λ (service : Service). opening_by (context_of text) (components_seen service text first) first.kept.local) (context_service text)
         ∙ ap (λ (x : SeenSegment). opening_by (context_of text) (components_seen s text x) x.kept.local) at.2
         ∙ ap (λ (components : List Component). opening_by (context_of text) components (local_errors_of dir (context_of text) at.0.components)) (components_are 0 at.0 at.1)
         ∙ sym (opening_named true named)

@@ -12,7 +12,7 @@ use Rattle.error_ledger.specs.declared.error.ErrorLine.{ErrorLine}
 use Rattle.error_ledger.specs.declared.kind.Kind.TheVariants as kind
 use Rattle.envelope_check.specs.Envelope.{envelope_errors_of}
 use Rattle.envelope_check.specs.declared.head.SegmentMark.{SegmentMark}
-use Rattle.segment_records.specs.Segments.{Segment, segments_of_text, value_in}
+use Rattle.segment_records.specs.Segments.{Segment, segments_by, segments_of_text, value_in}
 use Rattle.segment_records.specs.Errors.{error_of, error_with, is_unknown, levels, segment_lines, versions}
 use Rattle.segment_records.specs.Heads.{heads_of, marks_of}
 use Rattle.error_ledger.specs.Order.{in_order}
@@ -41,18 +41,23 @@ tail_lines count (Some start) = error_with (count + 1) (untagged start) 0 0 kind
 abbrev pub advice_lines : Bool → List ErrorLine
 advice_lines sound = when (not sound) (error_with 0 (untagged 0) 0 0 kind.BadUna)
 
--- the errors of a text with these segments and this context
-abbrev pub errors_in : Directory → Context → List Segment → Option ℕ → List ErrorLine
-errors_in dir context segments tail =
+-- the first segment of a text, cut without repetitions
+abbrev pub first_segment : Octets → Option Segment
+first_segment text = slice_get (segments_by (service_of text) text) 0
+
+-- the errors of a text with these segments and this context, of which the first is this when it is cut without repetitions
+abbrev pub errors_in : Directory → Context → List Segment → Option Segment → Option ℕ → List ErrorLine
+errors_in dir context segments first tail =
     envelope_errors_of (heads_of dir segments) (marks_of segments)
     ++ advice_lines context.service.sound
     ++ tail_lines (length segments) tail
-    ++ syntax_lines (slice_get segments 0)
+    ++ syntax_lines first
     ++ flat_map (segment_lines dir context segments) (enumerate_from 0 segments)
 
 -- the errors of a text, as they are found
 unfoldable pub errors_found : Directory → Octets → List ErrorLine
-errors_found dir text = errors_in dir (context_of text) (segments_of_text text) (tail_of (service_of text) text)
+errors_found dir text =
+    errors_in dir (context_of text) (segments_of_text text) (first_segment text) (tail_of (service_of text) text)
 
 -- the errors of a text, in ascending order of segment, element, component, number of the kind, and node
 unfoldable pub errors_of : Directory → Octets → List ErrorLine

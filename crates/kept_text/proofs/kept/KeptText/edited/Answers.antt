@@ -3,7 +3,7 @@ use Rattle.dir_compile.specs.Directory.{IsDirectory}
 use Rattle.kept_text.specs.Edit.{Edit, edited}
 use Rattle.kept_text.specs.Reading.{Reading}
 use Rattle.kept_text.proofs.Bounded.{rerun_bounded}
-use Rattle.kept_text.proofs.Whole.{same_service}
+use Rattle.kept_text.proofs.Contexts.{same_service}
 use Rattle.kept_text.proofs.kept.KeptText.edited.Goals as goal
 
 pub returns-in_err-text-clause-bounded : goal.returns-in_err-text-clause-bounded

@@ -1,9 +1,10 @@
 //! How an interchange is opened: what its UNB tells, and what is wrong before the first segment, in the opening, and after the
 //! last segment.
-ghost use Rattle.std.specs.Prelude.{◌≡◌, ◌+◌, ◌++◌, ◌≤◌, [], length, map, unwrap_or, IfOk, OnOk, slice_get};
+ghost use Rattle.std.specs.Prelude.{◌≡◌, ◌+◌, ◌++◌, ◌≤◌, [], length, map, unwrap_or, IfOk, OnOk};
 ghost use Rattle.std.specs.List.{list_any};
 ghost use Rattle.std.specs.Option.{option_map};
 ghost use Rattle.std.specs.Str.{bytes_eq};
+ghost use Rattle.seg_lexer.specs.Context.{context_of};
 ghost use Rattle.seg_lexer.specs.Left.{components_left};
 ghost use Rattle.seg_lexer.specs.Service.{IsUsable, service_of};
 ghost use Rattle.seg_lexer.specs.Value.{octets_of};
@@ -13,9 +14,8 @@ ghost use Rattle.segment_records.specs.Look.{seen_of};
 ghost use Rattle.segment_records.specs.Openers.{interchange_party_in, opening_by};
 ghost use Rattle.segment_records.specs.Told.{components_seen};
 ghost use Rattle.seg_lexer.specs.Segments.{tail_of};
-ghost use Rattle.segment_records.specs.Segments.{segments_of_text};
 ghost use Rattle.segment_records.specs.Count.{segment_count_of};
-ghost use Rattle.text_reading.specs.Errors.{advice_lines, syntax_lines, tail_lines, untagged};
+ghost use Rattle.text_reading.specs.Errors.{advice_lines, first_segment, syntax_lines, tail_lines, untagged};
 ghost use Rattle.edi_octets.specs.declared.octets.TheConstants.{LONGEST_TEXT};
 
 use crate::parties::copy_party;
@@ -25,7 +25,7 @@ use edi_octets::Octets;
 use envelope_check::SegmentMark;
 use error_ledger::{ErrorLine, Kind};
 use kept_text::KeptText;
-use seg_lexer::{Context, Fields, Service, Value};
+use seg_lexer::{Context, Fields, Service, Value, read_service};
 use segment_records::{WalkedSegment, copy_value, error_with, is_named};
 use std::alloc::{AllocError, Global};
 use std::marker::Brand;
@@ -34,7 +34,7 @@ use std::sync::ledger::Blank;
 // The levels and the versions of the syntax.
 const LEVELS: [&[u8]; 6] = [b"UNOA", b"UNOB", b"UNOC", b"UNOD", b"UNOE", b"UNOF"];
 
-const VERSIONS: [&[u8]; 3] = [b"1", b"2", b"3"];
+const VERSIONS: [&[u8]; 4] = [b"1", b"2", b"3", b"4"];
 
 /// What a UNB tells: it is bad where it has a local error; else it gives the level and the version of the context, and the
 /// parties and the reference that are read from its text. Only want of memory is an error.
@@ -80,8 +80,8 @@ fn copy_routed<O: Octets>(
     copy_party(alloc, components, element, route)
 }
 
-/// Puts that a UNB names a level or a version of the syntax that there isn't. They are read from its text, by the service
-/// characters of the text. Only want of memory is an error.
+/// Puts that a UNB names a level or a version of the syntax that there isn't. They are read from its text, by these service
+/// characters. Only want of memory is an error.
 pub(crate) fn put_opening<O: Octets>(
     text: &O,
     service: &Service,
@@ -137,7 +137,7 @@ fn is_name<O: Octets>(value: &Value<'_, O>, name: &[u8]) -> bool
 // Puts that the service string advice can't be used.
 pub(crate) fn put_advice(kept: &KeptText<'_>, list: &mut Vec<ErrorLine>) -> Result<(), AllocError>
     ensures { OnOk result (list.new.items
-        ≡ list.old.items ++ advice_lines (service_of kept.now.text).sound) }
+        ≡ list.old.items ++ advice_lines (context_of kept.now.text).service.sound) }
 {
     if !kept.service().sound {
         list.push(error_with(0, untagged(0), 0, 0, Kind::BadUna))?;
@@ -171,14 +171,17 @@ pub(crate) fn put_tail(kept: &KeptText<'_>, list: &mut Vec<ErrorLine>) -> Result
     Ok(())
 }
 
-// Puts that the first segment, where it is UNB, names a level or a version of the syntax that there isn't.
+// Puts that the first segment, where it is UNB, names a level or a version of the syntax that there isn't. It is cut without
+// repetitions for that, by the service characters of the text itself.
 pub(crate) fn put_syntax(kept: &KeptText<'_>, list: &mut Vec<ErrorLine>) -> Result<(), AllocError>
     ensures { OnOk result (list.new.items
-        ≡ list.old.items ++ syntax_lines (slice_get (segments_of_text kept.now.text) 0)) }
+        ≡ list.old.items ++ syntax_lines (first_segment kept.now.text)) }
 {
     match kept.segments().next() {
         Some(first) if is_named(b"UNB", first.record.tag()) => {
-            put_opening(&kept.whole(), kept.service(), &first, list)
+            let text = kept.whole();
+            let service = read_service(&text);
+            put_opening(&text, &service, &first, list)
         }
         _ => Ok(()),
     }

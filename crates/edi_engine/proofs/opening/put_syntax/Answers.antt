@@ -4,6 +4,7 @@ use Rattle.edi_tables.specs.Rows.{has_name}
 use Rattle.std.specs.Prelude.{codes}
 use Rattle.segment_records.specs.Look.{seen_of}
 use Rattle.error_ledger.specs.declared.error.ErrorLine.{ErrorLine}
+use Rattle.seg_lexer.specs.Service.{service_of}
 use Rattle.seg_lexer.specs.declared.service.Service.{Service}
 use Rattle.segment_records.specs.Line.{opening_seen}
 use Rattle.text_reading.proofs.Bounds.{none_left, opening_is, syntax_none, syntax_past}
@@ -15,8 +16,8 @@ returns-in-Some c =
     let text = c.args.kept.now.text in
     let seen = seen_of c.in-Some.first in
     let named = ap (has_name (codes "UNB")) (sym c.tag.ensures) ∙ sym c.is_named.ensures ∙ c.if-is_named.true in
-    let lines = ap (λ (t : List ℕ). opening_seen c.service.result.now t seen) c.whole.ensures.text
-    ∙ ap (λ (s : Service). opening_seen s text seen) c.service.ensures.service
+    let lines = ap (λ (t : List ℕ). opening_seen c.read_service-service.result t seen) c.whole-text.ensures.text
+    ∙ ap (λ (s : Service). opening_seen s text seen) (c.read_service-service.ensures.service ∙ ap service_of c.whole-text.ensures.text)
     ∙ opening_is dir c.segments.ensures.lawful text seen c.next.new.self (sym c.segments.ensures.segments ∙ c.in-Some.ensures.steps) named in
     on_ok_weaker c.put_opening.result (λ put. put ∙ ap (λ (xs : List ErrorLine). c.args.list.now.items ++ xs) lines) c.put_opening.ensures
 

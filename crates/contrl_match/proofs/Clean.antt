@@ -1,6 +1,5 @@
 -- What a reply without errors has: no segment with a local error.
 use Rattle.std.proofs.Common.{◌≡◌, ℕ, ◌+◌, Bool, cond, List, [], ◌∷◌, ◌++◌, map, length, refl, sym, ap, ◌∙◌, inl, inr}
-use Rattle.std.specs.Prelude.{slice_get}
 use Rattle.std.specs.List.{enumerate_from, flat_map}
 use Rattle.std.proofs.lemmas.Bool.{cases_Bool}
 use Rattle.dir_compile.specs.Directory.{Directory}
@@ -15,7 +14,7 @@ use Rattle.error_ledger.specs.declared.error.ErrorLine.{ErrorLine}
 use Rattle.segment_records.specs.Errors.{local_line, segment_lines, structure_lines}
 use Rattle.segment_records.specs.Heads.{heads_of, marks_of}
 use Rattle.segment_records.specs.Segments.{Segment, segments_of_text}
-use Rattle.text_reading.specs.Errors.{advice_lines, errors_found, errors_of, syntax_lines, tail_lines}
+use Rattle.text_reading.specs.Errors.{advice_lines, errors_found, errors_of, first_segment, syntax_lines, tail_lines}
 use Rattle.text_reading.proofs.Each.{Each}
 
 -- nothing is put together of nothing
@@ -62,5 +61,5 @@ unfolding errors_of errors_found
 clean-local dir octets none =
     let context : Context = context_of octets in
     let ss : List Segment = segments_of_text octets in
-    let front : List ErrorLine = envelope_errors_of (heads_of dir ss) (marks_of ss) ++ advice_lines context.service.sound ++ tail_lines (length ss) (tail_of (service_of octets) octets) ++ syntax_lines (slice_get ss 0) in
+    let front : List ErrorLine = envelope_errors_of (heads_of dir ss) (marks_of ss) ++ advice_lines context.service.sound ++ tail_lines (length ss) (tail_of (service_of octets) octets) ++ syntax_lines (first_segment octets) in
     lines-none dir context ss 0 ss (after-none front (flat_map (segment_lines dir context ss) (enumerate_from 0 ss)) (ordered-none (errors_found dir octets) none))

@@ -1,5 +1,5 @@
 -- What maps of references have after each step, going from the last member of a list to the first.
-use Rattle.std.proofs.Common.{◌≡◌, ℕ, ◌+◌, ◌<◌, ◌&&◌, Bor, Bool, true, false, cond, Option, Some, None, List, [], ◌∷◌, length, drop, get_or, refl, sym, ap, ◌∙◌}
+use Rattle.std.proofs.Common.{◌≡◌, ℕ, ◌+◌, ◌<◌, ◌&&◌, Bor, Bool, true, false, cond, Option, Some, List, ◌∷◌, length, drop, get_or, refl, sym, ap, ◌∙◌}
 use Rattle.std.specs.Prelude.{find, nat_eq}
 use Rattle.std.specs.List.{enumerate_from}
 use Rattle.std.specs.Option.{option_eq, option_map}

@@ -8,7 +8,6 @@ use Rattle.edi_tables.specs.declared.tag.Tag.{Tag}
 use Rattle.error_ledger.specs.declared.error.ErrorLine.{ErrorLine}
 use Rattle.dir_compile.specs.Directory.{Directory, IsDirectory}
 use Rattle.seg_lexer.specs.Fields.{Component}
-use Rattle.contrl_segments.proofs.ReadLemmas.{written-read}
 use Rattle.contrl_segments.specs.Written as written
 use Rattle.contrl_segments.specs.Written.{contrl_text}
 use Rattle.contrl_segments.specs.declared.stamp.Stamp.{Stamp}
@@ -17,12 +16,11 @@ use Rattle.contrl_segments.specs.declared.summary.Opening.TheVariants.{BadUnb, G
 use Rattle.contrl_segments.specs.declared.summary.Summary.{Summary}
 use Rattle.contrl_writer.specs.Contrl.{answer_by, contrl_of}
 use Rattle.contrl_writer.specs.declared.answer.Contrl.TheVariants.{Octets as Answered}
-use Rattle.contrl_writer.proofs.TaggedLemmas.{all-written, no-advice}
 use Rattle.segment_records.specs.Segments.{Segment, segments_of_text, value_in}
 use Rattle.text_reading.specs.Errors.{errors_of}
 use Rattle.text_reading.specs.Summary.{contrl_to, groups_in, messages_in, summary_of}
-use Rattle.text_reading.proofs.Back.{AreRead, segments-back}
-use Rattle.text_reading.proofs.CleanLaws.{contrl_clean}
+use Rattle.text_reading.proofs.Back.{AreRead}
+use Rattle.text_reading.proofs.CleanLaws.{contrl_clean, contrl_read}
 use Rattle.text_reading.proofs.Reports.{tags_of}
 use Rattle.text_reading.proofs.Runs.{HaveTags}
 use Rattle.contrl_match.specs.LedBack.{IsLedBack}
@@ -105,7 +103,7 @@ module _ (dir : Directory) (directory : IsDirectory dir) (text octets : Octets) 
         let ws : List written.Segment = contrl_of summary stamp own in
         let same : contrl_text ws ≡ octets = cc in
         let read : AreRead segments ws =
-        subst (λ (o : Octets). AreRead (segments_of_text o) ws) same (segments-back ws (contrl_text ws) (written-read ws (all-written summary stamp own) (no-advice summary stamp own))) in
+        subst (λ (o : Octets). AreRead (segments_of_text o) ws) same (contrl_read dir text stamp own level version sender recipient reference is) in
         let begun = contrl-begins level version sender recipient reference summary stamp own is in
         let reply = begun-reply sender recipient reference segments ws begun read in
         let told = contrl-tells summary (summed dir text) groups messages whole level version sender recipient reference is stamp own in

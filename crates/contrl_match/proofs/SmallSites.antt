@@ -1,14 +1,12 @@
 -- In a reply without errors all places that S011 names are small.
-use Rattle.std.proofs.Common.{◌≡◌, ℕ, zero, suc, ◌+◌, ◌-◌, ◌<◌, Option, Some, None, List, [], ◌∷◌, refl, sym, ap, ◌∙◌, subst, arith}
+use Rattle.std.proofs.Common.{◌≡◌, ℕ, zero, suc, ◌-◌, ◌<◌, Option, Some, None, List, [], ◌∷◌, refl, sym, ap, ◌∙◌, subst, arith}
 use Rattle.std.specs.Prelude.{slice_get}
 use Rattle.std.specs.Option.{option_and_then, option_map}
 use Rattle.dir_compile.specs.Directory.{Directory}
 use Rattle.edi_tables.specs.Octets.{Octets}
 use Rattle.edi_tables.specs.declared.tag.Tag.{Tag}
-use Rattle.error_ledger.specs.declared.error.ErrorLine.{ErrorLine}
 use Rattle.contrl_segments.specs.declared.summary.Summary.{Summary}
 use Rattle.segment_records.specs.Segments.{Segment, segments_of_text, value_in}
-use Rattle.text_reading.specs.Errors.{errors_of}
 use Rattle.text_reading.specs.Summary.{summary_of}
 use Rattle.text_reading.proofs.Each.{Each}
 use Rattle.contrl_match.specs.Telling.{Site, Values, number_or_none}

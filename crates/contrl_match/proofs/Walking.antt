@@ -1,5 +1,5 @@
 -- The walk over the segments of an acknowledgement: what each is read as, and one further.
-use Rattle.std.proofs.Common.{◌≡◌, ℕ, ◌+◌, Bool, true, false, cond, Option, Some, None, Result, Ok, Err, List, [], ◌∷◌, ◌++◌, drop, is_some, length, refl, sym, ap, ◌∙◌, subst, arith}
+use Rattle.std.proofs.Common.{◌≡◌, ℕ, ◌+◌, Bool, true, false, cond, Option, Some, None, Result, Ok, Err, List, [], ◌++◌, drop, is_some, length, refl, sym, ap, ◌∙◌, subst, arith}
 use Rattle.std.specs.Prelude.{codes, find, slice_get, unwrap_or}
 use Rattle.std.specs.List.{zip}
 use Rattle.std.specs.Option.{option_map}
@@ -9,9 +9,9 @@ use Rattle.edi_octets.proofs.PlaceLemmas.{drop_here}
 use Rattle.edi_tables.specs.Octets.{Octets}
 use Rattle.edi_tables.specs.Rows.{has_name}
 use Rattle.edi_tables.specs.declared.tag.Tag.{Tag}
+use Rattle.seg_lexer.specs.Context.{context_of}
 use Rattle.seg_lexer.specs.Fields.{Component, components_at}
 use Rattle.seg_lexer.specs.Segments.{boundaries_of, ends_of, segment_in, segments_of}
-use Rattle.seg_lexer.specs.Service.{service_of}
 use Rattle.seg_lexer.specs.Stretch.{Stretch}
 use Rattle.seg_lexer.specs.Tag.{tag_of}
 use Rattle.seg_lexer.specs.declared.service.Service.{Service}
@@ -22,7 +22,7 @@ use Rattle.segment_records.proofs.Rests.{same_count}
 use Rattle.contrl_match.specs.Match.{found_by, uci_in}
 use Rattle.contrl_match.specs.Passes.{spot_after}
 use Rattle.contrl_match.specs.Spots.{Spot}
-use Rattle.contrl_match.specs.Telling.{all_told, first_lost, told_of, told_with}
+use Rattle.contrl_match.specs.Telling.{first_lost, told_of, told_with}
 use Rattle.contrl_match.specs.Walked.{AreSitesSmall, HasSmallSites, IsTold, spot_seen, told_seen}
 use Rattle.contrl_match.specs.declared.finding.Finding.{Finding}
 use Rattle.contrl_match.specs.declared.spot.Spot.{Spot as ReadSpot}
@@ -50,12 +50,12 @@ module _ (s : Service) (text : Octets) (k : ℕ) where
       let found = pair-of text p (slice_get pairs k) (sym (slice_get-map (segment_in text) pairs k) ∙ is) in
       (found.0, (slice_get-map (segment_between s text) pairs k ∙ ap (option_map (segment_between s text)) found.1.0, found.1.1))
 
-  same-segments : s ≡ service_of text → segments_by s text ≡ segments_of_text text
+  same-segments : s ≡ (context_of text).service → segments_by s text ≡ segments_of_text text
   unfolding segments_of_text
   same-segments is = ap (λ (r : Service). segments_by r text) is
 
   -- the segment that the lexer finds is one of the text, and is read so
-  pub segment-as : (start end : ℕ) (tag : Option Tag) (components : List Component) → s ≡ service_of text
+  pub segment-as : (start end : ℕ) (tag : Option Tag) (components : List Component) → s ≡ (context_of text).service
       → slice_get (segments_of s text) k ≡ Some (record { from = start; to = end })
       → option_map (λ t. t.octets) tag ≡ tag_of (components_at s text start end) → components ≡ components_at s text start end
       → (x : Segment) × IsReadAs (segments_of_text text) k tag components x
@@ -72,7 +72,7 @@ module _ (s : Service) (text : Octets) (k : ℕ) where
       )
 
   -- after the last segment none is left
-  pub none-left : s ≡ service_of text → length (segments_of s text) ≡ k → drop k (segments_of_text text) ≡ []
+  pub none-left : s ≡ (context_of text).service → length (segments_of s text) ≡ k → drop k (segments_of_text text) ≡ []
   none-left service few =
       drop_all k (segments_of_text text)
       (let count : length (segments_of_text text) ≡ k = ap length (sym (same-segments service)) ∙ (sym (same_count s text) ∙ few) in omega arith)

@@ -16,7 +16,6 @@ use Rattle.contrl_segments.specs.declared.summary.Party.{Party}
 use Rattle.contrl_segments.specs.declared.summary.Summary.{Summary}
 use Rattle.segment_records.specs.Segments.{Segment}
 use Rattle.contrl_match.specs.Reported.{reported}
-use Rattle.contrl_match.specs.Spots.{group_before, message_before, segment_before}
 use Rattle.contrl_match.specs.Telling.{all_told, first_lost, told_of}
 use Rattle.contrl_match.specs.declared.finding.Finding.{Finding}
 use Rattle.contrl_match.specs.declared.finding.Where.{Where}

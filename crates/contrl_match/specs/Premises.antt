@@ -1,7 +1,6 @@
 -- When an acknowledgement tells all that it may tell, and names each group and message apart from the others.
-use Rattle.std.specs.Prelude.{ℕ, ◌≡◌, ◌+◌, ◌≤◌, IsTrue, List, [], ◌∷◌, Option, Some, None, All, length, slice_get}
+use Rattle.std.specs.Prelude.{ℕ, ◌≡◌, ◌+◌, ◌≤◌, IsTrue, List, [], ◌∷◌, Some, None, All, length, slice_get}
 use Rattle.std.specs.List.{enumerate_from, flat_map}
-use Rattle.error_ledger.specs.declared.error.ErrorLine.{ErrorLine}
 use Rattle.contrl_writer.specs.declared.level.Levelled.{Levelled}
 use Rattle.contrl_segments.specs.Details.{is_near}
 use Rattle.contrl_segments.specs.declared.summary.GroupHead.{GroupHead}

@@ -1,12 +1,11 @@
 -- What the segments of an acknowledgement find in the text that it answers.
-use Rattle.std.specs.Prelude.{ℕ, ◌+◌, ◌-◌, not, List, [], ◌∷◌, Option, Some, None, find, is_some, map, unwrap_or, codes, if◌then◌else◌}
+use Rattle.std.specs.Prelude.{ℕ, ◌+◌, ◌-◌, not, List, [], ◌∷◌, Option, Some, find, is_some, map, unwrap_or, codes, if◌then◌else◌}
 use Rattle.std.specs.List.{enumerate_from, flat_map}
 use Rattle.std.specs.Option.{option_and_then, option_map}
 use Rattle.edi_tables.specs.Octets.{Octets}
 use Rattle.edi_tables.specs.Rows.{has_name}
 use Rattle.edi_tables.specs.declared.tag.Tag.{Tag}
 use Rattle.contrl_segments.specs.Written.{is_empty_value}
-use Rattle.contrl_segments.specs.declared.summary.MessageHead.{MessageHead}
 use Rattle.contrl_segments.specs.declared.summary.Summary.{Summary}
 use Rattle.segment_records.specs.Segments.{Segment, value_in}
 use Rattle.contrl_match.specs.Spots.{Spot, group_named, message_named, number_named, segment_placed, spot_at}

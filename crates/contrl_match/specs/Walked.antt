@@ -1,7 +1,6 @@
 -- For bodies: what is seen of the steps of a walk over an acknowledgement, and what each step answers.
 use Rattle.std.specs.Prelude.{ℕ, ◌≡◌, ◌<◌, ◌==◌, true, not, List, [], ◌∷◌, Option, Some, None, Result, Err, codes, slice_get, if◌then◌else◌}
 use Rattle.std.specs.Option.{ForSome, option_and_then, option_map}
-use Rattle.edi_tables.specs.Octets.{Octets}
 use Rattle.edi_tables.specs.Rows.{has_name}
 use Rattle.edi_tables.specs.declared.tag.Tag.{Tag}
 use Rattle.edi_octets.specs.declared.octets.Octets.{Ghosts}
@@ -11,9 +10,8 @@ use Rattle.seg_lexer.specs.declared.components.Fields.{Fields}
 use Rattle.contrl_segments.specs.declared.summary.Summary.{Summary}
 use Rattle.segment_records.specs.Segments.{Segment, value_in}
 use Rattle.contrl_match.specs.Match.{found_by, is_answer, uci_in}
-use Rattle.contrl_match.specs.Passes.{spot_after}
 use Rattle.contrl_match.specs.Spots.{Spot, group_named, message_named, segment_placed}
-use Rattle.contrl_match.specs.Telling.{Site, Values, answer_told, detail_told, first_lost, position_told, site_in, told_of, told_with}
+use Rattle.contrl_match.specs.Telling.{Site, Values, answer_told, detail_told, first_lost, position_told, site_in, told_of}
 use Rattle.contrl_match.specs.declared.finding.Finding.{Finding}
 use Rattle.contrl_match.specs.declared.finding.Where.TheVariants as level
 use Rattle.contrl_match.specs.declared.spot.Spot.{Spot as ReadSpot}

@@ -12,7 +12,7 @@ use crate::stop::MatchStop;
 use contrl_segments::{MessageHead, Opening, Party, Summary};
 use dir_compile::Directory;
 use edi_octets::Flat;
-use seg_lexer::{Fields, Lexed, fields, next_segment, read_service, read_tag};
+use seg_lexer::{Fields, Lexed, fields, next_segment, read_context, read_tag};
 use segment_records::is_named;
 use std::sync::ledger::{Blank, Ledger};
 use step_counter::Steps;
@@ -94,7 +94,8 @@ fn find_uci<'t, L: Ledger>(text: &'t Flat<'t>, blank: Blank) -> Option<Fields<'t
     ensures { components_seen result ≡ uci_in (segments_of_text text.now.octets.now) }
 {
     let mut lexed = Steps::<L>::start(blank);
-    let service = read_service(text);
+    let context = read_context(text, &mut lexed);
+    let service = context.service;
     let mut from = service.body;
     loop {
         match next_segment(text, &service, from, &mut lexed) {

@@ -13,7 +13,7 @@ use crate::spot::Spot;
 use crate::stop::MatchStop;
 use crate::told::{Told, tell};
 use edi_octets::Flat;
-use seg_lexer::{Lexed, fields, next_segment, read_service, read_tag};
+use seg_lexer::{Lexed, fields, next_segment, read_context, read_tag};
 use std::alloc::{AllocError, Global};
 use std::sync::ledger::{Blank, Ledger};
 use step_counter::Steps;
@@ -39,7 +39,8 @@ pub(crate) fn tell_all<L: Ledger>(
         (λ stop. (stop ≡ Memory) ⊎ (found_by told (first_lost told) ≡ Err stop)) }
 {
     let mut lexed = Steps::<L>::start(blank);
-    let service = read_service(text);
+    let context = read_context(text, &mut lexed);
+    let service = context.service;
     let mut found = Vec::new(alloc);
     let mut spot = Spot {
         group: None,

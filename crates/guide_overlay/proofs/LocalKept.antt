@@ -1,14 +1,15 @@
 -- A segment without a local error by a stricter directory has none by its base: at each place, a rule of a kind that is
 -- broken by the base is broken by the stricter directory.
-use Rattle.std.proofs.Common.{◌≡◌, ℕ, zero, suc, ◌-◌, Bool, true, false, not, List, [], ◌∷◌, ◌&&◌, ◌||◌, Option, Some, None, length, map, refl, sym, ap, subst, ◌∙◌, arith}
+use Rattle.std.proofs.Common.{◌≡◌, ℕ, zero, suc, ◌-◌, ◌≤◌, Bool, true, false, not, List, [], ◌∷◌, ◌&&◌, ◌||◌, Option, Some, None, drop, length, map, inl, inr, refl, sym, ap, subst, ◌∙◌, arith}
 use Rattle.std.specs.Prelude.{All, max, slice_get, unwrap_or, if◌then◌else◌, codes}
-use Rattle.std.specs.List.{AllZip, flat_map, list_any, range_with_len}
+use Rattle.std.specs.List.{AllZip, flat_map, list_all, list_any, range_with_len}
 use Rattle.std.specs.Option.{option_map}
 use Rattle.std.specs.Str.{bytes_eq}
-use Rattle.std.proofs.lemmas.Bool.{false≢true, true≢false, and_parts, and_from, not-true, or_parts}
+use Rattle.std.proofs.lemmas.Bool.{cases_Bool, false≢true, true≢false, and_parts, and_from, not-true, or_left, or_parts, or_right}
 use Rattle.std.proofs.lemmas.List.Elements.{All-contains}
 use Rattle.std.proofs.lemmas.List.Folds.{list_any_none}
 use Rattle.edi_tables.proofs.Faults.{nil-append}
+use Rattle.edi_tables.specs.Forms.{reps_of}
 use Rattle.edi_tables.specs.Octets.{Octets}
 use Rattle.edi_tables.specs.declared.element.CodeList.{CodeList}
 use Rattle.edi_tables.specs.declared.element.CompositeDef.{CompositeDef}
@@ -20,12 +21,12 @@ use Rattle.edi_tables.specs.declared.segment.SegmentDef.{SegmentDef}
 use Rattle.dir_compile.specs.declared.parts.Parts.{Parts}
 use Rattle.dir_compile.specs.Compile.{composite_name, named_in, segment_name}
 use Rattle.error_ledger.specs.declared.kind.Kind.{Kind}
-use Rattle.error_ledger.specs.declared.kind.Kind.TheVariants.{Code, Missing, TooManyComponents, TooManyElements}
+use Rattle.error_ledger.specs.declared.kind.Kind.TheVariants.{Code, Missing, TooManyComponents, TooManyElements, TooManyRepetitions}
 use Rattle.seg_lexer.specs.Fields.{Component}
 use Rattle.seg_lexer.specs.Tag.{tag_of}
 use Rattle.seg_lexer.specs.declared.context.Context.{Context}
 use Rattle.service_tables.specs.ServiceTables.{service_items_of}
-use Rattle.element_check.specs.Local.{component_errors_at, element_errors, element_kinds, elements_errors, error_at, errors_by, errors_tagged, errors_whole, has_octet, is_broken_at, is_broken_part, is_broken_whole, is_failed, is_list_named, last_component, last_written, list_in, local_errors_of, names_list, parts_in, value_at, values_in}
+use Rattle.element_check.specs.Local.{component_count, component_errors_at, element_errors, element_kinds, elements_errors, error_at, errors_by, errors_tagged, errors_whole, has_octet, is_broken_at, is_broken_part, is_broken_whole, is_component_broken, is_element_broken, is_failed, is_list_named, is_repeated_too_often, is_used, last_component, last_written, list_in, local_errors_of, names_list, parts_in, repetitions_of, value_at}
 use Rattle.element_check.specs.Rules.{SegmentRules, defined_rules, list_of, parts_of, rules_of, service_rules}
 use Rattle.element_check.specs.Value.{fails, is_unlisted}
 use Rattle.guide_overlay.specs.Stricter.{BothOr, IsStricter, IsStricterComposite, IsStricterItem, IsStricterList, IsStricterPart, IsStricterSegment}
@@ -45,6 +46,36 @@ module _ {A : Type 0} (R : A → A → Type 0) where
   along_length [] (y ∷ ys) along = absurd along
   along_length (x ∷ xs) [] along = absurd along
   along_length (x ∷ xs) (y ∷ ys) along = ap suc (along_length xs ys along.1)
+
+-- where some pass a test, some pass one that is passed more often
+any_kept : {A : Type 0} (p q : A → Bool) → ((x : A) → p x ≡ true → q x ≡ true) → (xs : List A)
+    → list_any p xs ≡ true → list_any q xs ≡ true
+any_kept p q each [] some = some
+any_kept p q each (x ∷ xs) some = elim (cases_Bool (p x)) [
+  | inl passes ↦ or_left (q x) (list_any q xs) (each x passes)
+  | inr fails ↦
+      let rest : list_any p xs ≡ true = ap (λ b. b || list_any p xs) (sym fails) ∙ some in
+      or_right (q x) (list_any q xs) (any_kept p q each xs rest)
+]
+
+-- and where all do
+all_kept : {A : Type 0} (p q : A → Bool) → ((x : A) → p x ≡ true → q x ≡ true) → (xs : List A)
+    → list_all p xs ≡ true → list_all q xs ≡ true
+all_kept p q each [] all = all
+all_kept p q each (x ∷ xs) all =
+    let both = and_parts (p x) (list_all p xs) all in
+    and_from (q x) (list_all q xs) (each x both.0) (all_kept p q each xs both.1)
+
+-- where some of the later ones pass, some do of more
+more_kept : {A : Type 0} (p : A → Bool) (few most : ℕ) → few ≤ most → (xs : List A)
+    → list_any p (drop most xs) ≡ true → list_any p (drop few xs) ≡ true
+more_kept p zero zero less xs some = some
+more_kept p (suc few) zero less xs some = absurd (omega arith)
+more_kept p zero (suc most) less [] some = some
+more_kept p (suc few) (suc most) less [] some = some
+more_kept p zero (suc most) less (x ∷ xs) some =
+    or_right (p x) (list_any p xs) (more_kept p zero most (omega arith) xs some)
+more_kept p (suc few) (suc most) less (x ∷ xs) some = more_kept p few most (omega arith) xs some
 
 -- a value that isn't in the base's list isn't in a stricter one
 passed_by : (p : Octets → Bool) (xs : List Octets) → list_any p xs ≡ false → All (λ x. p x ≡ false) xs
@@ -124,8 +155,8 @@ module _ (base rules : SegmentRules) (stricter : AreStricterRules base rules) wh
       failed_kept x y item.0 (list_of base x.code.octets) (list_of rules y.code.octets) (list_kept x y item.0)
       (value_at values 1) kind broken
   item_kept (Composite one must most) (Composite two status reps) item values Missing broken =
-      let both = and_parts must (not (list_any has_octet values)) broken in
-      and_from status (not (list_any has_octet values)) (item.1 both.0) both.1
+      let both = and_parts must (not (is_used values)) broken in
+      and_from status (not (is_used values)) (item.1 both.0) both.1
   item_kept (Composite one must most) (Composite two status reps) item values _ broken = broken
 
   whole_kept : (x y : Option ItemDef) → BothOr IsStricterItem x y → (values : List Octets) (kind : Kind)
@@ -166,10 +197,10 @@ module _ (base rules : SegmentRules) (stricter : AreStricterRules base rules) wh
   component_kept (Composite one must most) (Composite two status reps) item values (Some p) (Some q) both value TooManyElements broken = broken
   component_kept (Composite one must most) (Composite two status reps) item values (Some p) (Some q) both value TooManyComponents broken = broken
   component_kept (Composite one must most) (Composite two status reps) item values (Some p) (Some q) both value Missing broken =
-      let parts = and_parts (list_any has_octet values && p.must) (not (has_octet value)) broken in
-      let front = and_parts (list_any has_octet values) p.must parts.0 in
-      and_from (list_any has_octet values && q.must) (not (has_octet value))
-      (and_from (list_any has_octet values) q.must front.0 (both.must front.1)) parts.1
+      let parts = and_parts (is_used values && p.must) (not (has_octet value)) broken in
+      let front = and_parts (is_used values) p.must parts.0 in
+      and_from (is_used values && q.must) (not (has_octet value))
+      (and_from (is_used values) q.must front.0 (both.must front.1)) parts.1
   component_kept (Composite one must most) (Composite two status reps) item values (Some p) (Some q) both value kind broken =
       failed_kept p q both (list_in base (parts_of base one.octets) values p)
       (list_in rules (parts_of rules two.octets) values q)
@@ -186,36 +217,75 @@ module _ (base rules : SegmentRules) (stricter : AreStricterRules base rules) wh
       (along_at IsStricterPart (parts_in base x) (parts_in rules y) (in_kept x y both) (component - 1))
       (value_at values component) kind broken
 
+  -- a repetition that is too many by the base is too many
+  most_kept : (x y : ItemDef) → IsStricterItem x y → reps_of y ≤ reps_of x
+  most_kept (Alone x most) (Alone y reps) item = item.1
+  most_kept (Alone x most) (Composite code must reps) item = absurd item
+  most_kept (Composite code must reps) (Alone y most) item = absurd item
+  most_kept (Composite one must most) (Composite two status reps) item = item.2
+
+  often_kept : (x y : Option ItemDef) → BothOr IsStricterItem x y → (repetitions : List (List Octets))
+      → is_repeated_too_often x repetitions ≡ true → is_repeated_too_often y repetitions ≡ true
+  often_kept None None both repetitions broken = broken
+  often_kept None (Some y) both repetitions broken = absurd both
+  often_kept (Some x) None both repetitions broken = absurd both
+  often_kept (Some x) (Some y) both repetitions broken =
+      more_kept is_used (reps_of y) (reps_of x) (most_kept x y both) repetitions broken
+
+  -- over the repetitions of an element
+  repeated_kept : (x y : Option ItemDef) → BothOr IsStricterItem x y → (repetitions : List (List Octets)) (kind : Kind)
+      → is_element_broken base x repetitions kind ≡ true → is_element_broken rules y repetitions kind ≡ true
+  repeated_kept x y both repetitions Missing broken =
+      all_kept (λ values. is_broken_whole base x values Missing) (λ values. is_broken_whole rules y values Missing)
+      (λ values. whole_kept x y both values Missing) repetitions broken
+  repeated_kept x y both repetitions TooManyRepetitions broken = often_kept x y both repetitions broken
+  repeated_kept x y both repetitions kind broken =
+      any_kept (λ values. is_broken_whole base x values kind) (λ values. is_broken_whole rules y values kind)
+      (λ values. whole_kept x y both values kind) repetitions broken
+
+  places_kept : (x y : Option ItemDef) → BothOr IsStricterItem x y → (repetitions : List (List Octets)) (component : ℕ) (kind : Kind)
+      → is_component_broken base x repetitions component kind ≡ true → is_component_broken rules y repetitions component kind ≡ true
+  places_kept x y both repetitions component kind broken =
+      any_kept (λ values. is_broken_at base x values component kind) (λ values. is_broken_at rules y values component kind)
+      (λ values. at_kept x y both values component kind) repetitions broken
+
   -- there are as many components
-  last_same : (x y : Option ItemDef) → BothOr IsStricterItem x y → (values : List Octets)
-      → last_component rules y values ≡ last_component base x values
-  last_same None None both values = refl
-  last_same None (Some y) both values = absurd both
-  last_same (Some x) None both values = absurd both
-  last_same (Some x) (Some y) both values =
+  count_same : (x y : Option ItemDef) → BothOr IsStricterItem x y → (values : List Octets)
+      → component_count rules y values ≡ component_count base x values
+  count_same None None both values = refl
+  count_same None (Some y) both values = absurd both
+  count_same (Some x) None both values = absurd both
+  count_same (Some x) (Some y) both values =
       ap (λ (n : ℕ). max n (length values))
       (along_length IsStricterPart (parts_in base x) (parts_in rules y) (in_kept x y both))
 
+  last_same : (x y : Option ItemDef) → BothOr IsStricterItem x y → (repetitions : List (List Octets))
+      → last_component rules y repetitions ≡ last_component base x repetitions
+  last_same x y both [] = refl
+  last_same x y both (values ∷ more) =
+      ap (λ (n : ℕ). max n (last_component rules y more)) (count_same x y both values)
+      ∙ ap (λ (n : ℕ). max (component_count base x values) n) (last_same x y both more)
+
   -- an element without an error
-  element_kept : (x y : Option ItemDef) → BothOr IsStricterItem x y → (values : List Octets) (element : ℕ)
-      → element_errors rules y values element ≡ [] → element_errors base x values element ≡ []
+  element_kept : (x y : Option ItemDef) → BothOr IsStricterItem x y → (repetitions : List (List Octets)) (element : ℕ)
+      → element_errors rules y repetitions element ≡ [] → element_errors base x repetitions element ≡ []
   unfolding element_errors
-  element_kept x y both values element none =
-      let parts = nil-append (errors_whole rules y values element)
-      (flat_map (component_errors_at rules y values element) (range_with_len 1 (last_component rules y values))) none in
-      let whole : errors_whole base x values element ≡ [] =
+  element_kept x y both repetitions element none =
+      let parts = nil-append (errors_whole rules y repetitions element)
+      (flat_map (component_errors_at rules y repetitions element) (range_with_len 1 (last_component rules y repetitions))) none in
+      let whole : errors_whole base x repetitions element ≡ [] =
       ap (map (error_at element 0))
-      (passing_emptied (is_broken_whole base x values) (is_broken_whole rules y values) element_kinds
-      (whole_kept x y both values) (none_mapped (error_at element 0) _ parts.0)) in
-      none_joined (errors_whole base x values element)
-      (flat_map (component_errors_at base x values element) (range_with_len 1 (last_component base x values))) whole
-      (pieces_emptied (component_errors_at rules y values element) (component_errors_at base x values element)
-      (range_with_len 1 (last_component base x values))
+      (passing_emptied (is_element_broken base x repetitions) (is_element_broken rules y repetitions) element_kinds
+      (repeated_kept x y both repetitions) (none_mapped (error_at element 0) _ parts.0)) in
+      none_joined (errors_whole base x repetitions element)
+      (flat_map (component_errors_at base x repetitions element) (range_with_len 1 (last_component base x repetitions))) whole
+      (pieces_emptied (component_errors_at rules y repetitions element) (component_errors_at base x repetitions element)
+      (range_with_len 1 (last_component base x repetitions))
       (λ component free. ap (map (error_at element component))
-      (passing_emptied (is_broken_at base x values component) (is_broken_at rules y values component) element_kinds
-      (at_kept x y both values component) (none_mapped (error_at element component) _ free)))
-      (subst (λ (n : ℕ). flat_map (component_errors_at rules y values element) (range_with_len 1 n) ≡ [])
-      (last_same x y both values) parts.1))
+      (passing_emptied (is_component_broken base x repetitions component) (is_component_broken rules y repetitions component) element_kinds
+      (places_kept x y both repetitions component) (none_mapped (error_at element component) _ free)))
+      (subst (λ (n : ℕ). flat_map (component_errors_at rules y repetitions element) (range_with_len 1 n) ≡ [])
+      (last_same x y both repetitions) parts.1))
 
   -- a segment without an error
   elements_kept : (components : List Component) → elements_errors rules components ≡ []
@@ -224,13 +294,13 @@ module _ (base rules : SegmentRules) (stricter : AreStricterRules base rules) wh
   elements_kept components none =
       let last : ℕ → ℕ = λ n. max n (last_written components) in
       pieces_emptied
-      (λ element. element_errors rules (slice_get rules.items (element - 1)) (values_in components element) element)
-      (λ element. element_errors base (slice_get base.items (element - 1)) (values_in components element) element)
+      (λ element. element_errors rules (slice_get rules.items (element - 1)) (repetitions_of components element) element)
+      (λ element. element_errors base (slice_get base.items (element - 1)) (repetitions_of components element) element)
       (range_with_len 1 (last (length base.items)))
       (λ element free. element_kept (slice_get base.items (element - 1)) (slice_get rules.items (element - 1))
-      (along_at IsStricterItem base.items rules.items stricter.items (element - 1)) (values_in components element) element free)
+      (along_at IsStricterItem base.items rules.items stricter.items (element - 1)) (repetitions_of components element) element free)
       (subst (λ (n : ℕ). flat_map (λ element. element_errors rules (slice_get rules.items (element - 1))
-      (values_in components element) element) (range_with_len 1 (last n)) ≡ [])
+      (repetitions_of components element) element) (range_with_len 1 (last n)) ≡ [])
       (along_length IsStricterItem base.items rules.items stricter.items) none)
 
 -- the parts of a composite

@@ -1,7 +1,7 @@
 -- A text without an error by a narrowed directory has none by its base, where the base's tables that it uses list no
 -- collision.
 use Rattle.std.proofs.Common.{◌≡◌, ℕ, zero, suc, ◌+◌, ◌<◌, Bool, false, List, [], ◌∷◌, ◌++◌, Option, None, length, map, get_or, inl, inr, refl, sym, ap, ◌∙◌, arith}
-use Rattle.std.specs.Prelude.{is_some, slice_get}
+use Rattle.std.specs.Prelude.{is_some}
 use Rattle.std.specs.List.{enumerate_from, filter_map, flat_map}
 use Rattle.std.specs.Option.{option_map}
 use Rattle.std.proofs.lemmas.Bool.{cases_Bool}
@@ -23,7 +23,7 @@ use Rattle.segment_records.specs.Messages.{position_at, structure_errors_at}
 use Rattle.segment_records.specs.Segments.{Segment, segments_of_text}
 use Rattle.segment_records.specs.Errors.{fault_line, local_line, local_lines, nodes_in, segment_lines, structure_lines}
 use Rattle.segment_records.specs.Heads.{count_in, heads_of, marks_of, name_in, reference_in}
-use Rattle.text_reading.specs.Errors.{advice_lines, errors_found, errors_of, syntax_lines, tail_lines}
+use Rattle.text_reading.specs.Errors.{advice_lines, errors_found, errors_of, first_segment, syntax_lines, tail_lines}
 use Rattle.guide_overlay.specs.Narrowed.{HasNoCollision, IsNarrowed}
 use Rattle.guide_overlay.proofs.Emptied.{none_joined, none_mapped, pieces_emptied}
 use Rattle.guide_overlay.proofs.FaultsFree.{faults_free, tables_same}
@@ -147,7 +147,7 @@ module _ (base dir : Parts) (it : IsNarrowed base dir) where
     found_kept free none =
         let advice : List ErrorLine = advice_lines context.service.sound in
         let tail : List ErrorLine = tail_lines (length segments) (tail_of (service_of text) text) in
-        let syntax : List ErrorLine = syntax_lines (slice_get segments 0) in
+        let syntax : List ErrorLine = syntax_lines (first_segment text) in
         let each = five_apart (envelope_errors_of (heads_of dir segments) (marks_of segments)) advice tail syntax
         (flat_map (segment_lines dir context segments) (enumerate_from 0 segments)) free in
         five_joined (envelope_errors_of (heads_of base segments) (marks_of segments)) advice tail syntax

@@ -8,7 +8,7 @@ use Rattle.edi_octets.proofs.PlaceLemmas.{drop_here}
 use Rattle.seg_lexer.specs.Stretch.{Stretch}
 use Rattle.seg_lexer.specs.declared.service.Service.{Service}
 use Rattle.seg_lexer.specs.Segments.{segments_of, tail_of}
-use Rattle.seg_lexer.specs.Service.{service_of}
+use Rattle.seg_lexer.specs.Context.{context_of}
 use Rattle.listing_printer.specs.declared.text.Detail.{Detail}
 use Rattle.edi_octets.specs.Decimal.{count_line}
 use Rattle.listing_printer.specs.Printing.{printed_text, segments_from, segment_lines, tail_line}
@@ -32,7 +32,7 @@ tail_within service text start is =
     subst (λ (x : ℕ). x < length text) found.1 (ltb-true _ _ found.0)
 
 -- the count and the lines are the printed form
-pub printed_is : (detail : Detail) (text lines : List ℕ) (n : ℕ) → n ≡ length (segments_of (service_of text) text) → lines ≡ segments_from detail (service_of text) text 1 (segments_of (service_of text) text) ++ tail_line text (tail_of (service_of text) text) → count_line (codes "segments") n ++ lines ≡ printed_text detail text
+pub printed_is : (detail : Detail) (text lines : List ℕ) (n : ℕ) → n ≡ length (segments_of (context_of text).service text) → lines ≡ segments_from detail (context_of text).service text 1 (segments_of (context_of text).service text) ++ tail_line text (tail_of (context_of text).service text) → count_line (codes "segments") n ++ lines ≡ printed_text detail text
 unfolding printed_text
 printed_is detail text lines n n_is lines_is =
-    rw (n_is, lines_is) (sym (append_assoc (count_line (codes "segments") (length (segments_of (service_of text) text))) (segments_from detail (service_of text) text 1 (segments_of (service_of text) text)) (tail_line text (tail_of (service_of text) text))))
+    rw (n_is, lines_is) (sym (append_assoc (count_line (codes "segments") (length (segments_of (context_of text).service text))) (segments_from detail (context_of text).service text 1 (segments_of (context_of text).service text)) (tail_line text (tail_of (context_of text).service text))))

@@ -54,6 +54,12 @@ unfolding value_lines
 values-later es e later before after all is so_far next =
     rw next (append_assoc before (component_line e) (flat_map component_line later) ∙ (ap (λ (es : List Component). before ++ flat_map component_line es) (sym is) ∙ so_far))
 
+-- the line of a value was put, piece after piece
+pub value_put : (gap space end element repetition component value before l1 l2 l3 l4 l5 : List ℕ) → l1 ≡ before ++ gap → l2 ≡ l1 ++ element ++ repetition ++ space ++ component → l3 ≡ l2 ++ space → l4 ≡ l3 ++ value → l5 ≡ l4 ++ end
+    → l5 ≡ before ++ (gap ++ element ++ repetition ++ space ++ component ++ space ++ value ++ end)
+value_put gap space end element repetition component value before l1 l2 l3 l4 l5 p1 p2 p3 p4 p5 =
+    p5 ∙ rw (p4, p3, p2, p1) (simp append_assoc)
+
 -- no component is left
 pub values-over : (es : List Component) (before all : List ℕ) → es ≡ [] → before ++ value_lines es ≡ all → before ≡ all
 unfolding value_lines

@@ -6,7 +6,7 @@ use Rattle.edi_tables.specs.Filled.{is_filled}
 use Rattle.edi_octets.specs.Decimal.{count_line}
 use Rattle.edi_octets.specs.Shown.{octet_shown}
 use Rattle.seg_lexer.specs.declared.service.Service.{Service}
-use Rattle.seg_lexer.specs.Service.{service_of}
+use Rattle.seg_lexer.specs.Context.{context_of}
 use Rattle.seg_lexer.specs.Segments.{segments_of, tail_of}
 use Rattle.seg_lexer.specs.Fields.{Component, components_of, separators_of}
 use Rattle.seg_lexer.specs.Stretch.{Stretch, octets_in}
@@ -19,10 +19,14 @@ abbrev pub tag_shown : Option Octets → Octets
 tag_shown None = codes "---"
 tag_shown (Some tag) = tag
 
--- the line of a component: two spaces, its element, its number and its value
+-- a repetition after the first is told by its number, after a star
+abbrev pub repetition_shown : ℕ → Octets
+repetition_shown repetition = if repetition == 1 then [] else codes "*" ++ decimal repetition
+
+-- the line of a component: two spaces, its element and repetition, its number and its value
 unfoldable pub value_line : Component → Octets
 value_line e =
-    codes "  " ++ decimal e.element ++ codes " " ++ decimal e.component ++ codes " "
+    codes "  " ++ decimal e.element ++ repetition_shown e.repetition ++ codes " " ++ decimal e.component ++ codes " "
     ++ flat_map octet_shown e.octets ++ 10 ∷ []
 
 -- components that are printed: those that aren't empty, the tag field left out
@@ -73,7 +77,7 @@ tail_line text (Some start) = codes "tail " ++ decimal start ++ codes " " ++ dec
 -- the printed form of a text: how many segments it has, each of them, and its tail
 unfoldable pub printed_text : Detail → Octets → Octets
 printed_text detail text =
-    let service = service_of text in
+    let service = (context_of text).service in
     count_line (codes "segments") (length (segments_of service text))
     ++ segments_from detail service text 1 (segments_of service text)
     ++ tail_line text (tail_of service text)

@@ -1,8 +1,9 @@
 //! The printed forms of a text.
 ghost use Rattle.std.specs.Prelude.{◌≡◌, ◌+◌, ◌++◌, ◌<◌, ◌≤◌, codes, length, IfOk, OnOk};
 ghost use Rattle.edi_octets.specs.Decimal.{count_line};
+ghost use Rattle.seg_lexer.specs.Context.{context_of};
 ghost use Rattle.seg_lexer.specs.Segments.{segments_of, tail_of};
-ghost use Rattle.seg_lexer.specs.Service.{IsUsable, service_of};
+ghost use Rattle.seg_lexer.specs.Service.{IsUsable};
 ghost use Rattle.listing_printer.specs.Printing.{printed_text, segments_from, segment_lines, tail_line};
 ghost use Rattle.edi_octets.specs.declared.octets.TheConstants.{LONGEST_TEXT};
 
@@ -10,7 +11,7 @@ use crate::segment_line::{put_places, put_tag};
 use crate::value_lines::put_tag_and_values;
 use edi_octets::{Flat, put_count, put_decimal};
 use edi_tables::Chunk;
-use seg_lexer::{Lexed, Service, fields, next_segment, read_service, read_tag};
+use seg_lexer::{Lexed, Service, fields, next_segment, read_context, read_tag};
 use std::alloc::{AllocError, Global};
 use std::marker::Brand;
 use std::sync::ledger::{Blank, Ledger};
@@ -64,13 +65,13 @@ fn list_segments<L: Ledger>(
     requires parts { blank.parts ≡ L.parts }
     requires some { 0 < blank.parts }
     ensures count { let octets = text.now.octets.now in
-        IfOk result (λ l. l.0 ≡ length (segments_of (service_of octets) octets)) }
-    ensures lines { let octets = text.now.octets.now in let service = service_of octets in
+        IfOk result (λ l. l.0 ≡ length (segments_of (context_of octets).service octets)) }
+    ensures lines { let octets = text.now.octets.now in let service = (context_of octets).service in
         IfOk result (λ l. l.1 ≡ segments_from detail service octets 1 (segments_of service octets)
         ++ tail_line octets (tail_of service octets)) }
 {
     let mut lexed = Steps::<L>::start(blank);
-    let service = read_service(text);
+    let service = read_context(text, &mut lexed).service;
     let mut lines = Chunk::empty(alloc);
     let mut count: u64 = 0;
     let mut from = service.body;

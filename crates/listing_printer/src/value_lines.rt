@@ -1,12 +1,12 @@
 //! The printed lines of values.
-ghost use Rattle.std.specs.Prelude.{◌≡◌, ◌++◌, ◌<◌, OnOk};
+ghost use Rattle.std.specs.Prelude.{◌≡◌, ◌++◌, ◌<◌, codes, decimal, OnOk};
 ghost use Rattle.std.specs.List.{flat_map};
 ghost use Rattle.seg_lexer.specs.Fields.{unplaced};
 ghost use Rattle.seg_lexer.specs.Left.{components_left, placed_in};
 ghost use Rattle.seg_lexer.specs.Tag.{tag_of};
 ghost use Rattle.seg_lexer.specs.Value.{octets_of};
 ghost use Rattle.edi_octets.specs.Shown.{octet_shown};
-ghost use Rattle.listing_printer.specs.Printing.{component_line, tag_end, value_line, value_lines};
+ghost use Rattle.listing_printer.specs.Printing.{component_line, repetition_shown, tag_end, value_line, value_lines};
 
 use crate::segment_line::put_tag;
 use edi_octets::{Octets, put_decimal, put_shown};
@@ -52,12 +52,33 @@ fn put_value<O: Octets>(lines: &mut Chunk, component: &Component<'_, O>) -> Resu
         ≡ lines.old ++ value_line (unplaced (placed_in component.now))) }
 {
     lines.add(b"  ")?;
-    put_decimal(lines, u64::from(component.element))?;
-    lines.add(b" ")?;
-    put_decimal(lines, u64::from(component.component))?;
+    put_numbers(lines, component)?;
     lines.add(b" ")?;
     put_octets(lines, &component.value)?;
     lines.add(b"\n")
+}
+
+// The element of a component, its repetition, if that isn't the first, and its own number.
+fn put_numbers<O: Octets>(lines: &mut Chunk, component: &Component<'_, O>) -> Result<(), AllocError>
+    ensures { let c = component.now in
+        OnOk result (lines.new ≡ lines.old ++ decimal c.element
+        ++ repetition_shown c.repetition ++ codes " " ++ decimal c.component) }
+{
+    put_decimal(lines, u64::from(component.element))?;
+    put_repetition(lines, component.repetition)?;
+    lines.add(b" ")?;
+    put_decimal(lines, u64::from(component.component))
+}
+
+// The number of a repetition after the first, after a star.
+fn put_repetition(lines: &mut Chunk, repetition: u32) -> Result<(), AllocError>
+    ensures { OnOk result (lines.new ≡ lines.old ++ repetition_shown repetition) }
+{
+    if repetition == 1 {
+        return Ok(());
+    }
+    lines.add(b"*")?;
+    put_decimal(lines, u64::from(repetition))
 }
 
 // The octets of a value, as they are shown.

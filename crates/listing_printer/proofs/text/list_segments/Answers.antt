@@ -1,11 +1,12 @@
-use Rattle.std.proofs.Common.{refl, arith}
+use Rattle.std.proofs.Common.{refl, ap, arith}
+use Rattle.seg_lexer.specs.declared.context.Context.{Context}
 use Rattle.seg_lexer.specs.Segments.{boundaries_of}
 use Rattle.listing_printer.proofs.LinesLemmas.{lines_next, tail_within}
 use Rattle.listing_printer.proofs.text.list_segments.Goals as goal
 
 pub loop-start-init : goal.loop-start-init
 unfolding boundaries_of
-loop-start-init g c = record { service = c.read_service-service.ensures.service; usable = c.read_service-service.ensures.usable; boundary = refl; few = omega arith; lines = rw c.empty-lines.ensures refl }
+loop-start-init g c = record { service = ap (λ (context : Context). context.service) c.read_context.ensures.context; usable = c.read_context.ensures.usable; boundary = refl; few = omega arith; lines = rw c.empty-lines.ensures refl }
 
 pub loop-start-preserved : goal.loop-start-preserved
 loop-start-preserved g c =

@@ -78,7 +78,7 @@ const OPENINGS: [(u8, u8, Level, u8); 7] = [
     (b'B', b'2', Level::B, 2),
     (b'C', b'3', Level::C, 3),
     (b'D', b'0', Level::D, 3),
-    (b'E', b'4', Level::E, 3),
+    (b'E', b'4', Level::E, 4),
     (b'F', b'x', Level::F, 3),
     (b'G', b'1', Level::B, 1),
 ];
@@ -91,6 +91,26 @@ fn levels_and_versions(rt: HostRuntime) -> Result<(), Fail> {
         text[9] = digit;
         let context = context_in(&text).ok_or("too long")?;
         assert_eq!(rt; (context.level, context.version), (level, version));
+    }
+    Ok(())
+}
+
+/// Texts, what separates repetitions in each, and whether its service string advice is sound.
+#[rattlefmt::skip]
+const SEPARATORS: [(&[u8], Option<u8>, bool); 6] = [
+    (b"UNB+UNOA:4'", Some(b'*'), true),
+    (b"UNA:+.?~'UNB+UNOA:4'", Some(b'~'), true),
+    (b"UNA:+.? 'UNB+UNOA:4'", None, true),
+    (b"UNA:+.?:'UNB+UNOA:4'", None, false),
+    (b"UNA::.?~'UNB+UNOA:4'", Some(b'*'), false),
+    (b"UNA:+.?:'UNB+UNOA:3'", None, true),
+];
+
+#[test]
+fn what_separates_repetitions(rt: HostRuntime) -> Result<(), Fail> {
+    for (octets, repetition, sound) in SEPARATORS {
+        let service = context_in(octets).ok_or("too long")?.service;
+        assert_eq!(rt; (service.repetition, service.sound), (repetition, sound));
     }
     Ok(())
 }

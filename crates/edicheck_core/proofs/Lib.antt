@@ -6,3 +6,4 @@ mod OpeningLemmas
 mod ScriptLemmas
 mod StepLemmas
 pub mod SteadyLemmas
+mod WordLemmas

@@ -1,6 +1,7 @@
 //! Which word keeps the words from being a command, and what is expected in its place: a hint for people.
-ghost use Rattle.std.specs.Prelude.{◌≡◌, ◌+◌, ◌≤◌, length, IfSome};
+ghost use Rattle.std.specs.Prelude.{◌≡◌, ◌↔◌, ◌+◌, ◌≤◌, length, IfSome, IsNone, IsSome};
 ghost use Rattle.std.specs.Option.{option_map};
+ghost use Rattle.edicheck_core.specs.Form.{form_of};
 ghost use Rattle.edicheck_core.specs.WrongWord.{expected_after, is_expected, wrong_from, wrong_word_of};
 
 use crate::words::{MOST_EDITS, MOST_MESSAGES, MOST_NUMBER, read_number};
@@ -44,9 +45,10 @@ pub struct WrongWord {
     pub is_missing: bool,
 }
 
-/// The first word that keeps these words from being a command; `None` if they are one.
+/// The first word that keeps these words from being a command; `None` exactly if they are one.
 pub fn find_wrong_word(words: &[Chunk]) -> Option<WrongWord>
-    ensures { result ≡ wrong_word_of words.now }
+    ensures first { result ≡ wrong_word_of words.now }
+    ensures none { IsNone result ↔ IsSome (form_of words.now) }
 {
     match words {
         [] => Some(WrongWord {

@@ -128,6 +128,7 @@ def acknowledgement_of(reading, stamp, reference):
                             *details(errors))]
     message += [] if errors else reports(reading)[:SEGMENT_LIMIT]
     message.append(segment_text(b"UNT", [number(len(message) + 1)], [b"1"]))
-    opening = segment_text(b"UNB", [reading.context.level, reading.context.version], recipient, sender,
-                           stamp, [reference])
+    # A text of version 4 is answered in version 3.
+    version = b"3" if reading.context.version == b"4" else reading.context.version
+    opening = segment_text(b"UNB", [reading.context.level, version], recipient, sender, stamp, [reference])
     return b"".join([opening] + message + [segment_text(b"UNZ", [b"1"], [reference])]), None

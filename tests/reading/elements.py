@@ -22,7 +22,8 @@ def representation_of(text):
 def marks_of(service_characters):
     """The decimal marks: stop, comma and that of the advice, except octets with another use in a number or a text."""
     characters = service_characters
-    others = [characters.component, characters.element, characters.release, characters.terminator, HYPHEN]
+    others = [characters.component, characters.element, characters.repetition, characters.release,
+              characters.terminator, HYPHEN]
     return [c for c in (ord("."), ord(","), characters.mark) if c not in others and c not in DIGITS]
 
 
@@ -62,21 +63,16 @@ def value_errors(value, representation, codes, context):
 
 
 def stand_alone_errors(item, values, codes, context):
-    """The errors of an element without parts, by component; component 0 is the element as a whole."""
-    first = values[0] if values else b""
+    """The errors of a repetition without parts, by component; component 0 is the element as a whole."""
     found = [(component, "too-many-components")
              for component, value in enumerate(values, 1) if component > 1 and value]
-    if first:
-        found += [(0, kind) for kind in value_errors(first, item.representation, codes, context)]
-    elif item.mandatory:
-        found.append((0, "missing"))
+    if values[0]:
+        found += [(0, kind) for kind in value_errors(values[0], item.representation, codes, context)]
     return found
 
 
-def composite_errors(item, parts, values, list_of, context):
-    """The errors of a composite, by component. What it has past its parts counts as filled too."""
-    if not any(values):
-        return [(0, "missing")] if item.mandatory else []
+def composite_errors(parts, values, list_of, context):
+    """The errors of a used repetition of a composite, by component."""
     found = [(component, "too-many-components")
              for component, value in enumerate(values, 1) if component > len(parts) and value]
     filled = [(part, values[place] if place < len(values) else b"") for place, part in enumerate(parts)]
@@ -91,30 +87,51 @@ def composite_errors(item, parts, values, list_of, context):
     return found
 
 
+def is_used(values):
+    """Whether a repetition has a component that isn't empty, a surplus one too."""
+    return any(values)
+
+
+def errors_over_repetitions(item, repetitions):
+    """The errors that an element has by all of its repetitions together."""
+    found = []
+    if any(is_used(values) for values in repetitions[item.repetitions:]):
+        found.append((0, "too-many-repetitions"))
+    is_filled = any(values[0] if item.representation else is_used(values) for values in repetitions)
+    if item.mandatory and not is_filled:
+        found.append((0, "missing"))
+    return found
+
+
 def local_errors_of(directory, context, octets):
-    """The errors of a segment by itself: element, component and kind, in no order yet."""
+    """The errors of a segment by itself: a set of element, component and kind, each of which is told once."""
     tag = tag_of(octets, context.service)
     if tag is None:
-        return [(0, 0, "bad-tag")]
+        return {(0, 0, "bad-tag")}
     in_service = tag in service.SERVICE_SEGMENTS
     if not in_service and tag not in directory.segments:
-        return [(0, 0, "unknown-segment")]
+        return {(0, 0, "unknown-segment")}
     items = service.SERVICE_SEGMENTS[tag] if in_service else directory.segments[tag]
-    composites = service.SERVICE_COMPOSITES if in_service else directory.composites
+    composites = service.composites_of(context.version) if in_service else directory.composites
     elements = elements_of(octets, context.service)
 
     def list_of(code):
         return None if in_service else directory.lists.get(code)
 
-    found = [(element, 0, "too-many-elements")
-             for element, values in enumerate(elements) if element > len(items) and any(values)]
-    for element, item in enumerate(items, 1):
-        values = elements[element] if element < len(elements) else []
+    def repetition_errors(item, values):
         if item.representation:
-            errors = stand_alone_errors(item, values, list_of(item.code), context)
-        else:
-            errors = composite_errors(item, composites[item.code], values, list_of, context)
-        found += [(element, component, kind) for component, kind in errors]
+            return stand_alone_errors(item, values, list_of(item.code), context)
+        return composite_errors(composites[item.code], values, list_of, context) if is_used(values) else []
+
+    found = {(element, 0, "too-many-elements") for element, repetitions in enumerate(elements)
+             if element > len(items) and any(is_used(values) for values in repetitions)}
+    for element, item in enumerate(items, 1):
+        # An element that isn't written is one empty repetition.
+        repetitions = elements[element] if element < len(elements) else [[b""]]
+        errors = errors_over_repetitions(item, repetitions)
+        for values in repetitions:
+            errors += repetition_errors(item, values)
+        found |= {(element, component, kind) for component, kind in errors}
     return found
 
 

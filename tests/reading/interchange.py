@@ -39,6 +39,7 @@ decimal 19
 too-long 39
 too-short 40
 code 12
+too-many-repetitions 35
 """.strip().split("\n")]
 NUMBER_OF = {word: number for number, (word, _code) in enumerate(KINDS, 1)}
 CODE_OF = {word: code for word, code in KINDS}
@@ -85,7 +86,7 @@ class Reading:
         self.directory = directory
         self.text = text
         self.context = context_of(text)
-        self.service = service_of(text)
+        self.service = self.context.service
         self.segments = segments_of(text)
         self.elements = [elements_of(segment.octets, self.service) for segment in self.segments]
         self.tags = [tag_of(segment.octets, self.service) for segment in self.segments]
@@ -143,8 +144,9 @@ class Reading:
         if self.end is None:
             found.append(self.error(0, "no-unz"))
         if self.begins_with_unb():
-            found += [self.error(1, kind, element, component)
-                      for element, component, kind in syntax_errors_of(self.elements[0])]
+            # The level and version are read without repetitions.
+            first = elements_of(self.segments[0].octets, service_of(self.text))
+            found += [self.error(1, kind, element, component) for element, component, kind in syntax_errors_of(first)]
         found += [self.error(k, "second-unb") for k in self.with_tag(b"UNB") if k > 1 and not self.is_after_end(k)]
         found += [self.error(k, "after-end") for k in range(1, len(self.tags) + 1) if self.is_after_end(k)]
         found += [self.error(k, "outside") for k in range(1, len(self.tags) + 1) if self.is_outside(k)]

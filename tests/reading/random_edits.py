@@ -1,5 +1,6 @@
-"""Random edits of a text, aimed at what a reading by segments can get wrong: the service string advice, line ends in front of
-segments, release characters, the text's end, terminators, many segments at once, and the segments that open and close extents."""
+"""Random edits of a text, aimed at what a reading by segments can get wrong: the service string advice, the version of the
+syntax, line ends in front of segments, release characters, the text's end, terminators, many segments at once, and the
+segments that open and close extents."""
 from .random_texts import edit
 
 OPEN_OR_CLOSE = [b"UNH", b"UNT", b"UNG", b"UNE", b"UNB", b"UNZ"]
@@ -7,8 +8,8 @@ OPEN_OR_CLOSE = [b"UNH", b"UNT", b"UNG", b"UNE", b"UNB", b"UNZ"]
 
 def aimed_edit(rng, octets):
     """A place, how many octets are cut there, and what is put."""
-    aim = rng.choice([edit, edit, in_the_advice, at_line_ends, at_a_release, at_the_end, at_a_terminator, over_segments,
-                      at_an_extent, of_one_octet])
+    aim = rng.choice([edit, edit, in_the_advice, in_the_version, at_line_ends, at_a_release, at_the_end, at_a_terminator,
+                      over_segments, at_an_extent, of_one_octet])
     return aim(rng, octets)
 
 
@@ -32,11 +33,19 @@ def in_the_advice(rng, octets):
     """An advice put in front, one taken away, or an octet in its place changed."""
     roll = rng.random()
     if roll < 0.3:
-        return 0, 0, rng.choice([b"UNA:+.? '", b"UNA:+.? '\n", b"UNA;+.? '", b"UNA:+.* '", b"UNA:+.? ~", b"UNA"])
+        return 0, 0, rng.choice([b"UNA:+.? '", b"UNA:+.? '\n", b"UNA;+.? '", b"UNA:+.* '", b"UNA:+.? ~",
+                                 b"UNA:+.?*'", b"UNA:+*? '", b"UNA:+.?:'", b"UNA"])
     if roll < 0.5:
         return 0, min(9, len(octets)), b""
     at = min(rng.randint(0, 9), len(octets))
-    return at, min(rng.choice([0, 1, 1]), len(octets) - at), rng.choice([b"", b"'", b"?", b" ", b"+", b":", b"\n", b"~"])
+    return at, min(rng.choice([0, 1, 1]), len(octets) - at), rng.choice([b"", b"'", b"?", b" ", b"+", b":", b"\n", b"~",
+                                                                                  b"*"])
+
+
+def in_the_version(rng, octets):
+    """The version of the syntax, or the octet before or after it, in place of another."""
+    at = min(some_place(rng, octets[:60], b"UNO") + rng.choice([5, 5, 5, 4, 6]), len(octets))
+    return at, min(1, len(octets) - at), rng.choice([b"3", b"4", b"4", b"5", b"*", b":", b"4*"])
 
 
 def at_line_ends(rng, octets):

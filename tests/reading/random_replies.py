@@ -8,9 +8,9 @@ REFERENCES = [b"1", b"2", b"3", b"01", b"G1", b"G2", b"R1", b"X"]
 
 
 def elements_in(octets):
-    """The elements of each segment of a reply."""
+    """The elements of each segment of a reply, which has no repetitions."""
     service = service_of(octets)
-    return [elements_of(segment.octets, service) for segment in segments_of(octets)]
+    return [[repetitions[0] for repetitions in elements_of(segment.octets, service)] for segment in segments_of(octets)]
 
 
 def put(elements, number, values):

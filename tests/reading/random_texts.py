@@ -1,19 +1,28 @@
-"""Random texts: interchanges of messages that a directory has, with mistakes, and edits of them."""
+"""Random texts: interchanges of messages that a directory has, with mistakes, and edits of them.
+
+A segment is a list of elements, an element a list of values. Where NEXT is among them the next repetition begins.
+"""
 from . import service, tables
 from .random_directories import value_for
 from .text import LEVELS, VERSIONS
 
 ODD_OCTETS = b"'+:?. \r\n\x00\x1c\x1d\x7f\x80\xa0\xff,-*a7ZU~"
 DEFAULT = b":+.? '"
+WITH_STARS = b":+.?*'"
+NEXT = None
+DATE, DATE_OF_VERSION_4 = b"960105", b"19960105"
 
 
 def characters(rng):
     """The six octets of an advice, most of which can be used."""
     if rng.random() < 0.6:
-        return DEFAULT
+        return rng.choice([DEFAULT, WITH_STARS])
     octets = rng.sample(b":+.?*'|~^;!,-#/\x1c\x1d\x1e\x1f\xfe", 6)
-    if rng.random() < 0.2:
-        octets[3] = ord(" ")
+    for place in (3, 4):
+        if rng.random() < 0.2:
+            octets[place] = ord(" ")
+    if rng.random() < 0.1:
+        octets[2] = octets[4]
     if rng.random() < 0.2:
         octets[2] = rng.choice(b".,E- \r5" + bytes(octets))
     if rng.slips(0.1):
@@ -23,18 +32,29 @@ def characters(rng):
 
 def spelled(value, service_characters):
     """A value with a release character before each service character in it."""
-    component, element, _mark, release, _reserved, terminator = service_characters
+    component, element, _mark, release, repetition, terminator = service_characters
     if release == ord(" "):
         return value
-    return b"".join(bytes([release, c]) if c in (component, element, release, terminator) else bytes([c])
-                    for c in value)
+    others = (component, element, release, terminator) + (() if repetition == ord(" ") else (repetition,))
+    return b"".join(bytes([release, c]) if c in others else bytes([c]) for c in value)
 
 
 def segment_octets(elements, service_characters):
     """A segment of elements, each a list of values, by these service characters."""
-    component, element, terminator = service_characters[0:1], service_characters[1:2], service_characters[5:6]
-    return element.join(component.join(spelled(value, service_characters) for value in values)
-                        for values in elements) + terminator
+    element, terminator = service_characters[1:2], service_characters[5:6]
+    return element.join(element_octets(values, service_characters) for values in elements) + terminator
+
+
+def element_octets(values, service_characters):
+    """An element of values, the repetitions of which are separated as in version 4."""
+    component, repetition = service_characters[0:1], service_characters[4:5]
+    repetitions = [[]]
+    for value in values:
+        if value is NEXT:
+            repetitions.append([])
+        else:
+            repetitions[-1].append(spelled(value, service_characters))
+    return (b"*" if repetition == b" " else repetition).join(component.join(parts) for parts in repetitions)
 
 
 def element_values(rng, directory, item):
@@ -66,6 +86,30 @@ def segment_of(rng, directory, tag):
     while elements and not any(elements[-1]) and rng.random() < 0.9:
         elements.pop()
     return [[tag]] + elements + (rng.choice([[[b"1"]], [[b""], [b"A", b"B"]]]) if rng.slips(0.08) else [])
+
+
+def as_in_version_4(rng, directory, segments):
+    """The segments with dates of eight digits, and with more repetitions of few elements."""
+    dated = [[[DATE_OF_VERSION_4 if value == DATE and not rng.slips(0.1) else value for value in values]
+              for values in elements] for elements in segments]
+    return [with_repetitions(rng, directory, elements) for elements in dated]
+
+
+def with_repetitions(rng, directory, elements):
+    """The segment with more repetitions of few elements: few more than the directory has, and some that are empty."""
+    tag = elements[0][0]
+    items = service.SERVICE_SEGMENTS.get(tag) or directory.segments.get(tag) or []
+    chance = 0.02 if tag in service.SERVICE_SEGMENTS else 0.3
+    repeated = list(elements)
+    for place, (item, values) in enumerate(zip(items, elements[1:]), 1):
+        if rng.random() < chance or rng.slips(0.02):
+            for _ in range(min(rng.choice([1, 1, 2, item.repetitions - 1, item.repetitions + rng.slips(0.3)]), 6)):
+                again = rng.choice([values, [b""], [b"", b""]] + 3 * [element_values(rng, directory, item)])
+                repeated[place] = repeated[place] + [NEXT] + again
+    if rng.slips(0.03):
+        place = rng.randrange(len(repeated))
+        repeated[place] = rng.choice([[NEXT, *repeated[place]], repeated[place] + [NEXT], [b"", NEXT, b"", b"A"]])
+    return repeated
 
 
 def message_tags(rng, table):
@@ -114,7 +158,7 @@ def group(rng, directory, reference):
     """A functional group of few messages."""
     messages = [message(rng, directory, b"%d" % (k + 1)) for k in range(rng.choice([0, 1, 1, 1, 2, 3]))]
     kind = messages[0][0][2][0] if messages else b"TSTORD"
-    head = [[b"UNG"], [wrong(rng, kind)], [b"BUYER", b"14"], [b"SELLER"], [b"960105", b"0930"], [reference], [b"UN"],
+    head = [[b"UNG"], [wrong(rng, kind)], [b"BUYER", b"14"], [b"SELLER"], [DATE, b"0930"], [reference], [b"UN"],
             [b"D", b"96A"]]
     tail = [[b"UNE"], [wrong(rng, b"%d" % len(messages))], [wrong(rng, reference)]]
     return [head] + [part for found in messages for part in found] + ([] if rng.slips(0.15) else [tail])
@@ -123,8 +167,8 @@ def group(rng, directory, reference):
 def interchange(rng, directory):
     """The segments of an interchange."""
     level = rng.choice([b"UNOX", b"unoa", b""]) if rng.slips(0.1) else rng.choice(LEVELS)
-    head = [[b"UNB"], [level, b"4" if rng.slips(0.1) else rng.choice(VERSIONS)], [b"BUYER", b"14"],
-            [wrong(rng, b"SELL+ER:"), b"14", b"ROUTE'?"], [b"960105", b"0930"],
+    head = [[b"UNB"], [level, rng.choice([b"5", b"40"]) if rng.slips(0.1) else rng.choice(VERSIONS + (b"3", b"4", b"4"))],
+            [b"BUYER", b"14"], [wrong(rng, rng.choice([b"SELL+ER:", b"SELL*ER"])), b"14", b"ROUTE'?"], [DATE, b"0930"],
             [wrong(rng, rng.choice([b"R1", b"R?1"]))]]
     head += rng.choice([[], [], [[b""], [b"APP"], [b"A"], [b"1"]], [[b"REF", b"AA"], [b""], [b""], [b"5"]]])
     make = rng.choice([message, group])
@@ -162,11 +206,14 @@ def shuffled(rng, segments):
 
 def text(rng, directory):
     """The octets of a text, now and then broken in few places."""
-    segments = shuffled(rng, interchange(rng, directory))
+    segments = interchange(rng, directory)
+    if segments[0][1][1] == b"4" or rng.random() < 0.05:
+        segments = as_in_version_4(rng, directory, segments)
+    segments = shuffled(rng, segments)
     used = characters(rng)
     between = rng.choice([b"", b"", b"", b"\r\n", b"\n"])
     octets = b"".join(segment_octets(segment, used) + between for segment in segments)
-    if used != DEFAULT or rng.random() < 0.1:
+    if used not in (DEFAULT, WITH_STARS) or rng.random() < 0.1:
         octets = b"UNA" + used + between + octets
     for _ in range(rng.choice([1, 1, 2, 5]) if rng.slips(0.5) else 0):
         at, cut, put = edit(rng, octets)

@@ -97,7 +97,18 @@ def rows_in(table):
     return rows
 
 
+# In version 4 a date has eight digits.
+DATE_OF_VERSION_4 = """
+S004 0017 n8 M, 0019 n4 M
+"""
+
 SERVICE_COMPOSITES = definitions_in(COMPOSITES, Part)
+COMPOSITES_OF_VERSION_4 = {**SERVICE_COMPOSITES, **definitions_in(DATE_OF_VERSION_4, Part)}
 SERVICE_SEGMENTS = definitions_in(SEGMENTS, Item)
 CONTRL_ROWS = rows_in(CONTRL)
 CONTRL_NAME = (b"CONTRL", b"D", b"3", b"UN")
+
+
+def composites_of(version):
+    """The composites of the service segments by a version of the syntax."""
+    return COMPOSITES_OF_VERSION_4 if version == b"4" else SERVICE_COMPOSITES

@@ -1,6 +1,6 @@
 """How a text is read: its service characters, segments, values and context.
 
-Octets are numbered from 0; segments, elements and components from 1.
+Octets are numbered from 0; segments, elements, repetitions and components from 1.
 """
 from typing import NamedTuple, Optional
 
@@ -13,7 +13,7 @@ TEXT_LIMIT = 4194304
 
 
 class Service(NamedTuple):
-    """The service characters of a text, where its body begins, and whether its advice is acceptable."""
+    """The service characters of a text, where its body begins, and whether its advice is sound."""
     component: int
     element: int
     mark: int
@@ -21,6 +21,7 @@ class Service(NamedTuple):
     terminator: int
     body: int
     sound: bool
+    repetition: Optional[int] = None
 
 
 class Segment(NamedTuple):
@@ -39,7 +40,7 @@ class Context(NamedTuple):
 
 
 LEVELS = (b"UNOA", b"UNOB", b"UNOC", b"UNOD", b"UNOE", b"UNOF")
-VERSIONS = (b"1", b"2", b"3")
+VERSIONS = (b"1", b"2", b"3", b"4")
 
 
 def default_service(body, sound):
@@ -58,7 +59,7 @@ def is_acceptable(advice):
 
 
 def service_of(text):
-    """The service characters that a text gives in its first nine octets, or the default ones."""
+    """The service characters that a text gives in its first nine octets, or the default ones: none for repetitions."""
     if not text.startswith(b"UNA"):
         return default_service(0, True)
     # The advice is outside the body, whether it can be used or not.
@@ -123,9 +124,19 @@ def value_of(octets, service):
 
 
 def elements_of(octets, service):
-    """The values of a segment's components, a list for each element. Element 0 is the tag field."""
-    return [[value_of(component, service) for component in parts_between(element, service.component, service)]
-            for element in parts_between(octets, service.element, service)]
+    """A segment's elements: of each its repetitions, of each of these the values of its components.
+
+    Element 0 is the tag field. It is one repetition, as every element is where no octet separates repetitions.
+    """
+    tag_field, *further = parts_between(octets, service.element, service)
+    return [[values_of(tag_field, service)]] + [
+        [values_of(repetition, service) for repetition in parts_between(element, service.repetition, service)]
+        for element in further]
+
+
+def values_of(octets, service):
+    """The values of the components of a repetition."""
+    return [value_of(component, service) for component in parts_between(octets, service.component, service)]
 
 
 def is_tag(octets):
@@ -135,26 +146,45 @@ def is_tag(octets):
 
 def tag_of(octets, service):
     """The tag field's first value, if it is a tag and all further components of the field are empty."""
-    first, *further = elements_of(octets, service)[0]
+    first, *further = elements_of(octets, service)[0][0]
     return first if is_tag(first) and not any(further) else None
 
 
 def value_at(elements, element, component=1):
-    """The value at an element and a component; what isn't written is empty."""
-    if element >= len(elements) or component > len(elements[element]):
+    """The value at an element and a component, in the first repetition; what isn't written is empty."""
+    if element >= len(elements) or component > len(elements[element][0]):
         return b""
-    return elements[element][component - 1]
+    return elements[element][0][component - 1]
 
 
 def context_of(text):
-    """The service characters, and the level and version of the first segment, if that is UNB."""
+    """The service characters, and the level and version of the first segment, if that is UNB.
+
+    That segment is cut without repetitions for its level and version.
+    """
     service = service_of(text)
     segments = segments_of(text)
     level, version = b"", b""
     if segments and tag_of(segments[0].octets, service) == b"UNB":
         elements = elements_of(segments[0].octets, service)
         level, version = value_at(elements, 1, 1), value_at(elements, 1, 2)
+    if version == b"4":
+        service = with_repetitions(text, service)
     return Context(service, level if level in LEVELS else b"UNOB", version if version in VERSIONS else b"3")
+
+
+def with_repetitions(text, service):
+    """The service characters of a text of version 4: octet 7 of an acceptable advice, or a star, separates repetitions.
+
+    A space there means that nothing does. So does an octet that has another use, but then the advice isn't sound.
+    """
+    octet = text[7] if text.startswith(b"UNA") and service.sound else ord("*")
+    if octet == SPACE:
+        return service
+    others = (service.component, service.element, service.release, service.terminator)
+    if octet in others or octet in LETTERS or octet in DIGITS or octet in LINE_ENDS:
+        return service._replace(sound=False)
+    return service._replace(repetition=octet)
 
 
 def printed_tag(tag):
@@ -168,7 +198,7 @@ def printed_value(value):
 
 def print_segments(text, with_values):
     """What the commands segments and values print of a text."""
-    service = service_of(text)
+    service = context_of(text).service
     segments = segments_of(text)
     lines = ["segments %d" % len(segments)]
     for segment in segments:
@@ -183,7 +213,8 @@ def print_segments(text, with_values):
 
 
 def value_lines(elements):
-    """A line for each component that isn't empty, except those of the tag field."""
-    return ["  %d %d %s" % (element, component, printed_value(value))
-            for element, values in enumerate(elements) if element > 0
+    """A line for each component that isn't empty, except those of the tag field. The first repetition has no number."""
+    return ["  %d%s %d %s" % (element, "" if repetition == 1 else "*%d" % repetition, component, printed_value(value))
+            for element, repetitions in enumerate(elements) if element > 0
+            for repetition, values in enumerate(repetitions, 1)
             for component, value in enumerate(values, 1) if value]

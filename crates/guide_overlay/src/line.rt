@@ -109,7 +109,8 @@ fn read_three<'a>(word: &[u8], number: &[u8], cell: &[u8]) -> Option<LineRead<'a
 
 // The line of four cells: a node that is kept, or an item.
 fn read_four<'a>(word: &[u8], number: &[u8], status: &[u8], most: &[u8]) -> Option<LineRead<'a>>
-    ensures line { option_map line_seen result ≡ line_of_four word.now number.now status.now most.now }
+    ensures line { option_map line_seen result
+        ≡ line_of_four word.now number.now status.now most.now }
     ensures named { IfSome result (λ line. is_line_named (line_seen line) ≡ true) }
 {
     if word == b"node".as_slice() {

@@ -27,7 +27,8 @@ use std::alloc::{AllocError, Global};
 /// this one that the text uses list no collision.
 pub fn narrow(alloc: Global, dir: &Directory, file: &[u8]) -> Result<Directory, GuideStop>
     requires { length file.now ≤ LONGEST_TEXT }
-    ensures narrowed { IsVerdict (λ narrower. narrower) fault_in result (narrow_of dir.now file.now) }
+    ensures narrowed { IsVerdict (λ narrower. narrower) fault_in result
+        (narrow_of dir.now file.now) }
     ensures sound { IfOk result (λ narrower. (text : Octets) → errors_of narrower text ≡ []
         → HasNoCollision dir.now text → errors_of dir.now text ≡ []) }
 {

@@ -45,7 +45,8 @@ advice_lines sound = when (not sound) (error_with 0 (untagged 0) 0 0 kind.BadUna
 abbrev pub first_segment : Octets → Option Segment
 first_segment text = slice_get (segments_by (service_of text) text) 0
 
--- the errors of a text with these segments and this context, of which the first is this when it is cut without repetitions
+-- the errors of a text with these segments and this context, whose first segment is this one when it is cut without
+-- repetitions
 abbrev pub errors_in : Directory → Context → List Segment → Option Segment → Option ℕ → List ErrorLine
 errors_in dir context segments first tail =
     envelope_errors_of (heads_of dir segments) (marks_of segments)

@@ -70,8 +70,14 @@ impl Measured for Piece {
 
     ghost measure = { λ piece. length piece };
 
+    ghost marks = { λ _. 0 };
+
     #[tactic(auto, using(crate::proofs::Ranges::range_len))]
     fn weight(&self) -> u32 {
         self.to - self.from
+    }
+
+    fn marks(&self) -> u32 {
+        0
     }
 }

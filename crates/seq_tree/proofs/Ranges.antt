@@ -1,5 +1,5 @@
-use Rattle.std.proofs.Common.{◌≡◌, ℕ, ◌+◌, ◌-◌, ◌≤◌, List, ◌++◌, length, take, drop, sum_by, sym, ap, ◌∙◌, take-take, drop-drop, arith}
-use Rattle.std.specs.Prelude.{slice_range}
+use Rattle.std.proofs.Common.{◌≡◌, ℕ, ◌+◌, ◌-◌, ◌≤◌, suc, List, [], ◌∷◌, ◌++◌, length, take, drop, sum_by, refl, sym, ap, ◌∙◌, take-take, drop-drop, arith}
+use Rattle.std.specs.Prelude.{slice_range, slice_get}
 use Rattle.std.proofs.Math.Seq.{take-append-add, drop-append-add}
 use Rattle.std.proofs.lemmas.List.{drop-take}
 use Rattle.std.proofs.lemmas.List.Sums.{sum_by-append}
@@ -28,3 +28,17 @@ pub range_back : {X : Type 0} (xs : List X) (a b i : ℕ) → a + i ≤ b → sl
 range_back xs a b i h =
     let long : i + (b - (a + i)) ≡ b - a = omega arith in
     ap (take (b - (a + i))) (sym (drop-drop i a xs)) ∙ sym (drop-take i (b - (a + i)) (drop a xs)) ∙ ap (λ n. drop i (take n (drop a xs))) long
+
+-- past the end of `xs`, the items of `xs ++ ys` are those of `ys`
+pub get_right : {X : Type 0} (xs ys : List X) (n i : ℕ) → n ≡ length xs + i → slice_get (xs ++ ys) n ≡ slice_get ys i
+get_right [] ys n i e = ap (slice_get ys) (e ∙ (omega arith))
+get_right (x ∷ xs) ys n i e =
+    let later : n ≡ suc (length xs + i) = omega arith in
+    rw later (get_right xs ys (length xs + i) i refl)
+
+-- past the end of `xs`, the ranges of `xs ++ ys` are those of `ys`
+pub range_right : {X : Type 0} (xs ys : List X) (n a m : ℕ) → n ≡ length xs + a → slice_range (xs ++ ys) n (n + m) ≡ slice_range ys a (a + m)
+range_right xs ys n a m e =
+    let long : n + m - n ≡ m = omega arith in
+    let short : a + m - a ≡ m = omega arith in
+    rw long (rw short (ap (take m) (drop_right xs ys n a e)))

@@ -9,7 +9,7 @@ mod sequence;
 mod tree;
 mod walk;
 
-pub use look::Located;
+pub use look::{Located, Marked};
 pub use measure::Measured;
 pub use sequence::Seq;
 pub use walk::Iter;

@@ -1,11 +1,11 @@
-//! The ways down a tree: to an item, to the weight before a place, and to the item at a weight. Each counts the nodes that it
+//! The ways down a tree: to an item, to the weight before a place, to the item at a weight, and to a marked item. Each counts the nodes that it
 //! visits, of which the last is a leaf: only there does it look at items, of which a leaf has at most 16.
 
-ghost use Rattle.std.specs.Prelude.{◌≡◌, ◌+◌, ◌<◌, ◌≤◌, length, take, sum_by, slice_get, Some};
+ghost use Rattle.std.specs.Prelude.{◌≡◌, ◌+◌, ◌<◌, ◌≤◌, length, take, sum_by, slice_get, slice_range, Some};
 ghost use Rattle.seq_tree.specs.Shape.{FillsHeight};
 
 use crate::measure::Measured;
-use crate::run::{locate_in, weigh};
+use crate::run::{locate_in, marked_in, weigh};
 use crate::tree::{Node, Tree};
 use std::sync::ledger::Ledger;
 use step_counter::Steps;
@@ -16,6 +16,17 @@ pub struct Located<'a, T: Measured> {
     pub place: usize,
     pub offset: u64,
     pub item: &'a T,
+}
+
+/// A marked item: its place, counted from 0, the weight of the items before it, and the leaf that it lies in, whose first item
+/// has the place `first`.
+#[derive(Debug, Drop)]
+pub struct Marked<'a, T: Measured> {
+    pub place: usize,
+    pub before: u64,
+    pub item: &'a T,
+    pub leaf: &'a [T],
+    pub first: usize,
 }
 
 impl<T: Measured> Tree<T> {
@@ -85,6 +96,39 @@ impl<T: Measured> Tree<T> {
                 Located {
                     place: sides.left.len() + located.place,
                     ..located
+                }
+            }
+        }
+    }
+
+    /// The marked item before which so many are marked.
+    #[tactic(auto, using(crate::proofs::Ranges::sum_by_take_right))]
+    pub fn marked<L: Ledger>(&self, rank: u32, visited: &mut Steps<L>) -> Marked<'_, T>
+        requires within { rank < sum_by T.marks self.now.0 }
+        ensures is { slice_get self.now.0 result.place ≡ Some result.item.now }
+        ensures marked { T.marks result.item.now ≡ 1 }
+        ensures rank { sum_by T.marks (take result.place self.now.0) ≡ rank }
+        ensures before { sum_by T.measure (take result.place self.now.0) ≡ result.before }
+        ensures inside { result.first + length result.leaf.now ≤ length self.now.0 }
+        ensures leaf { slice_range self.now.0 result.first (result.first + length result.leaf.now)
+            ≡ result.leaf.now }
+        ensures cost { visited.new ≤ visited.old + (self.now.1 + 1) }
+        ensures low { FillsHeight self.now.1 (length self.now.0) }
+    {
+        visited.tick();
+        match &self.node {
+            Node::Leaf(run) => marked_in(run.items(), rank),
+            Node::Fork(sides) => {
+                let left_marks = sides.left.marks();
+                if rank < left_marks {
+                    return sides.left.marked(rank, visited);
+                }
+                let marked = sides.right.marked(rank - left_marks, visited);
+                Marked {
+                    place: sides.left.len() + marked.place,
+                    before: sides.left.total() + marked.before,
+                    first: sides.left.len() + marked.first,
+                    ..marked
                 }
             }
         }

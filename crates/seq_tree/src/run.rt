@@ -3,7 +3,7 @@
 ghost use Rattle.std.specs.Prelude.{◌≡◌, ◌+◌, ◌*◌, ◌^◌, ◌<◌, ◌≤◌, length, take, drop, sum_by, slice_get, slice_range, Some, IfOk};
 ghost use Rattle.seq_tree.specs.Shape.{longest_run};
 
-use crate::look::Located;
+use crate::look::{Located, Marked};
 use crate::measure::Measured;
 use std::alloc::{AllocError, Global};
 use std::marker::Model;
@@ -106,6 +106,49 @@ pub(crate) fn weigh<T: Measured>(items: &[T]) -> u64
         total += u64::from(item.weight());
     }
     total
+}
+
+/// How many items of a leaf are marked.
+pub(crate) fn count_marks<T: Measured>(items: &[T]) -> u32
+    requires few { length items.now ≤ longest_run }
+    ensures is { result ≡ sum_by T.marks items.now }
+    ensures most { result ≤ length items.now }
+{
+    let mut marks = 0;
+    for item in items {
+        marks += item.marks();
+    }
+    marks
+}
+
+/// The marked item of a leaf before which so many are marked.
+pub(crate) fn marked_in<T: Measured>(items: &[T], rank: u32) -> Marked<'_, T>
+    requires few { length items.now ≤ longest_run }
+    requires within { rank < sum_by T.marks items.now }
+    ensures is { slice_get items.now result.place ≡ Some result.item.now }
+    ensures marked { T.marks result.item.now ≡ 1 }
+    ensures rank { sum_by T.marks (take result.place items.now) ≡ rank }
+    ensures before { sum_by T.measure (take result.place items.now) ≡ result.before }
+    ensures leaf { result.leaf.now ≡ items.now }
+    ensures first { result.first ≡ 0 }
+{
+    let mut left = rank;
+    let mut before = 0;
+    for (place, item) in items.iter().enumerate() {
+        let marks = item.marks();
+        if left < marks {
+            return Marked {
+                place,
+                before,
+                item,
+                leaf: items,
+                first: 0,
+            };
+        }
+        left -= marks;
+        before += u64::from(item.weight());
+    }
+    unreachable!();
 }
 
 /// The first of a leaf's items up to which, itself included, they weigh more than `bound`.

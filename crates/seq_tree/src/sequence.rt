@@ -3,7 +3,7 @@
 ghost use Rattle.std.specs.Prelude.{◌≡◌, ℕ, ◌+◌, ◌-◌, ◌*◌, ◌^◌, ◌<◌, ◌≤◌, [], ◌++◌, length, take, drop, insert, sum_by, slice_get, slice_range, Some, IfOk, IsTrue, ◌↔◌};
 
 use crate::join::join;
-use crate::look::Located;
+use crate::look::{Located, Marked};
 use crate::measure::Measured;
 use crate::run::{LONGEST_RUN, Run};
 use crate::tree::{Node, Tree};
@@ -96,6 +96,35 @@ impl<T: Measured> Seq<T> {
         match &self.root {
             None => 0,
             Some(root) => root.total(),
+        }
+    }
+
+    /// How many items are marked.
+    pub fn marks(&self) -> u32
+        ensures { result ≡ sum_by T.marks self.now }
+    {
+        match &self.root {
+            None => 0,
+            Some(root) => root.marks(),
+        }
+    }
+
+    /// The marked item before which `rank` items are marked, with the items of its leaf. Each node that is visited counts once;
+    /// the one that is a leaf has at most 16 items, and no item of another leaf is looked at.
+    pub fn marked<L: Ledger>(&self, rank: u32, visited: &mut Steps<L>) -> Marked<'_, T>
+        requires within { rank < sum_by T.marks self.now }
+        ensures is { slice_get self.now result.place ≡ Some result.item.now }
+        ensures marked { T.marks result.item.now ≡ 1 }
+        ensures rank { sum_by T.marks (take result.place self.now) ≡ rank }
+        ensures before { sum_by T.measure (take result.place self.now) ≡ result.before }
+        ensures inside { result.first + length result.leaf.now ≤ length self.now }
+        ensures leaf { slice_range self.now result.first (result.first + length result.leaf.now)
+            ≡ result.leaf.now }
+        ensures cost { (b : ℕ) → length self.now < 2 ^ b → visited.new ≤ visited.old + (2 * b + 2) }
+    {
+        match &self.root {
+            None => unreachable!(),
+            Some(root) => root.marked(rank, visited),
         }
     }
 

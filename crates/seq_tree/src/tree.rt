@@ -1,17 +1,18 @@
-//! The tree under a sequence: the items are at the leaves, and a tree says how many they are and what they weigh.
+//! The tree under a sequence: the items are at the leaves, and a tree says how many they are, what they weigh, and how many are marked.
 
 ghost use Rattle.std.specs.Prelude.{◌≡◌, ◌+◌, ◌*◌, ◌^◌, ◌<◌, ◌≤◌, max, [], ◌∷◌, ◌++◌, length, sum_by, IfOk};
 ghost use Rattle.seq_tree.specs.Shape.{IsBalancedPair, FillsHeight};
 
 use crate::measure::Measured;
-use crate::run::{Run, weigh};
+use crate::run::{Run, count_marks, weigh};
 use std::alloc::{AllocError, Global};
 use std::marker::Model;
 use std::rc::Rc;
 
 /// One item or more, seen as the list of the items and the tree's height.
 ///
-/// A tree is a handle of its node: its length and its weight are read without a look at the node.
+/// A tree is a handle of its node: its length, its weight and how many items are marked are read without a look at
+/// the node.
 #[cycle(shared)]
 #[derive(Drop)]
 pub(crate) struct Tree<T: Measured> {
@@ -19,6 +20,7 @@ pub(crate) struct Tree<T: Measured> {
     height: u32,
     len: u32,
     total: u64,
+    marks: u32,
 }
 
 /// What a tree is made of: a run of items, or two trees side by side.
@@ -49,7 +51,7 @@ impl<T: Measured> Model for Tree<T> {
 
     ghost view = { λ t. (items t.node, t.height) };
 
-    ghost invariant = { λ t. Counts T.measure (items t.node) t.height t.len t.total × HasSides t.node t.height };
+    ghost invariant = { λ t. Counts T.measure T.marks (items t.node) t.height t.len t.total t.marks × HasSides t.node t.height };
 
     ghost size = { λ value. value.1 };
 
@@ -84,6 +86,13 @@ impl<T: Measured> Tree<T> {
         self.total
     }
 
+    /// How many items are marked.
+    pub fn marks(&self) -> u32
+        ensures { result ≡ sum_by T.marks self.now.0 }
+    {
+        self.marks
+    }
+
     /// A tree of this item.
     pub fn leaf(alloc: Global, item: T) -> Result<Tree<T>, AllocError>
         ensures items { IfOk result (λ t. t.0 ≡ item ∷ []) }
@@ -101,11 +110,13 @@ impl<T: Measured> Tree<T> {
         let items = run.items();
         let len = items.len() as u32;
         let total = weigh(items);
+        let marks = count_marks(items);
         Tree {
             node: Node::Leaf(run),
             height: 0,
             len,
             total,
+            marks,
         }
     }
 
@@ -119,12 +130,14 @@ impl<T: Measured> Tree<T> {
         let height = left.height().max(right.height()) + 1;
         let len = left.len() + right.len();
         let total = left.total() + right.total();
+        let marks = left.marks + right.marks;
         let node = Node::Fork(Rc::new(alloc, Sides { left, right })?);
         Ok(Tree {
             node,
             height,
             len: len as u32,
             total,
+            marks,
         })
     }
 
@@ -141,6 +154,7 @@ impl<T: Measured> Tree<T> {
             height: self.height,
             len: self.len,
             total: self.total,
+            marks: self.marks,
         })
     }
 }

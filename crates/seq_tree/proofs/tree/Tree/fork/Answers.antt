@@ -10,6 +10,8 @@ invariant_of-result g c = (
     fits = grind arith;
     total = grind (arith, sum_by-append);
     bound = grind arith;
+    marked = grind (arith, sum_by-append);
+    most = grind arith;
     enough = grind (arith, fork_enough);
   },
   grind arith,

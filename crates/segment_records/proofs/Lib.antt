@@ -16,11 +16,13 @@ pub mod MessageFaults
 pub mod ModeLaws
 pub mod Nearby
 pub mod Nodes
+pub mod NotableLaws
 pub mod PlaceLaws
 pub mod Prefixes
 pub mod Recut
 pub mod Rests
 pub mod Sites
+pub mod Skipping
 pub mod Spanned
 pub mod Stepping
 pub mod Stretches

@@ -7,6 +7,8 @@ pub mod Laws
 pub mod Line
 pub mod Look
 pub mod Messages
+pub mod Notable
+pub mod NotableWalk
 pub mod Openers
 pub mod Places
 pub mod RecordView

@@ -59,6 +59,11 @@ as_segment seen = record {
   tag = seen.kept.tag;
 }
 
+-- the mode after segments of which these are kept, from this mode on
+abbrev pub mode_left : Mode → List Kept → Mode
+mode_left before [] = before
+mode_left before (kept ∷ more) = mode_left kept.step.after more
+
 -- how many octets these are of
 abbrev pub octets_in : List Kept → ℕ
 octets_in kept = sum_by (λ k. k.octets) kept

@@ -2,12 +2,13 @@
 //! the walk over these: the segments of a text, one after the other, each by its record, the text and the directory.
 //!
 //! `Count`, `Errors`, `Heads` and `Openers` of its definitions are rules on segments by themselves. `Groups`, `Line`, `Look`,
-//! `Spans`, `Told`, `Walked` and `WalkedSegments` say the same of a segment by what is seen of it in a walk over records, and
+//! `Notable`, `Spans`, `Told`, `Walked` and `WalkedSegments` say the same of a segment by what is seen of it in a walk over records, and
 //! laws in `proofs` lead from these to those.
 #![tactic(auto)]
 
 mod errors;
 mod mode;
+mod notable;
 mod record;
 mod step;
 mod tags;
@@ -16,7 +17,8 @@ mod walked_segment;
 
 pub use errors::error_with;
 pub use mode::Mode;
+pub use notable::NotableSegments;
 pub use record::{Record, SegmentPlace};
-pub use tags::{bounds_message, is_named, is_no_part};
+pub use tags::{bounds_message, is_named, is_no_part, stops_message};
 pub use values::{copy_two, copy_value, find_table, lend_found};
 pub use walked_segment::{Segments, WalkedSegment};

@@ -1,5 +1,6 @@
 //! What one segment leaves to the next.
 ghost use Rattle.std.specs.Prelude.{◌≡◌, ◌↔◌, IsTrue};
+ghost use Rattle.segment_records.specs.Notable.{is_within};
 
 use table_walk::State;
 
@@ -31,6 +32,13 @@ impl Mode {
             ) => table == other_table && state.same(other_state),
             _ => false,
         }
+    }
+
+    // Whether a message with a table is open.
+    pub(crate) fn is_within(&self) -> bool
+        ensures { result ≡ is_within self.now }
+    {
+        matches!(self, Mode::Within { table: _, state: _ })
     }
 }
 

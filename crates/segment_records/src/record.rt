@@ -3,6 +3,7 @@ ghost use Rattle.std.specs.Prelude.{◌≡◌, ◌+◌, ◌<◌, ◌≤◌, [], 
 ghost use Rattle.edi_octets.specs.declared.octets.Octets.{Ghosts};
 ghost use Rattle.seg_lexer.specs.Service.{IsUsable};
 ghost use Rattle.clean_segments.specs.Clean.{AreClean};
+ghost use Rattle.segment_records.specs.Notable.{is_marked, is_well_placed};
 ghost use Rattle.segment_records.specs.Records.{IsModeOf, kept_of};
 ghost use Rattle.segment_records.specs.RecordView.{local_in, missing_in};
 ghost use Rattle.segment_records.specs.Segments.{segment_read};
@@ -12,6 +13,7 @@ ghost use Rattle.edi_octets.specs.declared.octets.TheConstants.{LONGEST_TEXT};
 
 use crate::mode::Mode;
 use crate::step::{take_inner_step, take_step};
+use crate::tags::stops_message;
 use clean_segments::CleanSegments;
 use dir_compile::Directory;
 use edi_octets::Octets;
@@ -86,8 +88,16 @@ impl Drop for Record {
 impl Measured for Record {
     ghost measure = { λ kept. kept.octets };
 
+    ghost use Rattle.segment_records.specs.Notable.{marks_of};
+
+    ghost marks = { marks_of };
+
     fn weight(&self) -> u32 {
         self.octets
+    }
+
+    fn marks(&self) -> u32 {
+        u32::from(self.is_marked())
     }
 }
 
@@ -204,6 +214,23 @@ impl Record {
         ensures { result ≡ self.now.step.over }
     {
         self.over
+    }
+
+    /// Whether something is to be said of it by what is kept of it alone: it opens, closes or stops a message, has a local
+    /// error, or is in a message with a table and not well placed there.
+    pub fn is_marked(&self) -> bool
+        ensures { result ≡ is_marked self.now }
+    {
+        stops_message(self.tag)
+            || !self.local().is_empty()
+            || (self.mode.is_within() && !self.is_well_placed())
+    }
+
+    // Whether it is at an entry, nothing is missing before it, and it isn't one too many there.
+    fn is_well_placed(&self) -> bool
+        ensures { result ≡ is_well_placed self.now.step }
+    {
+        self.entry.is_some() && self.missing().is_empty() && !self.over
     }
 
     /// Its local errors.

@@ -2,7 +2,7 @@
 ghost use Rattle.std.specs.Prelude.{◌≡◌, ◌∷◌, [], codes};
 ghost use Rattle.std.specs.List.{list_any};
 ghost use Rattle.edi_tables.specs.Rows.{has_name};
-ghost use Rattle.segment_records.specs.Bounds.{bounds_message as bounds_message_of};
+ghost use Rattle.segment_records.specs.Bounds.{bounds_message as bounds_message_of, stops_message as stops_message_of};
 
 use edi_tables::Tag;
 
@@ -30,4 +30,11 @@ pub fn bounds_message(tag: Option<Tag>) -> bool
     ensures { result ≡ bounds_message_of tag }
 {
     is_named(b"UNH", tag) || is_no_part(tag)
+}
+
+/// Whether a segment with this tag stops a message: UNT, UNH, UNE, UNG, UNZ and UNB do.
+pub fn stops_message(tag: Option<Tag>) -> bool
+    ensures { result ≡ stops_message_of tag }
+{
+    is_named(b"UNT", tag) || is_named(b"UNH", tag) || is_no_part(tag)
 }

@@ -1,13 +1,16 @@
 //! The records of a text with what is worked out of them: numbers, places, and the mode before each.
-ghost use Rattle.std.specs.Prelude.{◌≡◌, ◌+◌, ◌-◌, ◌<◌, ◌≤◌, length};
+ghost use Rattle.std.specs.Prelude.{◌≡◌, ◌+◌, ◌-◌, ◌<◌, ◌≤◌, drop, length, take};
 ghost use Rattle.edi_octets.specs.declared.octets.TheConstants.{LONGEST_TEXT};
+ghost use Rattle.segment_records.specs.WalkedSegments.{octets_in};
 
 use crate::mode::Mode;
 use crate::record::Record;
 use edi_octets::Octets;
 use seg_lexer::{Fields, Service, fields};
 use seq_tree::{Iter, Seq};
-use std::marker::Model;
+use std::marker::{Brand, Model};
+use std::sync::ledger::{Blank, Ledger};
+use step_counter::Steps;
 
 /// A segment of a text: its number, from 1, the boundary before it, in octets from 0, the mode before it, what is kept of it,
 /// and of the one after it, if there is one. The boundary is where the segment before it ends; line ends in front of its
@@ -99,6 +102,48 @@ impl<'e> Segments<'e> {
             rest,
         }
     }
+
+    /// Those from place `count` on, counted from 0, of all of which these records are kept: the first of all is number 1, after
+    /// the boundary `from` and after the mode `before`.
+    pub fn after(
+        records: &'e Seq<Record>,
+        count: usize,
+        from: u32,
+        before: &'e Mode,
+    ) -> Segments<'e>
+        requires within { count ≤ length records.now }
+        requires stretches { AreStretches 1 from records.now }
+        ensures { result ≡ drop count (seen_from 1 from before.now records.now) }
+    {
+        if count == 0 {
+            return Segments::of(records, from, before);
+        }
+        let octets = octets_before::<Brand>(records, count, Blank::new(1));
+        let mut rest = records.iter_from(count - 1);
+        let before = match rest.next() {
+            Some(last) => last.mode(),
+            None => before,
+        };
+        let current = rest.next();
+        Segments {
+            number: count as u32 + 1,
+            from: from + octets as u32,
+            before,
+            current,
+            rest,
+        }
+    }
+}
+
+// How many octets the first `count` segments have, by a counter that nobody reads.
+fn octets_before<L: Ledger>(records: &Seq<Record>, count: usize, blank: Blank) -> u64
+    requires within { count ≤ length records.now }
+    requires name { blank.name ≡ L.name }
+    requires parts { blank.parts ≡ L.parts }
+    requires some { 0 < blank.parts }
+    ensures { result ≡ octets_in (take count records.now) }
+{
+    records.before(count, &mut Steps::<L>::start(blank))
 }
 
 impl<'e> Iterator for Segments<'e> {

@@ -1,7 +1,7 @@
 //! Each call that can want memory answers in each of its branches, what is found at places and weights, and what is printed
 //! of a sequence.
 
-ghost use Rattle.std.specs.Prelude.{◌≡◌, ◌<◌};
+ghost use Rattle.std.specs.Prelude.{◌≡◌, ◌<◌, ◌%◌};
 
 use seq_tree::{Measured, Seq};
 use std::alloc::{AllocError, Global};
@@ -11,15 +11,21 @@ use std::sync::ledger::{Blank, Ledger};
 use std::test::Fail;
 use step_counter::Steps;
 
-/// A weight that weighs itself.
+/// A weight that weighs itself. An odd one is marked.
 #[derive(Debug, Drop)]
 struct Gram(u32);
 
 impl Measured for Gram {
     ghost measure = { λ gram. gram.0 };
 
+    ghost marks = { λ gram. gram.0 % 2 };
+
     fn weight(&self) -> u32 {
         self.0
+    }
+
+    fn marks(&self) -> u32 {
+        self.0 % 2
     }
 }
 
@@ -91,6 +97,44 @@ fn places_and_weights(rt: HostRuntime) -> Result<(), Fail> {
     assert_eq!(rt; look(&whole, 0, 20), None);
     assert_eq!(rt; look(&longer, 3, 9), Some((9, 1, 3)));
     assert_eq!(rt; look(&longer, 20, 18), Some((1, 18, 20)));
+    Ok(())
+}
+
+/// The place of the marked item before which so many are marked, and the weight before it.
+fn look_for_marked(whole: &Seq<Gram>, rank: u32) -> Option<(usize, u64)> {
+    look_for_marked_counted::<Brand>(whole, rank, Blank::new(1))
+}
+
+fn look_for_marked_counted<L: Ledger>(
+    whole: &Seq<Gram>,
+    rank: u32,
+    blank: Blank,
+) -> Option<(usize, u64)>
+    requires name { blank.name ≡ L.name }
+    requires parts { blank.parts ≡ L.parts }
+    requires some { 0 < blank.parts }
+{
+    if rank >= whole.marks() {
+        return None;
+    }
+    let marked = whole.marked(rank, &mut Steps::<L>::start(blank));
+    Some((marked.place, marked.before))
+}
+
+#[test]
+fn places_of_marked_items(rt: HostRuntime) -> Result<(), Fail> {
+    let whole = seq_of(&rt, rt.alloc(), 40)?;
+    assert!(rt; 3 <= whole.len() && whole.len() < 1000);
+    // The weights 0, 1, 0, 9, 1, 0, 1, 0 and so on.
+    let longer = whole.insert(rt.alloc(), 3, Gram(9))?;
+    assert_eq!(rt; look_for_marked(&whole, 0), Some((1, 0)));
+    assert_eq!(rt; look_for_marked(&whole, 19), Some((39, 19)));
+    assert_eq!(rt; look_for_marked(&whole, 20), None);
+    assert_eq!(rt; look_for_marked(&longer, 0), Some((1, 0)));
+    assert_eq!(rt; look_for_marked(&longer, 1), Some((3, 1)));
+    assert_eq!(rt; look_for_marked(&longer, 2), Some((4, 10)));
+    assert_eq!(rt; look_for_marked(&longer, 20), Some((40, 28)));
+    assert_eq!(rt; look_for_marked(&longer, 21), None);
     Ok(())
 }
 

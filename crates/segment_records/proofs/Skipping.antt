@@ -15,10 +15,10 @@ use Rattle.segment_records.proofs.NotableLaws.{stops_bounds, unmarked_quiet}
 use Rattle.segment_records.proofs.Walking.{stretches_next}
 
 -- a segment by its parts
-abbrev made : ℕ → ℕ → Mode → Kept → Option Kept → SeenSegment
+abbrev pub made : ℕ → ℕ → Mode → Kept → Option Kept → SeenSegment
 made number from before kept next = record { number = number; from = from; before = before; kept = kept; next = next }
 
-made_alike : (n m f g : ℕ) (b c : Mode) (k l : Kept) (o p : Option Kept) → n ≡ m → f ≡ g → b ≡ c → k ≡ l → o ≡ p
+pub made_alike : (n m f g : ℕ) (b c : Mode) (k l : Kept) (o p : Option Kept) → n ≡ m → f ≡ g → b ≡ c → k ≡ l → o ≡ p
     → Some (made n f b k o) ≡ Some (made m g c l p)
 made_alike n m f g b c k l o p en ef eb ek eo =
     ap (λ (v : ℕ). Some (made v f b k o)) en ∙ ap (λ (v : ℕ). Some (made m v b k o)) ef
@@ -80,6 +80,13 @@ mode_at before (first ∷ more) (suc i) kept is =
     let next : suc i + 1 ≡ suc (i + 1) = omega arith in
     ap (λ (n : ℕ). mode_left before (take n (first ∷ more))) next ∙ mode_at first.step.after more i kept is
 
+-- the mode before the segment at a place is that after the one before it
+pub mode_before_place : (before : Mode) (records : List Kept) (place : ℕ) (kept : Kept) → 0 < place → slice_get records (place - 1) ≡ Some kept
+    → mode_left before (take place records) ≡ kept.step.after
+mode_before_place before records place kept some is =
+    let next : (place - 1) + 1 ≡ place = omega arith in
+    ap (λ (n : ℕ). mode_left before (take n records)) (sym next) ∙ mode_at before records (place - 1) kept is
+
 -- what is left from a place on begins with the item there
 pub drop_get : {A : Type 0} (xs : List A) (i : ℕ) (x : A) → slice_get xs i ≡ Some x → drop i xs ≡ x ∷ drop (i + 1) xs
 drop_get xs i x is =
@@ -100,6 +107,13 @@ stretches_drop number from (first ∷ more) (suc i) low it =
     (omega arith) (octets_cons first (take i more) from)
     (stretches_drop (number + 1) (from + first.octets) more i (omega arith) (stretches_next number from first more it))
 
+-- a text has no more segments than octets
+pub place_short : (from : ℕ) (records : List Kept) (i : ℕ) → AreStretches 1 from records → i ≤ length records → i ≤ 4194304
+place_short from records i it low =
+    let left = stretches_drop 1 from records i low it in
+    let within = left.within in
+    let numbered = left.numbered in omega arith
+
 pub stretches_at_place : (from : ℕ) (records : List Kept) (i : ℕ) (kept : Kept) → AreStretches 1 from records → slice_get records i ≡ Some kept
     → AreStretches (1 + i) (from + octets_in (take i records)) (kept ∷ drop (i + 1) records)
 stretches_at_place from records i kept it is =
@@ -113,6 +127,10 @@ sum_by_take_le m xs i j low =
 
 pub sum_by_next : {A : Type 0} (m : A → ℕ) (xs : List A) (i : ℕ) (x : A) → slice_get xs i ≡ Some x → sum_by m (take (i + 1) xs) ≡ sum_by m (take i xs) + m x
 sum_by_next m xs i x is = sum_by_more m xs i x (slice_get_within xs i x is) ∙ ap (λ y. sum_by m (take i xs) + m y) (get_or_from_slice_get xs i x x is)
+
+pub octets_next : (records : List Kept) (i : ℕ) (kept : Kept) → slice_get records i ≡ Some kept
+    → octets_in (take (i + 1) records) ≡ octets_in (take i records) + kept.octets
+octets_next records i kept is = sum_by_next (λ (k : Kept). k.octets) records i kept is
 
 -- a list that a test keeps, from a member on
 module _ {A : Type 0} (p : A → Bool) (xs : List A) (i : ℕ) (x : A) (is : slice_get xs i ≡ Some x) where

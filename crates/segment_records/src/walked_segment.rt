@@ -1,7 +1,7 @@
 //! The records of a text with what is worked out of them: numbers, places, and the mode before each.
 ghost use Rattle.std.specs.Prelude.{◌≡◌, ◌+◌, ◌-◌, ◌<◌, ◌≤◌, drop, length, take};
 ghost use Rattle.edi_octets.specs.declared.octets.TheConstants.{LONGEST_TEXT};
-ghost use Rattle.segment_records.specs.WalkedSegments.{octets_in};
+ghost use Rattle.segment_records.specs.WalkedSegments.{mode_left, octets_in};
 
 use crate::mode::Mode;
 use crate::record::Record;
@@ -115,15 +115,9 @@ impl<'e> Segments<'e> {
         requires stretches { AreStretches 1 from records.now }
         ensures { result ≡ drop count (seen_from 1 from before.now records.now) }
     {
-        if count == 0 {
-            return Segments::of(records, from, before);
-        }
         let octets = octets_before::<Brand>(records, count, Blank::new(1));
-        let mut rest = records.iter_from(count - 1);
-        let before = match rest.next() {
-            Some(last) => last.mode(),
-            None => before,
-        };
+        let before = mode_after::<Brand>(records, count, before, Blank::new(1));
+        let mut rest = records.iter_from(count);
         let current = rest.next();
         Segments {
             number: count as u32 + 1,
@@ -144,6 +138,25 @@ fn octets_before<L: Ledger>(records: &Seq<Record>, count: usize, blank: Blank) -
     ensures { result ≡ octets_in (take count records.now) }
 {
     records.before(count, &mut Steps::<L>::start(blank))
+}
+
+// The mode after the first `count` segments, which is this one after none, by a counter that nobody reads.
+fn mode_after<'e, L: Ledger>(
+    records: &'e Seq<Record>,
+    count: usize,
+    before: &'e Mode,
+    blank: Blank,
+) -> &'e Mode
+    requires within { count ≤ length records.now }
+    requires name { blank.name ≡ L.name }
+    requires parts { blank.parts ≡ L.parts }
+    requires some { 0 < blank.parts }
+    ensures { result.now ≡ mode_left before.now (take count records.now) }
+{
+    if count == 0 {
+        return before;
+    }
+    records.at(count - 1, &mut Steps::<L>::start(blank)).mode()
 }
 
 impl<'e> Iterator for Segments<'e> {

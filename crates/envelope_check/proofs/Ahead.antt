@@ -9,7 +9,7 @@ use Rattle.envelope_check.specs.declared.head.Head.{Head}
 use Rattle.envelope_check.specs.declared.head.HeadKind.{HeadKind}
 use Rattle.envelope_check.specs.declared.head.SegmentMark.{SegmentMark}
 use Rattle.envelope_check.specs.Heads.{kind_of, tags_of, start_in, HeadPlace, head_place_of, head_place, head_of, Fits}
-use Rattle.envelope_check.specs.Known.{kind_in, head_here, heads_after, has_kind}
+use Rattle.envelope_check.specs.Known.{kind_in, head_here, heads_after, has_kind, next_number}
 
 pub length_tags : (marks : List SegmentMark) → length (tags_of marks) ≡ length marks
 length_tags [] = refl
@@ -82,6 +82,21 @@ front_none (head ∷ after) k none = elim (cases_Bool (head.segment == k)) [
 
 front_some : (head : Head) (after : List Head) (k : ℕ) → head.segment ≡ k → Front (head ∷ after) k (Some head) after
 front_some head after k same = record { here = rw (eq-eqb head.segment k same) refl; after = rw (eq-eqb head.segment k same) refl }
+
+-- a segment before the next head is no head, and leaves the same ones to come
+pub front_before : (rest : List Head) (k total : ℕ) → k < next_number rest total → Front rest k None rest
+front_before [] k total low = record { here = refl; after = refl }
+front_before (head ∷ after) k total low =
+    let other = ne_eqb head.segment k (λ same. omega arith) in
+    record { here = rw other refl; after = rw other refl }
+
+-- the next head is one of the segments to come
+pub next_ahead : (marks : List SegmentMark) (a n total : ℕ) (rest : List Head) → Heads marks a n rest → a + n ≡ total → (a < next_number rest total) × (next_number rest total ≤ total + 1)
+next_ahead marks a zero total rest heads sum = rw (no_heads marks a rest heads) (omega arith, omega arith)
+next_ahead marks a (suc n) total rest heads sum = elim (next marks a n rest heads) [
+  | absent none later ↦ let it = next_ahead marks (a + 1) n total rest later (omega arith) in (omega (arith, it.0), it.1)
+  | present head after is here kind later ↦ rw is (omega arith, omega arith)
+]
 
 -- the heads to come at place i, among all heads
 pub record IsAhead (heads : List Head) (marks : List SegmentMark) (i : ℕ) (rest : List Head) : Type 0 where

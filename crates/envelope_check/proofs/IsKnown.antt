@@ -15,7 +15,7 @@ use Rattle.envelope_check.specs.declared.known.Known.{Known}
 use Rattle.edi_tables.specs.Rows.{has_name, when}
 use Rattle.error_ledger.specs.declared.kind.Kind.TheVariants.{NoUnb, NoUnz}
 use Rattle.envelope_check.specs.Heads.{tags_of, head_of, kind_of, Fits}
-use Rattle.envelope_check.specs.Known.{kind_in, head_here, has_kind, first_unb, is_unb, IsKnownFirst, is_ung, is_unh, is_unz, ends_group, message_after, group_after, message_segments_after, group_messages_after, counted_after, IsKnownAfter}
+use Rattle.envelope_check.specs.Known.{kind_in, head_here, has_kind, first_unb, is_unb, IsKnownFirst, is_ung, is_unh, is_unz, ends_group, message_after, group_after, message_segments_after, group_messages_after, counted_after, IsKnownAfter, IsKnownAfterOthers}
 use Rattle.envelope_check.specs.Envelope.{is_at, count_at, is_after_end, end_of_interchange, text_errors, error_of_text}
 use Rattle.envelope_check.proofs.Counting.{count_more, count_none, none_counted, is_after_end_more, is_after_end_first}
 use Rattle.envelope_check.proofs.Ahead.{length_tags, Here, at_kind, any_ahead, no_heads, here_at, ahead_first}
@@ -162,6 +162,68 @@ known_next heads marks i old new here after within site known next =
       messages = next.messages ∙ counted_kept is_unh (kind_in here) old.messages ∙ ap (λ n. n + cond (kind_passes is_unh (kind_in here)) 1 0) known.messages
           ∙ ap (λ b. count_at (codes "UNH") tags 0 i + cond b 1 0) (sym unh) ∙ sym (count_more (codes "UNH") tags 0 i (omega arith));
     }
+
+-- it is known as well where nothing has changed
+pub known_same : (heads : List Head) (tags : List (Option Tag)) (i : ℕ) (old new : Known) → IsKnown heads tags i old → IsKnownAfterOthers old 0 new → IsKnown heads tags i new
+known_same heads tags i old new known same = record {
+  has_groups = same.has_groups ∙ known.has_groups;
+  interchange = same.interchange ∙ known.interchange;
+  has_interchange = sym (is_some_copied new.interchange) ∙ ap is_some same.interchange ∙ is_some_copied old.interchange ∙ known.has_interchange;
+  ended = same.ended ∙ known.ended;
+  message = same.message ∙ known.message;
+  in_message = sym (is_some_copied new.message) ∙ ap is_some same.message ∙ is_some_copied old.message ∙ known.in_message;
+  message_segments = λ a is. omega (arith, same.message_segments, known.message_segments a is);
+  group = same.group ∙ known.group;
+  in_group = sym (is_some_copied new.group) ∙ ap is_some same.group ∙ is_some_copied old.group ∙ known.in_group;
+  group_messages = λ a is. same.group_messages ∙ known.group_messages a is;
+  segments = omega (arith, same.segments, known.segments);
+  groups = same.groups ∙ known.groups;
+  messages = same.messages ∙ known.messages;
+}
+
+-- what is known n segments later, where none of them is a head
+abbrev pub later : Known → ℕ → Known
+later known n = record known {
+  message_segments = known.message_segments + n;
+  segments = known.segments + n;
+  few_message_segments = omega (arith, known.few_message_segments);
+  few_group_messages = omega (arith, known.few_group_messages);
+  few_groups = omega (arith, known.few_groups);
+  few_messages = omega (arith, known.few_messages);
+}
+
+pub later_others : (known : Known) (n : ℕ) → IsKnownAfterOthers known n (later known n)
+later_others known n = record {
+  has_groups = refl;
+  interchange = refl;
+  ended = refl;
+  message = refl;
+  message_segments = refl;
+  group = refl;
+  group_messages = refl;
+  segments = refl;
+  groups = refl;
+  messages = refl;
+}
+
+or_none : (b : Bool) → b ≡ (b || false)
+or_none true = refl
+or_none false = refl
+
+-- the last of n + 1 such segments
+pub last_other : (old new : Known) (n : ℕ) → IsKnownAfterOthers old (suc n) new → IsKnownAfter (later old n) None new
+last_other old new n all = record {
+  has_groups = all.has_groups;
+  interchange = all.interchange;
+  ended = all.ended ∙ or_none old.ended;
+  message = all.message;
+  message_segments = omega (arith, all.message_segments);
+  group = all.group;
+  group_messages = all.group_messages;
+  segments = omega (arith, all.segments);
+  groups = all.groups;
+  messages = all.messages;
+}
 
 -- two tests that agree find the same
 pub find_same : (p q : ℕ → Bool) → ((k : ℕ) → p k ≡ q k) → (xs : List ℕ) → find p xs ≡ find q xs

@@ -1,7 +1,9 @@
 -- The errors of a segment, by the rules in terms of what is known there.
-use Rattle.std.proofs.Common.{◌≡◌, ℕ, zero, suc, ◌+◌, Bool, true, false, not, List, [], ◌∷◌, ◌++◌, ◌&&◌, Option, Some, None, refl, sym, ap, ◌∙◌, append_assoc, append-nil}
+use Rattle.std.proofs.Common.{◌≡◌, ℕ, zero, suc, ◌+◌, Bool, true, false, List, [], ◌∷◌, ◌++◌, inl, inr, Option, Some, None, refl, sym, ap, ◌∙◌, append_assoc, append-nil}
 use Rattle.std.specs.Prelude.{slice_get, is_some}
 use Rattle.std.specs.Option.{option_map_or}
+use Rattle.std.specs.List.{list_any}
+use Rattle.std.proofs.lemmas.Bool.{cases_Bool}
 use Rattle.edi_tables.specs.Extents.{tag_in}
 use Rattle.edi_tables.specs.declared.tag.Tag.{Tag}
 use Rattle.edi_tables.specs.Rows.{when}
@@ -61,15 +63,16 @@ errors_here heads marks i known here after mark site is =
     (append_same _ _ _ _ (one _ _ 2 NoTable (lacks_table_is heads marks i known here after site))
     refl))))))))))
 
-free_parts : (ended in_message : Bool) → (not ended && in_message) ≡ true → (ended ≡ false) × (in_message ≡ true)
-free_parts false true free = (refl, refl)
-free_parts false false free = cc
-free_parts true in_message free = cc
+-- a segment that breaks no rule has no errors
+pub none_broken : (k : ℕ) (mark : SegmentMark) (rules : List (Bool × ℕ × Kind)) → list_any (λ (rule : Bool × ℕ × Kind). rule.0) rules ≡ false → errors_by k mark rules ≡ []
+unfolding errors_by
+none_broken k mark [] none = refl
+none_broken k mark (rule ∷ rules) none = elim (cases_Bool rule.0) [
+  | inl broken ↦ let it = rw broken at none in cc
+  | inr kept ↦ let more = rw kept at none in rw kept (none_broken k mark rules more)
+]
 
 -- a segment that is no head breaks no rule before the end and in an open message
-pub none_broken : (k : ℕ) (mark : SegmentMark) (known : Known) (here : Option Head) (after : List Head) → (not (is_some here) && not known.ended && is_some known.message) ≡ true → errors_by k mark (rules_by known here after) ≡ []
+pub sound_segment : (k : ℕ) (mark : SegmentMark) (known : Known) (after : List Head) → known.ended ≡ false → is_some known.message ≡ true → errors_by k mark (rules_by known None after) ≡ []
 unfolding errors_by rules_by
-none_broken k mark known (Some head) after free = cc
-none_broken k mark known None after free =
-    let parts = free_parts known.ended (is_some known.message) free in
-    rw (parts.0, parts.1) refl
+sound_segment k mark known after before inside = rw (before, inside) refl

@@ -1,5 +1,5 @@
 -- What is known of a text at one of its segments, and the rules in these terms. Only bodies and invariants need this.
-use Rattle.std.specs.Prelude.{◌≡◌, ◌+◌, ℕ, Bool, true, false, not, ◌==◌, ◌&&◌, ◌||◌, List, [], ◌∷◌, find, Option, Some, None, is_some, if◌then◌else◌}
+use Rattle.std.specs.Prelude.{◌≡◌, ◌+◌, ◌-◌, ℕ, Bool, true, false, not, ◌==◌, ◌&&◌, ◌||◌, List, [], ◌∷◌, find, slice_get, unwrap_or, Option, Some, None, is_some, if◌then◌else◌}
 use Rattle.std.specs.Option.{option_map, option_map_or, option_copied}
 use Rattle.std.specs.List.{flat_map, list_any}
 use Rattle.std.specs.Str.{bytes_eq}
@@ -126,6 +126,30 @@ pub record IsKnownAfter (old : Known) (head : Option Head) (new : Known) : Type 
   pub groups : new.groups ≡ counted_after is_ung (kind_in head) old.groups
   pub messages : new.messages ≡ counted_after is_unh (kind_in head) old.messages
 
+-- what is known after n segments that are no heads
+pub record IsKnownAfterOthers (old : Known) (n : ℕ) (new : Known) : Type 0 where
+  pub has_groups : new.has_groups ≡ old.has_groups
+  pub interchange : option_copied new.interchange ≡ option_copied old.interchange
+  pub ended : new.ended ≡ old.ended
+  pub message : option_copied new.message ≡ option_copied old.message
+  pub message_segments : new.message_segments ≡ old.message_segments + n
+  pub group : option_copied new.group ≡ option_copied old.group
+  pub group_messages : new.group_messages ≡ old.group_messages
+  pub segments : new.segments ≡ old.segments + n
+  pub groups : new.groups ≡ old.groups
+  pub messages : new.messages ≡ old.messages
+
+-- the number of the next head, or one more than that of the last segment where no head is to come
+abbrev pub next_number : List Head → ℕ → ℕ
+next_number [] total = total + 1
+next_number (head ∷ after) total = head.segment
+
+-- how many segments from here on are no heads and can break no rule: before the end and in an open message, those up to
+-- the next head or to the last segment
+abbrev pub sound_run_by : Known → List Head → ℕ → ℕ
+sound_run_by known rest total =
+    if known.ended || not (is_some known.message) then 0 else next_number rest total - 1 - known.segments
+
 -- a UNB that isn't the first segment, and isn't after the end
 abbrev pub second_unb_by : Option HeadKind → ℕ → Bool → Bool
 second_unb_by (Some Unb) segments ended = not (segments == 0) && not ended
@@ -232,6 +256,10 @@ rules_by known head after =
     ∷ (refers_elsewhere_by head (opening_by kind known), 2, Reference)
     ∷ (lacks_table_by head, 2, NoTable)
     ∷ []
+
+-- the mark at place i
+abbrev pub mark_at : List SegmentMark → ℕ → SegmentMark
+mark_at marks i = unwrap_or (slice_get marks i) (record { start = 0; tag = None })
 
 -- an error of segment k
 abbrev pub error_of : ℕ → SegmentMark → ℕ → Kind → ErrorLine

@@ -1,9 +1,9 @@
 //! The errors of the envelopes of a text.
 ghost use Rattle.std.specs.Prelude.{
   ◌≡◌,
-  ◌+◌,
+  ◌-◌,
   ◌<◌,
-  ◌^◌,
+  ◌≤◌,
   ◌++◌,
   length,
   not,
@@ -11,13 +11,12 @@ ghost use Rattle.std.specs.Prelude.{
   IfOk,
   OnOk,
 };
-ghost use Rattle.std.specs.Option.{option_copied};
 ghost use Rattle.edi_tables.specs.Rows.{when};
 ghost use Rattle.envelope_check.specs.Heads.{Fits};
 ghost use Rattle.envelope_check.specs.Envelope.{envelope_errors_of, error_of_text as text_error};
 ghost use Rattle.envelope_check.specs.Known.{
   errors_by,
-  rules_by,
+  mark_at,
   first_unb as first_unb_of,
   has_kind,
   is_unz,
@@ -26,36 +25,41 @@ ghost use Rattle.envelope_check.specs.Known.{
 use crate::head::{Head, SegmentMark};
 use crate::heads::{first_unb, has_end, split_here};
 use crate::known::Known;
-use crate::rules::{Rule, breaks_none, rules};
+use crate::marks::SegmentMarks;
+use crate::rules::{Rule, breaks_any, rules, sound_run};
 use error_ledger::{ErrorLine, Kind};
 use std::alloc::{AllocError, Global};
 
 /// The errors of the envelopes of a text, in the order of errors: of the interchange, its functional groups and its messages.
 /// What is wrong with the service string advice, the syntax that UNB names, and a tail are left to the caller.
 ///
-/// `starts` are all segments in order, and `total` is how many they are. `heads` are those of them that have one of the
-/// six tags of `HeadKind`, in order. Only want of memory is an error. The work grows with the number of segments.
-pub fn envelope_errors(
+/// `heads` are those segments that have one of the six tags of `HeadKind`, in order, and `total` is how many segments
+/// there are. A segment's mark is asked for only where an error is told of it. Only want of memory is an error.
+/// The work grows with the heads, and with the segments that are outside of a message or after the end.
+pub fn envelope_errors<M: SegmentMarks>(
     alloc: Global,
     heads: &[Head],
     total: u32,
-    starts: &[SegmentMark],
+    marks: &mut M,
 ) -> Result<Vec<ErrorLine>, AllocError>
-    requires fits { Fits heads.now starts.now }
-    requires total { total ≡ length starts.now }
-    ensures { IfOk result (λ errors. errors.items ≡ envelope_errors_of heads.now starts.now) }
+    requires fits { Fits heads.now (M.marks marks.old) }
+    requires total { total ≡ length (M.marks marks.old) }
+    ensures all { IfOk result
+        (λ errors. errors.items ≡ envelope_errors_of heads.now (M.marks marks.old)) }
+    ensures same { M.marks marks.new ≡ M.marks marks.old }
 {
     let mut errors = text_errors(alloc, heads)?;
     let mut known = Known::first(heads);
     let mut rest = heads;
-    let mut marks = starts.iter();
-    for _ in 0..total {
-        let Some(mark) = marks.next() else {
-            unreachable!();
-        };
+    while known.segments < total {
+        let sound = sound_run(&known, rest, total);
+        if sound > 0 {
+            known = known.after_others(sound);
+            continue;
+        }
         let number = known.segments + 1;
         let (head, after) = split_here(rest, number);
-        push_segment_errors(&mut errors, number, mark, &known, head, after)?;
+        push_segment_errors(&mut errors, number, marks, rules(&known, head, after))?;
         known = known.after(head);
         rest = after;
     }
@@ -94,26 +98,27 @@ fn error_of_text(kind: Kind) -> ErrorLine
     }
 }
 
-// Puts the errors of a segment at the end.
-fn push_segment_errors(
+// Puts the errors of the rules that a segment breaks at the end.
+fn push_segment_errors<M: SegmentMarks>(
     errors: &mut Vec<ErrorLine>,
     number: u32,
-    mark: &SegmentMark,
-    known: &Known,
-    head: Option<&Head>,
-    after: &[Head],
+    marks: &mut M,
+    rules: [Rule; 11],
 ) -> Result<(), AllocError>
-    requires { known.now.segments + 1 < 2 ^ 32 }
-    ensures { OnOk result (errors.new.items ≡ errors.old.items
-        ++ errors_by number mark.now (rules_by known.now (option_copied head.entry) after.now)) }
+    requires first { 0 < number }
+    requires last { number ≤ length (M.marks marks.old) }
+    ensures told { OnOk result (errors.new.items ≡ errors.old.items
+        ++ errors_by number (mark_at (M.marks marks.old) (number - 1)) rules) }
+    ensures same { M.marks marks.new ≡ M.marks marks.old }
 {
-    if breaks_none(known, head) {
+    if !breaks_any(&rules) {
         return Ok(());
     }
-    push_errors(errors, number, mark, rules(known, head, after))
+    let mark = marks.mark(number - 1);
+    push_errors(errors, number, &mark, rules)
 }
 
-// Puts the errors of the rules that a segment breaks at the end.
+// Puts the errors of the rules that a segment with this mark breaks at the end.
 #[tactic(auto, unfolding(crate::specs::Known::errors_by))]
 fn push_errors(
     errors: &mut Vec<ErrorLine>,

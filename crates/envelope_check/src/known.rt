@@ -32,7 +32,7 @@ pub(crate) struct Known<'a> {
 
 impl<'a> Known<'a> {
     ghost use Rattle.std.specs.Option.{option_copied};
-    ghost use Rattle.envelope_check.specs.Known.{IsKnownAfter, IsKnownFirst};
+    ghost use Rattle.envelope_check.specs.Known.{IsKnownAfter, IsKnownAfterOthers, IsKnownFirst};
 
     /// Before the first segment.
     pub(crate) fn first(heads: &'a [Head]) -> Known<'a>
@@ -58,7 +58,7 @@ impl<'a> Known<'a> {
         ensures { IsKnownAfter self.now (option_copied head.entry) result }
     {
         if head.is_none() {
-            return self.after_other();
+            return self.after_others(1);
         }
         let kind = kind_in(head);
         Known {
@@ -75,20 +75,20 @@ impl<'a> Known<'a> {
         }
     }
 
-    // After a segment that is no head: it only adds to the segments.
-    fn after_other(&self) -> Known<'a>
-        requires { self.now.segments + 1 < 2 ^ 32 }
-        ensures { IsKnownAfter self.now None result }
+    /// After so many segments that are no heads: they only add to the segments.
+    pub(crate) fn after_others(&self, count: u32) -> Known<'a>
+        requires { self.now.segments + count < 2 ^ 32 }
+        ensures { IsKnownAfterOthers self.now count result }
     {
         Known {
             has_groups: self.has_groups,
             interchange: self.interchange,
             ended: self.ended,
             message: self.message,
-            message_segments: self.message_segments + 1,
+            message_segments: self.message_segments + count,
             group: self.group,
             group_messages: self.group_messages,
-            segments: self.segments + 1,
+            segments: self.segments + count,
             groups: self.groups,
             messages: self.messages,
         }

@@ -5,8 +5,10 @@ mod envelope;
 mod head;
 mod heads;
 mod known;
+mod marks;
 mod rules;
 mod step;
 
 pub use envelope::envelope_errors;
 pub use head::{Head, HeadKind, SegmentMark};
+pub use marks::{MarkList, SegmentMarks};

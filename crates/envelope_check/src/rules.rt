@@ -1,6 +1,7 @@
 //! The rules on envelopes, each a test of its own on one segment.
-ghost use Rattle.std.specs.Prelude.{◌≡◌, ◌+◌, ◌<◌, ◌^◌, ◌&&◌, not, is_some};
+ghost use Rattle.std.specs.Prelude.{◌≡◌, ◌+◌, ◌<◌, ◌^◌, is_some};
 ghost use Rattle.std.specs.Option.{option_copied};
+ghost use Rattle.std.specs.List.{list_any};
 ghost use Rattle.envelope_check.specs.Envelope.{gives as gives_number};
 ghost use Rattle.envelope_check.specs.Known.{
   second_unb_by,
@@ -18,6 +19,8 @@ ghost use Rattle.envelope_check.specs.Known.{
   refers_elsewhere_by,
   lacks_table_by,
   rules_by,
+  next_number,
+  sound_run_by,
   group_end as group_end_of,
   next_but_unt as next_but_unt_of,
 };
@@ -55,13 +58,26 @@ pub(crate) fn rules(known: &Known, head: Option<&Head>, after: &[Head]) -> [Rule
     rules
 }
 
-/// Whether a segment can break no rule: it is no head, before the end, and in an open message.
-pub(crate) fn breaks_none(known: &Known, head: Option<&Head>) -> bool
-    ensures { result
-        ≡ (not (is_some (option_copied head.entry)) && not known.now.ended
-        && is_some known.now.message) }
+/// How many segments from here on are no heads and can break no rule: before the end and in an open message, those up to
+/// the next head or to the last segment.
+pub(crate) fn sound_run(known: &Known, rest: &[Head], total: u32) -> u32
+    requires { known.now.segments < next_number rest.now total }
+    ensures { result ≡ sound_run_by known.now rest.now total }
 {
-    head.is_none() && !known.ended && known.message.is_some()
+    if known.ended || known.message.is_none() {
+        return 0;
+    }
+    match rest {
+        [head, ..] => head.segment - 1 - known.segments,
+        [] => total - known.segments,
+    }
+}
+
+/// Whether one of the rules is broken.
+pub(crate) fn breaks_any(rules: &[Rule]) -> bool
+    ensures { result ≡ list_any (λ rule. rule.0) rules.now }
+{
+    rules.iter().any(|rule| rule.0)
 }
 
 // A UNB that isn't the first segment, and isn't after the end.

@@ -3,7 +3,6 @@ use Rattle.std.proofs.Common.{◌≡◌, ℕ, ◌+◌, ◌≤◌, Bool, true, fa
 use Rattle.std.specs.Borrow.{Bor}
 use Rattle.std.specs.Option.{option_map_or}
 use Rattle.std.specs.Str.{bytes_eq}
-use Rattle.std.proofs.lemmas.Bool.{ne_eqb}
 use Rattle.std.proofs.lemmas.Slice.Eq.{bytes_eq-Decides}
 use Rattle.edi_octets.specs.Decimal.{decimal_in}
 use Rattle.edi_tables.specs.Rows.{when}
@@ -11,13 +10,13 @@ use Rattle.error_ledger.specs.declared.error.ErrorLine.{ErrorLine}
 use Rattle.error_ledger.specs.declared.kind.Kind.TheVariants.{Count, Reference}
 use Rattle.envelope_check.specs.Envelope.{envelope_errors_of, gives}
 use Rattle.envelope_check.specs.Heads.{Fits}
-use Rattle.envelope_check.specs.Known.{error_of, errors_by, head_here, heads_after, rules_by}
+use Rattle.envelope_check.specs.Known.{error_of, errors_by, head_here, heads_after, mark_at, rules_by}
 use Rattle.envelope_check.specs.declared.head.Head.{Head}
 use Rattle.envelope_check.specs.declared.head.HeadKind.{HeadKind}
 use Rattle.envelope_check.specs.declared.head.HeadKind.TheVariants.{Unb, Unh, Unt, Unz}
 use Rattle.envelope_check.specs.declared.head.SegmentMark.{SegmentMark}
 use Rattle.envelope_check.specs.declared.known.Known.{Known}
-use Rattle.envelope_check.proofs.Progress.{IsDone, done_all, done_first, done_next}
+use Rattle.envelope_check.proofs.Progress.{IsDone, done_all, done_first, done_one, sound_done}
 
 -- a head with these values
 abbrev pub head_with : ℕ → ℕ → HeadKind → List ℕ → List ℕ → List ℕ → Bool → Head
@@ -83,58 +82,47 @@ module _ (mb mh mu mz : SegmentMark) (mids : List SegmentMark) (own reference co
 
     -- UNT and UNZ
     end_walk : (i j : ℕ) (few_j : j ≤ i) (few_m : 1 ≤ i) → i ≡ length mids + 2 → j ≡ length mids + 1
-        → IsDone heads_here marks_here i (known_at false i (Some (lent message)) j 1 few_j few_m) (closing ∷ ending ∷ []) (mu ∷ mz ∷ []) [] → envelope_errors_of heads_here marks_here ≡ []
+        → IsDone heads_here marks_here i (known_at false i (Some (lent message)) j 1 few_j few_m) (closing ∷ ending ∷ []) [] → envelope_errors_of heads_here marks_here ≡ []
     unfolding errors_by rules_by
     end_walk i j few_j few_m at_i at_j done =
         let here : Some closing ≡ head_here (closing ∷ ending ∷ []) (i + 1) =
         sym (ap (λ (b : Bool). let none : Option Head = None in cond b (Some closing) none) (eq-eqb (length mids + 3) (i + 1) (omega arith))) in
         let after : ending ∷ [] ≡ heads_after (closing ∷ ending ∷ []) (i + 1) =
         sym (ap (λ (b : Bool). cond b (ending ∷ []) (closing ∷ ending ∷ [])) (eq-eqb (length mids + 3) (i + 1) (omega arith))) in
-        let second : IsDone heads_here marks_here (i + 1) (known_at false (i + 1) None (j + 1) 1 (omega arith) (omega arith)) (ending ∷ []) (mz ∷ []) [] =
-        done_next heads_here marks_here i (known_at false i (Some (lent message)) j 1 few_j few_m) (known_at false (i + 1) None (j + 1) 1 (omega arith) (omega arith)) (closing ∷ ending ∷ []) (ending ∷ []) (mu ∷ mz ∷ []) (mz ∷ []) [] [] mu (Some closing)
-        (omega (arith, long)) done refl here after
+        let second : IsDone heads_here marks_here (i + 1) (known_at false (i + 1) None (j + 1) 1 (omega arith) (omega arith)) (ending ∷ []) [] =
+        done_one heads_here marks_here i (known_at false i (Some (lent message)) j 1 few_j few_m) (known_at false (i + 1) None (j + 1) 1 (omega arith) (omega arith)) (closing ∷ ending ∷ []) (ending ∷ []) [] [] (Some closing)
+        (omega (arith, long)) done here after
         (record { has_groups = refl; interchange = refl; ended = refl; message = refl; message_segments = refl; group = refl; group_messages = refl; segments = refl; groups = refl; messages = refl })
-        (two_hold (not (gives count (j + 1))) (not (bytes_eq reference reference)) (error_of (i + 1) mu 1 Count) (error_of (i + 1) mu 2 Reference) (counts count (length mids + 2) (j + 1) counted (omega arith)) (refers reference)) in
+        (two_hold (not (gives count (j + 1))) (not (bytes_eq reference reference)) (error_of (i + 1) (mark_at marks_here i) 1 Count) (error_of (i + 1) (mark_at marks_here i) 2 Reference) (counts count (length mids + 2) (j + 1) counted (omega arith)) (refers reference)) in
         let last_here : Some ending ≡ head_here (ending ∷ []) (i + 1 + 1) =
         sym (ap (λ (b : Bool). let none : Option Head = None in cond b (Some ending) none) (eq-eqb (length mids + 4) (i + 1 + 1) (omega arith))) in
         let none_after : [] ≡ heads_after (ending ∷ []) (i + 1 + 1) =
         sym (ap (λ (b : Bool). cond b [] (ending ∷ [])) (eq-eqb (length mids + 4) (i + 1 + 1) (omega arith))) in
-        let third_done : IsDone heads_here marks_here (i + 1 + 1) (known_at true (i + 1 + 1) None (j + 1 + 1) 1 (omega arith) (omega arith)) [] [] [] =
-        done_next heads_here marks_here (i + 1) (known_at false (i + 1) None (j + 1) 1 (omega arith) (omega arith)) (known_at true (i + 1 + 1) None (j + 1 + 1) 1 (omega arith) (omega arith)) (ending ∷ []) [] (mz ∷ []) [] [] [] mz (Some ending)
-        (omega (arith, long)) second refl last_here none_after
+        let third_done : IsDone heads_here marks_here (i + 1 + 1) (known_at true (i + 1 + 1) None (j + 1 + 1) 1 (omega arith) (omega arith)) [] [] =
+        done_one heads_here marks_here (i + 1) (known_at false (i + 1) None (j + 1) 1 (omega arith) (omega arith)) (known_at true (i + 1 + 1) None (j + 1 + 1) 1 (omega arith) (omega arith)) (ending ∷ []) [] [] [] (Some ending)
+        (omega (arith, long)) second last_here none_after
         (record { has_groups = refl; interchange = refl; ended = refl; message = refl; message_segments = refl; group = refl; group_messages = refl; segments = refl; groups = refl; messages = refl })
-        (two_hold (not (gives last 1)) (not (bytes_eq own own)) (error_of (i + 1 + 1) mz 1 Count) (error_of (i + 1 + 1) mz 2 Reference) (counts last 1 1 one refl) (refers own)) in
-        sym (done_all heads_here marks_here (i + 1 + 1) (known_at true (i + 1 + 1) None (j + 1 + 1) 1 (omega arith) (omega arith)) [] [] [] third_done (omega (arith, long)))
-
-    -- the segments between UNH and UNT
-    mid_walk : (left : List SegmentMark) (i j : ℕ) (few_j : j ≤ i) (few_m : 1 ≤ i) → i + length left ≡ length mids + 2 → j + length left ≡ length mids + 1
-        → IsDone heads_here marks_here i (known_at false i (Some (lent message)) j 1 few_j few_m) (closing ∷ ending ∷ []) (left ++ mu ∷ mz ∷ []) [] → envelope_errors_of heads_here marks_here ≡ []
-    unfolding errors_by rules_by
-    mid_walk [] i j few_j few_m at_i at_j done = end_walk i j few_j few_m (omega arith) (omega arith) done
-    mid_walk (m ∷ left) i j few_j few_m at_i at_j done =
-        let other_here : None ≡ head_here (closing ∷ ending ∷ []) (i + 1) =
-        sym (ap (λ (b : Bool). cond b (Some closing) None) (ne_eqb (length mids + 3) (i + 1) (λ same. omega arith))) in
-        let other_after : closing ∷ ending ∷ [] ≡ heads_after (closing ∷ ending ∷ []) (i + 1) =
-        sym (ap (λ (b : Bool). cond b (ending ∷ []) (closing ∷ ending ∷ [])) (ne_eqb (length mids + 3) (i + 1) (λ same. omega arith))) in
-        mid_walk left (i + 1) (j + 1) (omega arith) (omega arith) (omega arith) (omega arith)
-        (done_next heads_here marks_here i (known_at false i (Some (lent message)) j 1 few_j few_m) (known_at false (i + 1) (Some (lent message)) (j + 1) 1 (omega arith) (omega arith)) (closing ∷ ending ∷ []) (closing ∷ ending ∷ []) (m ∷ (left ++ mu ∷ mz ∷ [])) (left ++ mu ∷ mz ∷ []) [] [] m None
-        (omega (arith, long)) done refl other_here other_after
-        (record { has_groups = refl; interchange = refl; ended = refl; message = refl; message_segments = refl; group = refl; group_messages = refl; segments = refl; groups = refl; messages = refl })
-        refl)
+        (two_hold (not (gives last 1)) (not (bytes_eq own own)) (error_of (i + 1 + 1) (mark_at marks_here (i + 1)) 1 Count) (error_of (i + 1 + 1) (mark_at marks_here (i + 1)) 2 Reference) (counts last 1 1 one refl) (refers own)) in
+        sym (done_all heads_here marks_here (i + 1 + 1) (known_at true (i + 1 + 1) None (j + 1 + 1) 1 (omega arith) (omega arith)) [] [] third_done (omega (arith, long)))
 
     pub envelope_free : envelope_errors_of heads_here marks_here ≡ []
     unfolding errors_by rules_by
     envelope_free =
-        let first : IsDone heads_here marks_here 0 (known_at false 0 None 0 0 (omega arith) (omega arith)) heads_here marks_here [] =
-        done_first heads_here marks_here (known_at false 0 None 0 0 (omega arith) (omega arith)) marks_here [] fits
-        (record { has_groups = refl; interchange = refl; ended = refl; message = refl; group = refl; segments = refl; groups = refl; messages = refl }) refl refl in
-        let second : IsDone heads_here marks_here 1 (known_at false 1 None 1 0 (omega arith) (omega arith)) (message ∷ closing ∷ ending ∷ []) (mh ∷ (mids ++ mu ∷ mz ∷ [])) [] =
-        done_next heads_here marks_here 0 (known_at false 0 None 0 0 (omega arith) (omega arith)) (known_at false 1 None 1 0 (omega arith) (omega arith)) heads_here (message ∷ closing ∷ ending ∷ []) marks_here (mh ∷ (mids ++ mu ∷ mz ∷ [])) [] [] mb (Some opening)
-        (omega (arith, long)) first refl refl refl
+        let first : IsDone heads_here marks_here 0 (known_at false 0 None 0 0 (omega arith) (omega arith)) heads_here [] =
+        done_first heads_here marks_here (known_at false 0 None 0 0 (omega arith) (omega arith)) [] fits
+        (record { has_groups = refl; interchange = refl; ended = refl; message = refl; group = refl; segments = refl; groups = refl; messages = refl }) refl in
+        let second : IsDone heads_here marks_here 1 (known_at false 1 None 1 0 (omega arith) (omega arith)) (message ∷ closing ∷ ending ∷ []) [] =
+        done_one heads_here marks_here 0 (known_at false 0 None 0 0 (omega arith) (omega arith)) (known_at false 1 None 1 0 (omega arith) (omega arith)) heads_here (message ∷ closing ∷ ending ∷ []) [] [] (Some opening)
+        (omega (arith, long)) first refl refl
         (record { has_groups = refl; interchange = refl; ended = refl; message = refl; message_segments = refl; group = refl; group_messages = refl; segments = refl; groups = refl; messages = refl })
         refl in
-        mid_walk mids 2 1 (omega arith) (omega arith) (omega arith) (omega arith)
-        (done_next heads_here marks_here 1 (known_at false 1 None 1 0 (omega arith) (omega arith)) (known_at false 2 (Some (lent message)) 1 1 (omega arith) (omega arith)) (message ∷ closing ∷ ending ∷ []) (closing ∷ ending ∷ []) (mh ∷ (mids ++ mu ∷ mz ∷ [])) (mids ++ mu ∷ mz ∷ []) [] [] mh (Some message)
-        (omega (arith, long)) second refl refl refl
+        let third : IsDone heads_here marks_here 2 (known_at false 2 (Some (lent message)) 1 1 (omega arith) (omega arith)) (closing ∷ ending ∷ []) [] =
+        done_one heads_here marks_here 1 (known_at false 1 None 1 0 (omega arith) (omega arith)) (known_at false 2 (Some (lent message)) 1 1 (omega arith) (omega arith)) (message ∷ closing ∷ ending ∷ []) (closing ∷ ending ∷ []) [] [] (Some message)
+        (omega (arith, long)) second refl refl
         (record { has_groups = refl; interchange = refl; ended = refl; message = refl; message_segments = refl; group = refl; group_messages = refl; segments = refl; groups = refl; messages = refl })
-        refl)
+        refl in
+        -- the segments between UNH and UNT
+        end_walk (2 + length mids) (1 + length mids) (omega arith) (omega arith) (omega arith) (omega arith)
+        (sound_done heads_here marks_here 2 (length mids) (known_at false 2 (Some (lent message)) 1 1 (omega arith) (omega arith)) (known_at false (2 + length mids) (Some (lent message)) (1 + length mids) 1 (omega arith) (omega arith))
+        (closing ∷ ending ∷ []) [] refl refl (omega arith) third
+        (record { has_groups = refl; interchange = refl; ended = refl; message = refl; message_segments = refl; group = refl; group_messages = refl; segments = refl; groups = refl; messages = refl }))

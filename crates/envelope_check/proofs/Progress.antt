@@ -5,6 +5,7 @@ use Rattle.std.specs.List.{range_with_len, flat_map}
 use Rattle.std.proofs.lemmas.List.Concat.{flat_map-append}
 use Rattle.edi_tables.specs.Rows.{when}
 use Rattle.error_ledger.specs.declared.error.ErrorLine.{ErrorLine}
+use Rattle.error_ledger.specs.declared.kind.Kind.{Kind}
 use Rattle.error_ledger.specs.declared.kind.Kind.TheVariants.{NoUnb, NoUnz}
 use Rattle.envelope_check.specs.declared.head.Head.{Head}
 use Rattle.envelope_check.specs.declared.head.SegmentMark.{SegmentMark}
@@ -55,7 +56,8 @@ errors_more heads marks i =
     ∙ sym (flat_map-append (envelope_errors_at heads marks) (range_with_len 0 i) (i ∷ []))
     ∙ ap (flat_map (envelope_errors_at heads marks)) (sym (ap (range_with_len 0) (add-one i) ∙ range_more 0 i i (omega arith))))
 
-done_one : (heads : List Head) (marks : List SegmentMark) (i : ℕ) (old new : Known) (rest after : List Head) (errors result : List ErrorLine) (here : Option Head)
+-- the segment at place i is done
+pub done_one : (heads : List Head) (marks : List SegmentMark) (i : ℕ) (old new : Known) (rest after : List Head) (errors result : List ErrorLine) (here : Option Head)
     → i < length marks → IsDone heads marks i old rest errors → here ≡ head_here rest (i + 1) → after ≡ heads_after rest (i + 1) → IsKnownAfter old here new
     → result ≡ errors ++ errors_by (i + 1) (mark_at marks i) (rules_by old here after) → IsDone heads marks (i + 1) new after result
 done_one heads marks i old new rest after errors result here within done here_is after_is next told =
@@ -71,15 +73,18 @@ done_one heads marks i old new rest after errors result here within done here_is
     }
 
 -- the next segment is done
-pub done_next : (heads : List Head) (marks : List SegmentMark) (old new : Known) (rest after : List Head) (errors result : List ErrorLine) (here : Option Head)
-    → old.segments < length marks → IsDone heads marks old.segments old rest errors → here ≡ head_here rest (old.segments + 1) → after ≡ heads_after rest (old.segments + 1) → IsKnownAfter old here new
-    → result ≡ errors ++ errors_by (old.segments + 1) (mark_at marks old.segments) (rules_by old here after) → IsDone heads marks new.segments new after result
-done_next heads marks old new rest after errors result here within done here_is after_is next told =
+pub done_next : (heads : List Head) (marks now : List SegmentMark) (old new : Known) (rest after : List Head) (errors result : List ErrorLine) (here : Option Head) (rules : List (Bool × ℕ × Kind))
+    → old.segments < length marks → now ≡ marks → IsDone heads marks old.segments old rest errors → here ≡ head_here rest (old.segments + 1) → after ≡ heads_after rest (old.segments + 1) → rules ≡ rules_by old here after
+    → result ≡ errors ++ errors_by (old.segments + 1) (mark_at now (old.segments + 1 - 1)) rules → IsKnownAfter old here new → IsDone heads marks new.segments new after result
+done_next heads marks now old new rest after errors result here rules within same done here_is after_is rules_are told next =
+    let mark : mark_at now (old.segments + 1 - 1) ≡ mark_at marks old.segments =
+    ap (λ ms. mark_at ms (old.segments + 1 - 1)) same ∙ ap (mark_at marks) (omega arith) in
+    let told_now = told ∙ ap (λ m. errors ++ errors_by (old.segments + 1) m rules) mark ∙ ap (λ rs. errors ++ errors_by (old.segments + 1) (mark_at marks old.segments) rs) rules_are in
     subst (λ i. IsDone heads marks i new after result) (sym next.segments)
-    (done_one heads marks old.segments old new rest after errors result here within done here_is after_is next told)
+    (done_one heads marks old.segments old new rest after errors result here within done here_is after_is next told_now)
 
 -- so are n segments that come before the next head, in an open message and before the end
-sound_done : (heads : List Head) (marks : List SegmentMark) (i n : ℕ) (old new : Known) (rest : List Head) (errors : List ErrorLine)
+pub sound_done : (heads : List Head) (marks : List SegmentMark) (i n : ℕ) (old new : Known) (rest : List Head) (errors : List ErrorLine)
     → old.ended ≡ false → is_some old.message ≡ true → i + n < next_number rest (length marks) → IsDone heads marks i old rest errors → IsKnownAfterOthers old n new → IsDone heads marks (i + n) new rest errors
 sound_done heads marks i zero old new rest errors before inside low done all =
     let same : IsDone heads marks i new rest errors =

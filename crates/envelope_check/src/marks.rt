@@ -9,7 +9,7 @@ pub trait SegmentMarks {
     /// Those of all segments, in order.
     ghost marks: { Self → List SegmentMark };
 
-    /// That of the segment at place `i`, from 0. The places that are asked for ascend.
+    /// That of the segment at place `i`, from 0. Callers ask in ascending order of places.
     fn mark(&mut self, i: u32) -> SegmentMark
         requires { i < length (marks self.old) }
         ensures is { slice_get (marks self.old) i ≡ Some result }

@@ -4,7 +4,7 @@ ghost use Rattle.std.specs.Option.{option_to_list};
 ghost use Rattle.envelope_check.specs.Heads.{Fits, head_place_of, place_by};
 
 use edi_tables::{Chunk, Tag};
-use envelope_check::{Head, HeadKind, SegmentMark, envelope_errors};
+use envelope_check::{Head, HeadKind, MarkList, SegmentMark, envelope_errors};
 use error_ledger::print_errors;
 use std::alloc::{AllocError, Global};
 use std::process::Abort;
@@ -85,7 +85,7 @@ fn expect(rt: &impl Abort, alloc: Global, rows: &[Row], wanted: &str) -> Result<
         push_row(alloc, &mut heads, &mut marks, row)?;
     }
     let total = marks.len() as u32;
-    let errors = envelope_errors(alloc, &heads, total, &marks)?;
+    let errors = envelope_errors(alloc, &heads, total, &mut MarkList { marks: &marks })?;
     let printed = print_errors(alloc, &errors)?;
     assert!(rt; printed.octets() == wanted.as_bytes(), "{wanted}");
     Ok(())
@@ -94,10 +94,14 @@ fn expect(rt: &impl Abort, alloc: Global, rows: &[Row], wanted: &str) -> Result<
 #[test]
 fn envelopes_are_judged(rt: HostRuntime) -> Result<(), Fail> {
     #[rattlefmt::skip]
-    let cases: [(&[Row], &str); 10] = [
+    let cases: [(&[Row], &str); 11] = [
         (&[("UNB", "", "R1", ""), ("UNH", "", "M1", ""), ("BGM", "", "", ""), ("UNT", "3", "M1", ""), ("UNZ", "01", "R1", "")],
             "errors 0\n"),
         (&[], "errors 2\n0 0 --- 0 0 13 no-unb\n0 0 --- 0 0 13 no-unz\n"),
+        // A run of segments that UNT counts, and one that the text ends with.
+        (&[("UNB", "", "R1", ""), ("UNH", "", "M1", ""), ("BGM", "", "", ""), ("DTM", "", "", ""), ("NAD", "", "", ""), ("UNT", "5", "M1", ""),
+            ("UNH", "", "M2", ""), ("BGM", "", "", ""), ("DTM", "", "", "")],
+            "errors 1\n0 0 --- 0 0 13 no-unz\n"),
         // A message after the groups.
         (&[("UNB", "", "R1", ""), ("UNG", "", "G1", "A"), ("UNH", "", "M1", "A"), ("UNT", "2", "M1", ""), ("UNE", "1", "G1", ""),
             ("UNH", "", "M2", "A"), ("UNT", "2", "M2", ""), ("UNZ", "1", "R1", "")],

@@ -32,7 +32,7 @@ is_marked kept =
     stops_message kept.tag || not (is_none_of kept.local)
     || (is_within kept.step.after && not (is_well_placed kept.step))
 
--- how many of one segment are marked
+-- a segment is marked once, or not at all
 abbrev pub marks_of : Kept → ℕ
 marks_of kept = if is_marked kept then 1 else 0
 

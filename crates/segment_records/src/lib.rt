@@ -1,9 +1,10 @@
 //! What a reading keeps of each segment of a text: its local errors, where it is in its message, and the mode after it. And
-//! the walk over these: the segments of a text, one after the other, each by its record, the text and the directory.
+//! the walks over these, each by its record, the text and the directory: all segments of a text, one after the other, or the
+//! notable ones alone.
 //!
 //! `Count`, `Errors`, `Heads` and `Openers` of its definitions are rules on segments by themselves. `Groups`, `Line`, `Look`,
-//! `Notable`, `Spans`, `Told`, `Walked` and `WalkedSegments` say the same of a segment by what is seen of it in a walk over records, and
-//! laws in `proofs` lead from these to those.
+//! `Spans`, `Told`, `Walked` and `WalkedSegments` say the same of a segment by what is seen of it in a walk over records, and
+//! laws in `proofs` lead from these to those. `Notable` says which segments have to be looked at.
 #![tactic(auto)]
 
 mod errors;

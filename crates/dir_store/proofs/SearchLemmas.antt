@@ -98,6 +98,17 @@ module _ {A : Type 0} (name : A → List ℕ) (wanted : List ℕ) where
       let parts = is (rises (x ∷ xs) order) in
       none x xs i within parts.0 parts.1
 
+  -- a member of the name is the one that is found, at whatever place
+  pub named-item : (xs : List A) (i : ℕ) (x : Bor A) → IsAscendingBy name xs → IsItemAt xs i (Some x) → name x.now ≡ wanted → Some x.now ≡ named_in name xs wanted
+  named-item xs i x order item is =
+      let at : slice_get xs i ≡ Some x.now = slice_get_read xs (length xs) i x.now refl item.3.0 item.1 in
+      let same : name (get_or xs i x.now) ≡ wanted = ap name (sym item.1) ∙ is in
+      let place : position_or_len is_wanted xs ≡ i =
+      position_or_len_is is_wanted xs i x.now (omega (arith, item.3.0))
+      (λ k lt. subst (λ w. bytes_eq (name (get_or xs k x.now)) w ≡ false) same (differ-from-before (name (get_or xs k x.now)) (name (get_or xs i x.now)) (order k i x.now lt item.3.0)))
+      (λ _. (bytes_eq-Decides (name (get_or xs i x.now)) wanted).1 same) in
+      sym (find_at is_wanted xs ∙ ap (slice_get xs) place ∙ at)
+
 -- and there is one exactly where the search finds a place
 pub searched-some : {A : Type 0} (xs : List A) (r : Result ℕ ℕ) → IsSearchInRange r (length xs) → is_ok r ≡ is_some (member_at xs r)
 searched-some [] (Ok i) within = absurd (omega (arith, within))

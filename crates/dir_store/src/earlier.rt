@@ -10,29 +10,57 @@ ghost use Rattle.dir_compile.specs.Compile.{
   segment_name,
 };
 
+use crate::hints::Hints;
 use crate::version::StoreVersion;
 use edi_tables::{Code, CompositeDef, ElementDef, SegmentDef, Tag};
 use std::cmp::Ordering;
 
 /// The version of a store, and the definitions of the sections so far, each kind in ascending order of names. A name is
-/// found by halving.
+/// found by halving, after a look at the place that a hint gives.
 #[derive(Clone, Copy)]
 pub(crate) struct EarlierDefinitions<'a> {
     pub version: StoreVersion,
     pub elements: &'a [ElementDef],
     pub composites: &'a [CompositeDef],
     pub segments: &'a [SegmentDef],
+    pub element_hints: &'a Hints,
+    pub segment_hints: &'a Hints,
     ghost elements_ascend: { IsAscendingBy element_name elements.now },
     ghost composites_ascend: { IsAscendingBy composite_name composites.now },
     ghost segments_ascend: { IsAscendingBy segment_name segments.now },
 }
 
 impl<'a> EarlierDefinitions<'a> {
-    ghost use Rattle.std.specs.Prelude.{is_some};
+    ghost use Rattle.std.specs.Prelude.{IfSome, Some, is_some, true};
     ghost use Rattle.dir_compile.specs.Compile.{named_in};
 
     /// The data element of that code, if there is one.
+    #[inline]
     pub fn element(&self, code: Code) -> Option<&'a ElementDef>
+        ensures { option_copied result ≡ named_in element_name self.now.elements.now code.octets }
+    {
+        match self.hinted_element(code) {
+            Some(element) => Some(element),
+            None => self.search_element(code),
+        }
+    }
+
+    // The data element of that code, where it is at the place that is looked at first.
+    #[inline]
+    fn hinted_element(&self, code: Code) -> Option<&'a ElementDef>
+        ensures { IfSome result (λ element.
+            Some element.now ≡ named_in element_name self.now.elements.now code.octets) }
+    {
+        let element = self.elements.get(self.element_hints.of_code(code))?;
+        if element.code == code {
+            Some(element)
+        } else {
+            None
+        }
+    }
+
+    // The data element of that code by halving, if there is one.
+    fn search_element(&self, code: Code) -> Option<&'a ElementDef>
         ensures { option_copied result ≡ named_in element_name self.now.elements.now code.octets }
     {
         let wanted = code.octets.as_slice();
@@ -54,7 +82,27 @@ impl<'a> EarlierDefinitions<'a> {
     }
 
     /// Whether there is a segment of that tag.
+    #[inline]
     pub fn has_segment(&self, tag: Tag) -> bool
+        ensures { result ≡ is_some (named_in segment_name self.now.segments.now tag.octets) }
+    {
+        self.hints_at_segment(tag) || self.search_segment(tag)
+    }
+
+    // Whether a segment of that tag is at the place that is looked at first.
+    #[inline]
+    fn hints_at_segment(&self, tag: Tag) -> bool
+        ensures { result ≡ true
+            → is_some (named_in segment_name self.now.segments.now tag.octets) ≡ true }
+    {
+        match self.segments.get(self.segment_hints.of_tag(tag)) {
+            Some(segment) => segment.tag == tag,
+            None => false,
+        }
+    }
+
+    // Whether there is a segment of that tag, by halving.
+    fn search_segment(&self, tag: Tag) -> bool
         ensures { result ≡ is_some (named_in segment_name self.now.segments.now tag.octets) }
     {
         self.segments
@@ -73,9 +121,9 @@ fn compare_tags(tag: Tag, other: Tag) -> Ordering
     tag_number(tag).cmp(&tag_number(other))
 }
 
-// The octets of a tag as one number, the first of them highest.
+/// The octets of a tag as one number, the first of them highest.
 #[inline]
-fn tag_number(tag: Tag) -> u32
+pub(crate) fn tag_number(tag: Tag) -> u32
     ensures value { result
         ≡ slice_index tag.octets 0 * 65536 + slice_index tag.octets 1 * 256
         + slice_index tag.octets 2 }

@@ -38,6 +38,9 @@ pub trait Entry: Sized + Drop {
         ensures { OnOk result (out.new ≡ out.old ++ text self.now) };
 }
 
+// For how many members there is room at first: no message has more rows. A greater count may be wrong.
+const MOST_ROOM: u64 = 2000;
+
 /// Reads so many members, and gives the octets after them.
 pub fn read_several<'o, T: Entry>(
     alloc: Global,
@@ -48,7 +51,7 @@ pub fn read_several<'o, T: Entry>(
     ensures { IsVerdict (λ x. (x.0.items, x.1.now)) left_in result
         (several count (T.read_at known.now) [] octets.now) }
 {
-    let mut members = Vec::new(alloc);
+    let mut members = Vec::with_capacity(alloc, count.min(MOST_ROOM) as usize)?;
     let mut rest = octets;
     for _ in 0..count {
         let (member, after) = T::read(alloc, known, members.last(), rest)?;

@@ -5,6 +5,7 @@ mod definition_line;
 mod definitions;
 mod earlier;
 mod entry;
+mod hints;
 mod label_line;
 mod line;
 mod line_stop;

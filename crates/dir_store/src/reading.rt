@@ -13,6 +13,7 @@ ghost use Rattle.edi_octets.specs.declared.octets.TheConstants.{LONGEST_TEXT};
 
 use crate::earlier::EarlierDefinitions;
 use crate::entry::read_section;
+use crate::hints::Hints;
 use crate::label_line::read_labels;
 use crate::line::read_line;
 use crate::line_stop::Stop;
@@ -69,19 +70,26 @@ fn read_definitions(
 ) -> Result<Parts, Stop>
     ensures { IsVerdict (λ parts. parts) left_in result (definitions_at version labels octets.now) }
 {
+    let no_hints = Hints::none();
     let mut known = EarlierDefinitions {
         version,
         elements: &[],
         composites: &[],
         segments: &[],
+        element_hints: &no_hints,
+        segment_hints: &no_hints,
     };
     let (elements, rest) = read_section::<ElementDef>(alloc, &known, b"E", octets)?;
+    let element_hints = Hints::of_elements(&elements);
     known.elements = &elements;
+    known.element_hints = &element_hints;
     let (lists, rest) = read_section(alloc, &known, b"L", rest)?;
     let (composites, rest) = read_section::<CompositeDef>(alloc, &known, b"C", rest)?;
     known.composites = &composites;
     let (segments, rest) = read_section::<SegmentDef>(alloc, &known, b"S", rest)?;
+    let segment_hints = Hints::of_segments(&segments);
     known.segments = &segments;
+    known.segment_hints = &segment_hints;
     let (messages, rest) = read_section(alloc, &known, b"T", rest)?;
     read_end(rest)?;
     Ok(Parts {

@@ -4,7 +4,7 @@ use Rattle.std.specs.Ordering.{nat_cmp}
 use Rattle.std.proofs.lemmas.Fn.{always_returns_same}
 use Rattle.dir_compile.specs.Compile.{element_name}
 use Rattle.dir_store.proofs.SearchLemmas.{named-searched, nowhere, somewhere, copied-at}
-use Rattle.dir_store.proofs.earlier.EarlierDefinitions.element.Goals as goal
+use Rattle.dir_store.proofs.earlier.EarlierDefinitions.search_element.Goals as goal
 
 pub returns-in_err-place : goal.returns-in_err-place
 returns-in_err-place c =

@@ -4,7 +4,7 @@ use Rattle.std.specs.Ordering.{nat_cmp}
 use Rattle.std.proofs.lemmas.Fn.{always_returns_same}
 use Rattle.dir_compile.specs.Compile.{segment_name}
 use Rattle.dir_store.proofs.SearchLemmas.{named-searched, searched-some}
-use Rattle.dir_store.proofs.earlier.EarlierDefinitions.has_segment.Goals as goal
+use Rattle.dir_store.proofs.earlier.EarlierDefinitions.search_segment.Goals as goal
 
 pub returns : goal.returns
 returns c =

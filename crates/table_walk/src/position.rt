@@ -75,6 +75,7 @@ impl<'a> Position<'a> {
     }
 
     /// Where a segment with this tag is: at the first candidate with the least rank. With its rank.
+    #[inline(always)]
     pub fn member(&self, tag: Option<Tag>) -> Best
         ensures entry { result.entry ≡ member_in self.now.table.now self.now.pairs.now tag }
         ensures rank { result.rank
@@ -93,6 +94,7 @@ impl<'a> Position<'a> {
     //
     // Most often the first has rank 0, and nothing more is looked for. Else it stops at a candidate
     // that can't better the best so far: ranks are at least 2 once a candidate misses a node.
+    #[inline(always)]
     fn best_from(&self, tag: Option<Tag>, first: u16, others: Candidates<'_>) -> Best
         requires within { first < length self.now.table.now }
         requires inside { All (λ c. c < length self.now.table.now) others }
@@ -139,6 +141,7 @@ impl<'a> Position<'a> {
     }
 
     /// The pairs after a candidate, if they are few. It takes no memory.
+    #[inline(always)]
     pub fn few_next(&self, candidate: u16) -> Option<FewPairs>
         requires within { candidate < length self.now.table.now }
         requires few { AreCountsUpTo 4194303 self.now.pairs.now }

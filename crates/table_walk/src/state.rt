@@ -79,6 +79,7 @@ impl State {
     }
 
     /// Where the next segment is, and the state after it. The call is counted.
+    #[inline(always)]
     pub fn place<L: Ledger>(
         &self,
         alloc: Global,
@@ -171,6 +172,7 @@ impl State {
 }
 
 // The state after an entry that a position goes to.
+#[inline(always)]
 fn state_next(alloc: Global, position: &Position<'_>, entry: u16) -> Result<State, AllocError>
     requires within { entry < length position.now.table.now }
     requires few { AreCountsUpTo 4194303 position.now.pairs.now }

@@ -1,6 +1,6 @@
 -- The segments between the notable ones say nothing: lines, heads, groups and messages are those of the notable ones.
 use Rattle.std.proofs.Common.{◌≡◌, ℕ, ◌+◌, Bool, true, false, cond, List, [], ◌∷◌, ◌++◌, Option, Some, None, refl, sym, ap, ◌∙◌, inl, inr}
-use Rattle.std.specs.Prelude.{filter, All, codes, not, ◌||◌, ◌&&◌, is_some, map, find, if◌then◌else◌}
+use Rattle.std.specs.Prelude.{filter, All, codes, not, ◌||◌, ◌&&◌, is_some, map, if◌then◌else◌}
 use Rattle.std.specs.Option.{option_map}
 use Rattle.std.specs.List.{filter_map, flat_map, cons_option}
 use Rattle.std.proofs.lemmas.Bool.{cases_Bool}
@@ -9,8 +9,6 @@ use Rattle.dir_compile.specs.declared.parts.Parts.{Parts}
 use Rattle.edi_tables.specs.declared.tag.Tag.{Tag}
 use Rattle.edi_tables.specs.Rows.{has_name}
 use Rattle.envelope_check.specs.Heads.{kind_of}
-use Rattle.envelope_check.specs.declared.head.Head.{Head}
-use Rattle.envelope_check.specs.declared.head.HeadKind.{HeadKind}
 use Rattle.envelope_check.specs.declared.head.HeadKind.TheVariants.{Unb, Ung, Unh, Unt, Une, Unz}
 use Rattle.contrl_segments.specs.declared.summary.GroupHead.{GroupHead}
 use Rattle.contrl_segments.specs.declared.summary.MessageHead.{MessageHead}

@@ -1,7 +1,7 @@
-use Rattle.std.proofs.Common.{◌≡◌, ℕ, ◌+◌, ◌-◌, ◌≤◌, take, drop, refl, sym, ◌∙◌, arith}
+use Rattle.std.proofs.Common.{◌≡◌, ◌+◌, ◌-◌, ◌≤◌, take, drop, refl, sym, ◌∙◌, arith}
 use Rattle.std.specs.Prelude.{slice_get}
 use Rattle.std.specs.Option.{option_copied}
-use Rattle.segment_records.specs.WalkedSegments.{AreStretches, mode_left, octets_in}
+use Rattle.segment_records.specs.WalkedSegments.{mode_left, octets_in}
 use Rattle.segment_records.proofs.Skipping.{made_alike, octets_next, place_short, seen_get, stretches_at_place}
 use Rattle.segment_records.proofs.Walking.{first_filled, first_within}
 use Rattle.segment_records.proofs.notable.Nearby.segment_at.Goals as goal

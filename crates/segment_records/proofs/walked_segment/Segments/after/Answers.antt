@@ -1,6 +1,5 @@
-use Rattle.std.proofs.Common.{◌≡◌, ℕ, ◌+◌, List, take, drop, sym, ap, ◌∙◌, subst, arith}
+use Rattle.std.proofs.Common.{◌≡◌, ℕ, ◌+◌, take, drop, sym, ap, ◌∙◌, subst, arith}
 use Rattle.std.specs.Option.{option_copied}
-use Rattle.segment_records.specs.Records.{Kept}
 use Rattle.segment_records.specs.WalkedSegments.{AreStretches, left_of, mode_left, octets_in, seen_from}
 use Rattle.segment_records.specs.declared.mode.Mode.{Mode}
 use Rattle.segment_records.proofs.Skipping.{place_short, seen_drop, stretches_drop}

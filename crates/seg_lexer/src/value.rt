@@ -213,11 +213,14 @@ fn next_released<O: Octets>(written: &mut StretchOctets<'_, O>) -> Option<u8>
     written.next()
 }
 
-/// Whether one of these octets is the release character, if there is one.
+/// Whether one of these octets is the release character, if there is one. Many octets are looked at at once.
 pub fn has_release(release: Option<u8>, part: &[u8]) -> bool
     ensures { result ≡ list_any (is_release_of release) part.now }
 {
-    part.iter().any(|octet| is_release(release, *octet))
+    match release {
+        Some(release) => part.contains(&release),
+        None => false,
+    }
 }
 
 /// Whether an octet is the release character, if there is one.

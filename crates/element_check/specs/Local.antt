@@ -67,7 +67,7 @@ parts_in rules (Composite code must reps) = parts_of rules code.octets
 abbrev pub is_failed : SegmentRules → PartDef → Option CodeList → Octets → Kind → Bool
 is_failed rules part list value kind = has_octet value && fails rules.context part.repr list value kind
 
--- an item needs a value that a repetition lacks: a stand-alone data element its first component, a composite any component
+-- an item needs a value that a repetition lacks: a stand-alone data element its first component, a composite any one
 abbrev pub is_missing : ItemDef → List Octets → Bool
 is_missing (Alone part reps) values = part.must && not (has_octet (value_at values 1))
 is_missing (Composite code must reps) values = must && not (is_used values)
@@ -88,8 +88,8 @@ is_broken_whole rules (Some (Composite code must reps)) values kind = false
 abbrev pub list_in : SegmentRules → List PartDef → List Octets → PartDef → Option CodeList
 list_in rules parts values part = if is_list_named parts values then None else list_of rules part.code.octets
 
--- a repetition breaks the rule of a kind at a component of an element that has this item, by the part that it is and its
--- value: at one that is past the last part, or at a part of a composite
+-- a repetition breaks the rule of a kind at a component of an element that has this item, by the part that it is and
+-- its value: at one that is past the last part, or at a part of a composite
 abbrev pub is_broken_part : SegmentRules → ItemDef → List Octets → Option PartDef × Octets → Kind → Bool
 is_broken_part rules item values (None, value) TooManyComponents = has_octet value
 is_broken_part rules item values (None, value) kind = false
@@ -115,7 +115,8 @@ is_repeated_too_often (Some item) repetitions = list_any is_used (drop (reps_of 
 -- the rule of a kind is broken at an element as a whole, which has these repetitions: some repetition breaks it; but a
 -- value is missing only where every repetition lacks it
 abbrev pub is_element_broken : SegmentRules → Option ItemDef → List (List Octets) → Kind → Bool
-is_element_broken rules item repetitions Missing = list_all (λ values. is_broken_whole rules item values Missing) repetitions
+is_element_broken rules item repetitions Missing =
+    list_all (λ values. is_broken_whole rules item values Missing) repetitions
 is_element_broken rules item repetitions TooManyRepetitions = is_repeated_too_often item repetitions
 is_element_broken rules item repetitions kind = list_any (λ values. is_broken_whole rules item values kind) repetitions
 

@@ -26,6 +26,7 @@ pub enum Lexed {
 
 /// The segment that begins at a boundary, which is the body's start or the octet after a terminator; or else the tail
 /// or nothing. The segments of a text are found by going on from the octet after each terminator.
+#[inline(always)]
 pub fn next_segment<O: Octets, L: Ledger>(
     text: &O,
     service: &Service,

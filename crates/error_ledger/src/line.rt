@@ -1,6 +1,7 @@
 //! A printed line, laid out from its end.
 ghost use Rattle.std.specs.Prelude.{◌≡◌, ℕ, ◌+◌, ◌≤◌, List, [], ◌++◌, length, take, drop, replicate, decimal};
 
+use itoa::write_digits;
 use std::marker::Model;
 
 /// The most octets of a line that is laid out.
@@ -52,15 +53,7 @@ impl Line {
         ensures digits { self.new ≡ decimal n ++ self.old }
         ensures few_digits { length self.new ≤ length self.old + 10 }
     {
-        let mut at = self.at;
-        let mut left = n;
-        while left >= 10 {
-            at -= 1;
-            self.octets[at] = b'0' + (left % 10) as u8;
-            left /= 10;
-        }
-        self.at = at - 1;
-        self.octets[self.at] = b'0' + left as u8;
+        self.at = write_digits(u64::from(n), &mut self.octets, self.at);
     }
 
     /// Puts so many spaces in front.

@@ -47,6 +47,7 @@ pub fn put_tree_head(out: &mut Chunk, lines: usize) -> Result<(), AllocError>
 /// answers how many these are. A segment that opens a group lies in it, so that its depth is at least 1. Where memory is
 /// refused, a part of them may be put.
 #[tactic(auto, using(crate::proofs::PrintLemmas::lines_of_segment))]
+#[inline(always)]
 pub fn put_tree_line(out: &mut Chunk, line: &TreeLine) -> Result<usize, AllocError>
     requires { IsWellPlaced line.now }
     ensures printed { OnOk result (out.new ≡ out.old ++ ended_lines (tree_lines line.now)) }
@@ -80,6 +81,7 @@ fn opens_group(line: &TreeLine) -> bool
 
 // The lines of a segment.
 #[tactic(auto, using(edi_tables::proofs::GrowingLaws::grown_then), unfolding(crate::specs::Printing::lines_at))]
+#[inline(always)]
 fn put_segment(out: &mut Chunk, line: &TreeLine) -> Result<(), AllocError>
     requires { IsWellPlaced line.now }
     ensures ok { OnOk result (out.new ≡ out.old ++ ended_lines (tree_lines line.now)) }
@@ -116,6 +118,7 @@ fn put_marked(out: &mut Chunk, mark: &[u8], number: u32, tag: Option<Tag>) -> Re
 
 // The line of a segment at its entry.
 #[tactic(auto, unfolding(crate::specs::Printing::placed_line))]
+#[inline(always)]
 fn put_placed(
     out: &mut Chunk,
     number: u32,
@@ -137,6 +140,7 @@ fn put_placed(
 
 // The line of the group that an entry opens, if it opens one.
 #[tactic(auto, using(edi_tables::proofs::GrowingLaws::grown_same))]
+#[inline(always)]
 fn put_opening(out: &mut Chunk, depth: u8, opens: Option<GroupMark>) -> Result<(), AllocError>
     requires { IfSome opens (λ _. 1 ≤ depth) }
     ensures ok { OnOk result (out.new ≡ out.old ++ ended_lines (opening_lines depth opens)) }
@@ -150,6 +154,7 @@ fn put_opening(out: &mut Chunk, depth: u8, opens: Option<GroupMark>) -> Result<(
 
 // The line of a group that is opened.
 #[tactic(auto, unfolding(crate::specs::Printing::group_line))]
+#[inline(always)]
 fn put_group(out: &mut Chunk, mark: GroupMark, depth: u8) -> Result<(), AllocError>
     ensures ok { OnOk result (out.new ≡ out.old ++ (group_line mark depth ++ 10 ∷ [])) }
     ensures grown { HasGrown out.old out.new }

@@ -109,6 +109,8 @@ impl<T: Measured> Tree<T> {
         ensures marked { T.marks result.item.now ≡ 1 }
         ensures rank { sum_by T.marks (take result.place self.now.0) ≡ rank }
         ensures before { sum_by T.measure (take result.place self.now.0) ≡ result.before }
+        ensures here { (result.first ≤ result.place)
+            × (result.place < result.first + length result.leaf.now) }
         ensures inside { result.first + length result.leaf.now ≤ length self.now.0 }
         ensures leaf { slice_range self.now.0 result.first (result.first + length result.leaf.now)
             ≡ result.leaf.now }

@@ -117,6 +117,8 @@ impl<T: Measured> Seq<T> {
         ensures marked { T.marks result.item.now ≡ 1 }
         ensures rank { sum_by T.marks (take result.place self.now) ≡ rank }
         ensures before { sum_by T.measure (take result.place self.now) ≡ result.before }
+        ensures here { (result.first ≤ result.place)
+            × (result.place < result.first + length result.leaf.now) }
         ensures inside { result.first + length result.leaf.now ≤ length self.now }
         ensures leaf { slice_range self.now result.first (result.first + length result.leaf.now)
             ≡ result.leaf.now }

@@ -1,5 +1,5 @@
 //! A text with what is kept of its segments.
-ghost use Rattle.std.specs.Prelude.{◌≡◌, ◌+◌, ◌-◌, ◌≤◌, All, length, slice_index, IfOk};
+ghost use Rattle.std.specs.Prelude.{◌≡◌, ◌+◌, ◌-◌, ◌≤◌, All, drop, length, slice_index, IfOk};
 ghost use Rattle.dir_compile.specs.Directory.{IsDirectory};
 ghost use Rattle.seg_lexer.specs.Context.{context_of};
 ghost use Rattle.seg_lexer.specs.Segments.{boundaries_of, ends_of};
@@ -7,6 +7,7 @@ ghost use Rattle.seg_lexer.specs.Service.{IsUsable, service_of};
 ghost use Rattle.segment_records.specs.Messages.{mode_after};
 ghost use Rattle.segment_records.specs.Segments.{segments_of_text};
 ghost use Rattle.segment_records.specs.Count.{segment_count_of};
+ghost use Rattle.segment_records.specs.Notable.{notable_in};
 ghost use Rattle.segment_records.specs.WalkedSegments.{Follows, LiesIn, kept_in, seen_in};
 ghost use Rattle.kept_text.specs.Change.{changed_by};
 ghost use Rattle.kept_text.specs.Edit.{Edit, edited, reading_with, text_with};
@@ -22,7 +23,7 @@ use dir_compile::Directory;
 use edi_tables::Chunk;
 use piece_text::{Text, View};
 use seg_lexer::{Context, Service, read_context};
-use segment_records::{Mode, Record, Segments};
+use segment_records::{Mode, NotableSegments, Record, Segments};
 use seq_tree::Seq;
 use std::alloc::{AllocError, Global};
 use std::marker::Model;
@@ -292,6 +293,36 @@ impl<'d> KeptText<'d> {
         ensures lawful { IsDirectory self.now.directory }
     {
         Segments::of(
+            &self.records,
+            self.context.service.body as u32,
+            &self.outside,
+        )
+    }
+
+    /// Its segments from place `count` on, counted from 0. Those before it are not looked at one by one.
+    pub fn segments_after(&self, count: u32) -> Segments<'_>
+        requires { count ≤ segment_count_of self.now.text }
+        ensures { result ≡ drop count (seen_in self.now.directory self.now.text) }
+    {
+        Segments::after(
+            &self.records,
+            count as usize,
+            self.context.service.body as u32,
+            &self.outside,
+        )
+    }
+
+    /// Its notable segments in order: those that have an error, that open, close or stop a message or a functional group, or
+    /// that a message ends with. Those between them are not looked at.
+    pub fn notable_segments(&self) -> NotableSegments<'_>
+        ensures notable { result.0 ≡ notable_in self.now.directory self.now.text }
+        ensures follow { All (Follows self.now.directory) result.0 }
+        ensures inside { All (LiesIn self.now.text) result.0 }
+        ensures few { length result.0 ≤ LONGEST_TEXT }
+        ensures short { length self.now.text ≤ LONGEST_TEXT }
+        ensures lawful { IsDirectory self.now.directory }
+    {
+        NotableSegments::of(
             &self.records,
             self.context.service.body as u32,
             &self.outside,

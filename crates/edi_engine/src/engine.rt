@@ -141,8 +141,8 @@ impl<'d> Engine<'d> {
         self.kept.state_after(k)
     }
 
-    /// All errors of the text, in ascending order. Only want of memory is an error. The work grows with the number of
-    /// segments.
+    /// All errors of the text, in ascending order. Only want of memory is an error. The work grows with the notable segments:
+    /// those with an error, and those that open, close or stop a message or a functional group.
     pub fn errors(&self, alloc: Global) -> Result<Vec<ErrorLine>, AllocError>
         ensures exact { IfOk result
             (λ list. list.items ≡ errors_of self.now.directory self.now.text) }
@@ -177,7 +177,8 @@ impl<'d> Engine<'d> {
         print_tree(&self.kept, alloc)
     }
 
-    /// How the interchange is opened, its functional groups and messages, and its errors. Only want of memory is an error.
+    /// How the interchange is opened, its functional groups and messages, and its errors. Only want of memory is an error. The
+    /// work grows with the notable segments, as that of `errors`.
     pub fn summary(&self, alloc: Global) -> Result<Summary, AllocError>
         ensures summary { IfOk result
             (λ summary. summary ≡ summary_of self.now.directory self.now.text) }
@@ -186,7 +187,8 @@ impl<'d> Engine<'d> {
         make_summary(&self.kept, alloc)
     }
 
-    /// The acknowledgement of the text, made at a time, with a reference of its own. Only want of memory is an error.
+    /// The acknowledgement of the text, made at a time, with a reference of its own. Only want of memory is an error. The work
+    /// grows with the notable segments, as that of `errors`.
     pub fn contrl(
         &self,
         alloc: Global,

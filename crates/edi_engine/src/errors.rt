@@ -12,7 +12,8 @@ ghost use Rattle.segment_records.specs.Segments.{segments_of_text};
 ghost use Rattle.segment_records.specs.Heads.{heads_of, marks_of};
 ghost use Rattle.text_reading.specs.Errors.{errors_found, errors_of};
 
-use crate::heads::envelopes_of;
+use crate::heads::read_heads;
+use crate::marks::KeptMarks;
 use crate::opening::{put_advice, put_syntax, put_tail};
 use crate::structure::put_structure;
 use envelope_check::envelope_errors;
@@ -34,8 +35,7 @@ pub(crate) fn put_local(
     Ok(())
 }
 
-/// All errors of the text, in ascending order. Only want of memory is an error. The work grows with the number of
-/// segments.
+/// All errors of the text, in ascending order. Only want of memory is an error. The work grows with the notable segments.
 pub fn list_errors(kept: &KeptText<'_>, alloc: Global) -> Result<Vec<ErrorLine>, AllocError>
     ensures exact { IfOk result
         (λ list. list.items ≡ errors_of kept.now.directory kept.now.text) }
@@ -66,16 +66,12 @@ fn find_envelope_errors(kept: &KeptText<'_>, alloc: Global) -> Result<Vec<ErrorL
         errors.items
         ≡ envelope_errors_of (heads_of kept.now.directory segments) (marks_of segments)) }
 {
-    let envelopes = envelopes_of(kept, alloc)?;
-    envelope_errors(
-        alloc,
-        &envelopes.heads,
-        kept.segment_count(),
-        &envelopes.marks,
-    )
+    let heads = read_heads(kept, alloc)?;
+    let mut marks = KeptMarks::of(kept);
+    envelope_errors(alloc, &heads, kept.segment_count(), &mut marks)
 }
 
-// Puts the errors of each segment by itself and by its message.
+// Puts the errors of each segment by itself and by its message. Those that aren't notable have none.
 fn put_segments(
     kept: &KeptText<'_>,
     alloc: Global,
@@ -87,7 +83,7 @@ fn put_segments(
         (enumerate_from 0 segments))) }
 {
     let directory = kept.directory();
-    for seen in kept.segments() {
+    for seen in kept.notable_segments() {
         put_structure(alloc, directory, &seen, list)?;
         put_local(&seen, list)?;
     }

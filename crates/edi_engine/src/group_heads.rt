@@ -97,7 +97,7 @@ pub(crate) fn stops_group(tag: Option<Tag>) -> bool
     is_no_part(tag)
 }
 
-// Its functional groups, in order. Their values are read from the text.
+// Its functional groups, in order. Their values are read from the text. Only notable segments open or stop one.
 pub(crate) fn groups_of(kept: &KeptText<'_>, alloc: Global) -> Result<Vec<GroupHead>, AllocError>
     ensures { IfOk result (λ groups. groups.items ≡ groups_in (segments_of_text kept.now.text)) }
 {
@@ -106,7 +106,7 @@ pub(crate) fn groups_of(kept: &KeptText<'_>, alloc: Global) -> Result<Vec<GroupH
     let count = kept.segment_count();
     let mut groups = Vec::new(alloc);
     let mut current = None;
-    for seen in kept.segments() {
+    for seen in kept.notable_segments() {
         let tag = seen.record.tag();
         if stops_group(tag) {
             let last = last_by(is_named(b"UNE", tag), seen.number);

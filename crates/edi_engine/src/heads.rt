@@ -1,9 +1,9 @@
-//! The segments of a text as the rules on envelopes see them.
+//! The segments of a text that open or close an envelope.
 ghost use Rattle.std.specs.Prelude.{◌≡◌, ◌+◌, ◌≤◌, length, slice_range, IfOk, IfSome};
 ghost use Rattle.seg_lexer.specs.Fields.{components_of, separators_of};
 ghost use Rattle.seg_lexer.specs.Left.{components_left};
 ghost use Rattle.seg_lexer.specs.Service.{IsUsable};
-ghost use Rattle.segment_records.specs.Heads.{count_in, name_in, reference_in, heads_of, marks_of};
+ghost use Rattle.segment_records.specs.Heads.{count_in, heads_of, name_in, reference_in};
 ghost use Rattle.segment_records.specs.Look.{seen_of};
 ghost use Rattle.segment_records.specs.Told.{components_seen, head_seen};
 ghost use Rattle.segment_records.specs.WalkedSegments.{as_segment};
@@ -12,7 +12,7 @@ ghost use Rattle.edi_octets.specs.declared.octets.TheConstants.{LONGEST_TEXT};
 
 use edi_octets::{Flat, Octets};
 use edi_tables::Chunk;
-use envelope_check::{Head, HeadKind, SegmentMark};
+use envelope_check::{Head, HeadKind};
 use kept_text::KeptText;
 use seg_lexer::{Fields, Service, fields};
 use segment_records::{WalkedSegment, copy_two, copy_value};
@@ -171,35 +171,20 @@ fn copy_given<O: Octets>(
     }
 }
 
-/// What the rules on envelopes ask of a text: the segments that open or close one, in order, and the first octet and
-/// the tag of each segment.
-#[derive(Drop)]
-pub(crate) struct Envelopes {
-    pub(crate) heads: Vec<Head>,
-    pub(crate) marks: Vec<SegmentMark>,
-}
-
-// Its heads and marks, in one walk over its segments. The values of the heads are read from the text.
-pub(crate) fn envelopes_of(kept: &KeptText<'_>, alloc: Global) -> Result<Envelopes, AllocError>
-    ensures heads { IfOk result (λ envelopes. envelopes.heads.items
+/// The segments of a text that open or close an envelope, in order, with their values, which are read from the text. Only want
+/// of memory is an error.
+pub(crate) fn read_heads(kept: &KeptText<'_>, alloc: Global) -> Result<Vec<Head>, AllocError>
+    ensures { IfOk result (λ heads. heads.items
         ≡ heads_of kept.now.directory (segments_of_text kept.now.text)) }
-    ensures marks { IfOk result
-        (λ envelopes. envelopes.marks.items ≡ marks_of (segments_of_text kept.now.text)) }
 {
     let text = kept.whole();
     let service = kept.service();
     let mut heads = Vec::new(alloc);
-    let mut marks = Vec::with_capacity(alloc, kept.segment_count() as usize)?;
-    for seen in kept.segments() {
-        let tag = seen.record.tag();
-        marks.push(SegmentMark {
-            start: seen.start(),
-            tag,
-        })?;
-        if let Some(kind) = HeadKind::of(tag) {
+    for seen in kept.notable_segments() {
+        if let Some(kind) = HeadKind::of(seen.record.tag()) {
             let head = read_head(alloc, &text, service, &seen, kind)?;
             heads.push(head)?;
         }
     }
-    Ok(Envelopes { heads, marks })
+    Ok(heads)
 }

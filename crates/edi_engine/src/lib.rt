@@ -6,6 +6,7 @@ mod engine;
 mod errors;
 mod group_heads;
 mod heads;
+mod marks;
 mod message_heads;
 mod opening;
 mod parties;

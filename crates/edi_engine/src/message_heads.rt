@@ -4,7 +4,6 @@ ghost use Rattle.edi_tables.specs.Rows.{has_name};
 ghost use Rattle.seg_lexer.specs.Service.{IsUsable};
 ghost use Rattle.segment_records.specs.Look.{seen_of};
 ghost use Rattle.segment_records.specs.Spans.{begun_by as begun_by_of, ended_by, group_by as group_by_of, message_ended, message_seen};
-ghost use Rattle.segment_records.specs.Bounds.{stops_message as stops_message_of};
 ghost use Rattle.segment_records.specs.Segments.{segments_of_text};
 ghost use Rattle.text_reading.specs.Summary.{messages_in};
 ghost use Rattle.edi_octets.specs.declared.octets.TheConstants.{LONGEST_TEXT};
@@ -15,7 +14,7 @@ use edi_octets::Octets;
 use edi_tables::Tag;
 use kept_text::KeptText;
 use seg_lexer::Service;
-use segment_records::{WalkedSegment, copy_value, is_named};
+use segment_records::{WalkedSegment, copy_value, is_named, stops_message};
 use std::alloc::{AllocError, Global};
 
 /// Puts the message that is open, if there is one, with its last segment, by its number from 1. Only want of memory is an error.
@@ -117,14 +116,8 @@ pub(crate) fn group_by(tag: Option<Tag>, begun: u32, group: Option<u32>) -> Opti
     }
 }
 
-/// Whether a segment with this tag stops a message: UNT, UNH, UNE, UNG, UNZ and UNB do.
-pub(crate) fn stops_message(tag: Option<Tag>) -> bool
-    ensures { result ≡ stops_message_of tag }
-{
-    is_named(b"UNT", tag) || is_named(b"UNH", tag) || stops_group(tag)
-}
-
-// Its messages, in order, each with its functional group. Their values are read from the text.
+// Its messages, in order, each with its functional group. Their values are read from the text. Only notable segments open or
+// stop one.
 pub(crate) fn messages_of(
     kept: &KeptText<'_>,
     alloc: Global,
@@ -140,7 +133,7 @@ pub(crate) fn messages_of(
     // How many groups have begun, and the place of the one that is open.
     let mut begun = 0;
     let mut group = None;
-    for seen in kept.segments() {
+    for seen in kept.notable_segments() {
         let tag = seen.record.tag();
         group = group_by(tag, begun, group);
         begun = begun_by(tag, begun);

@@ -4,12 +4,12 @@ use Rattle.segment_records.specs.WalkedSegments.{LiesIn}
 use Rattle.segment_records.specs.Spans.{IsNumbered, grouped, heads_from, message_spans}
 use Rattle.edi_engine.proofs.message_heads.messages_of.Given as goal
 
--- the messages of the segments to come are left to be put, and the one that is open
+-- the messages of the notable segments to come are left to be put, and the one that is open
 abbrev pub invariant-loop-seen : goal.invariant-loop-seen
 invariant-loop-seen l = record {
-  left : l.messages.items ++ heads_from (message_spans l.service l.text) l.count l.current (grouped l.begun l.group l.seen-iterator)
-      ≡ heads_from (message_spans l.service l.text) l.count None (grouped 0 None l.initial.seen-iterator);
-  inside : All (LiesIn l.text) l.seen-iterator;
-  numbered : All IsNumbered l.seen-iterator;
-  few : l.begun + length l.seen-iterator ≤ 4194304;
+  left : l.messages.items ++ heads_from (message_spans l.service l.text) l.count l.current (grouped l.begun l.group l.seen-iterator.0)
+      ≡ heads_from (message_spans l.service l.text) l.count None (grouped 0 None l.initial.seen-iterator.0);
+  inside : All (LiesIn l.text) l.seen-iterator.0;
+  numbered : All IsNumbered l.seen-iterator.0;
+  few : l.begun + length l.seen-iterator.0 ≤ 4194304;
 }

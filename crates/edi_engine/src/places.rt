@@ -17,7 +17,7 @@ use std::alloc::{AllocError, Global};
 use table_walk::State;
 
 /// Where a segment is in the tree. `numbers` are those that `number_groups` gives of the directory.
-#[inline]
+#[inline(always)]
 pub(crate) fn find_place(
     directory: &Directory,
     numbers: &[List<u16>],

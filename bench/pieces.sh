@@ -222,8 +222,14 @@ struct Item {
 impl Measured for Item {
     ghost measure = { λ item. item.weight };
 
+    ghost marks = { λ _. 0 };
+
     fn weight(&self) -> u32 {
         self.weight
+    }
+
+    fn marks(&self) -> u32 {
+        0
     }
 }
 

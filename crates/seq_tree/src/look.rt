@@ -1,7 +1,7 @@
 //! The ways down a tree: to an item, to the weight before a place, to the item at a weight, and to a marked item. Each counts the nodes that it
 //! visits, of which the last is a leaf: only there does it look at items, of which a leaf has at most 16.
 
-ghost use Rattle.std.specs.Prelude.{◌≡◌, ◌+◌, ◌<◌, ◌≤◌, length, take, sum_by, slice_get, slice_range, Some};
+ghost use Rattle.std.specs.Prelude.{◌≡◌, ◌+◌, ◌-◌, ◌*◌, ◌^◌, ◌<◌, ◌≤◌, length, take, sum_by, slice_get, slice_range, Some};
 ghost use Rattle.seq_tree.specs.Shape.{FillsHeight};
 
 use crate::measure::Measured;
@@ -102,7 +102,6 @@ impl<T: Measured> Tree<T> {
     }
 
     /// The marked item before which so many are marked.
-    #[tactic(auto, using(crate::proofs::Ranges::sum_by_take_right))]
     pub fn marked<L: Ledger>(&self, rank: u32, visited: &mut Steps<L>) -> Marked<'_, T>
         requires within { rank < sum_by T.marks self.now.0 }
         ensures is { slice_get self.now.0 result.place ≡ Some result.item.now }
@@ -117,21 +116,61 @@ impl<T: Measured> Tree<T> {
         ensures cost { visited.new ≤ visited.old + (self.now.1 + 1) }
         ensures low { FillsHeight self.now.1 (length self.now.0) }
     {
+        // So its places fit.
+        let _len = self.len();
+        self.marked_after(rank, 0, 0, visited)
+    }
+
+    // The same after so many items of so much weight, which the answer's places and weight count too. So the way down is one
+    // loop, with nothing to do on the way back.
+    #[tactic(auto, using(crate::proofs::Ranges::sum_by_take_right))]
+    fn marked_after<L: Ledger>(
+        &self,
+        rank: u32,
+        place: usize,
+        before: u64,
+        visited: &mut Steps<L>,
+    ) -> Marked<'_, T>
+        requires within { rank < sum_by T.marks self.now.0 }
+        requires few { place + length self.now.0 < 2 ^ 32 }
+        requires light { before ≤ 4294967295 * place }
+        ensures after { place ≤ result.first }
+        ensures is { slice_get self.now.0 (result.place - place) ≡ Some result.item.now }
+        ensures marked { T.marks result.item.now ≡ 1 }
+        ensures rank { sum_by T.marks (take (result.place - place) self.now.0) ≡ rank }
+        ensures before { before + sum_by T.measure (take (result.place - place) self.now.0)
+            ≡ result.before }
+        ensures here { (result.first ≤ result.place)
+            × (result.place < result.first + length result.leaf.now) }
+        ensures inside { result.first + length result.leaf.now ≤ place + length self.now.0 }
+        ensures leaf { slice_range self.now.0 (result.first - place)
+            (result.first - place + length result.leaf.now)
+            ≡ result.leaf.now }
+        ensures cost { visited.new ≤ visited.old + (self.now.1 + 1) }
+        ensures low { FillsHeight self.now.1 (length self.now.0) }
+    {
         visited.tick();
         match &self.node {
-            Node::Leaf(run) => marked_in(run.items(), rank),
-            Node::Fork(sides) => {
-                let left_marks = sides.left.marks();
-                if rank < left_marks {
-                    return sides.left.marked(rank, visited);
-                }
-                let marked = sides.right.marked(rank - left_marks, visited);
+            Node::Leaf(run) => {
+                let marked = marked_in(run.items(), rank);
                 Marked {
-                    place: sides.left.len() + marked.place,
-                    before: sides.left.total() + marked.before,
-                    first: sides.left.len() + marked.first,
+                    place: place + marked.place,
+                    before: before + marked.before,
+                    first: place,
                     ..marked
                 }
+            }
+            Node::Fork(sides) => {
+                let (left, right) = (&sides.left, &sides.right);
+                if rank < left.marks() {
+                    return left.marked_after(rank, place, before, visited);
+                }
+                right.marked_after(
+                    rank - left.marks(),
+                    place + left.len(),
+                    before + left.total(),
+                    visited,
+                )
             }
         }
     }

@@ -1,7 +1,8 @@
-use Rattle.std.proofs.Common.{◌≡◌, ℕ, ◌+◌, ◌-◌, ◌≤◌, suc, List, [], ◌∷◌, ◌++◌, length, take, drop, sum_by, refl, sym, ap, ◌∙◌, take-take, drop-drop, arith}
+use Rattle.std.proofs.Common.{◌≡◌, ℕ, ◌+◌, ◌-◌, ◌<◌, ◌≤◌, suc, List, [], ◌∷◌, ◌++◌, length, take, drop, get_or, sum_by, Some, refl, sym, ap, ◌∙◌, take-add, take-take, drop-drop, get_or-take, arith}
 use Rattle.std.specs.Prelude.{slice_range, slice_get}
 use Rattle.std.proofs.Math.Seq.{take-append-add, drop-append-add}
-use Rattle.std.proofs.lemmas.List.{drop-take}
+use Rattle.std.proofs.lemmas.List.{drop-take, get_or-drop}
+use Rattle.std.proofs.lemmas.Option.{get_or_from_slice_get, slice_get-get_or}
 use Rattle.std.proofs.lemmas.List.Sums.{sum_by-append}
 
 -- past the end of `xs`, the first items of `xs ++ ys` are those of `xs` and then the first of `ys`
@@ -42,3 +43,17 @@ range_right xs ys n a m e =
     let long : n + m - n ≡ m = omega arith in
     let short : a + m - a ≡ m = omega arith in
     rw long (rw short (ap (take m) (drop_right xs ys n a e)))
+
+-- an item of a range is one of the whole
+pub get_in_range : {X : Type 0} (xs : List X) (a n i : ℕ) (x : X) → a + n ≤ length xs → i < n → slice_get (slice_range xs a (a + n)) i ≡ Some x → slice_get xs (a + i) ≡ Some x
+get_in_range xs a n i x inside less is =
+    let here : get_or (slice_range xs a (a + n)) i x ≡ x = get_or_from_slice_get (slice_range xs a (a + n)) i x x is in
+    let near : get_or (drop a xs) i x ≡ x = sym (get_or-take (a + n - a) (drop a xs) i x (omega arith)) ∙ here in
+    slice_get-get_or xs (a + i) x (omega arith) ∙ ap Some (sym (get_or-drop a xs i x) ∙ near)
+
+-- the weights of the first items, up to one of a range
+pub sum_to_range : {X : Type 0} (m : X → ℕ) (xs : List X) (a n i : ℕ) → i ≤ n → sum_by m (take (a + i) xs) ≡ sum_by m (take a xs) + sum_by m (take i (slice_range xs a (a + n)))
+sum_to_range m xs a n i less =
+    let within : i ≤ a + n - a = omega arith in
+    let same : take i (slice_range xs a (a + n)) ≡ take i (drop a xs) = take-take i (a + n - a) (drop a xs) within in
+    rw same (ap (sum_by m) (take-add a i xs) ∙ sum_by-append m (take a xs) (take i (drop a xs)))

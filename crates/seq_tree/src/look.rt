@@ -2,7 +2,7 @@
 //! visits, of which the last is a leaf: only there does it look at items, of which a leaf has at most 16.
 
 ghost use Rattle.std.specs.Prelude.{◌≡◌, ◌+◌, ◌-◌, ◌*◌, ◌^◌, ◌<◌, ◌≤◌, length, take, sum_by, slice_get, slice_range, Some};
-ghost use Rattle.seq_tree.specs.Shape.{FillsHeight};
+ghost use Rattle.seq_tree.specs.Shape.{FillsHeight, longest_run};
 
 use crate::measure::Measured;
 use crate::run::{locate_in, marked_in, weigh};
@@ -118,60 +118,66 @@ impl<T: Measured> Tree<T> {
     {
         // So its places fit.
         let _len = self.len();
-        self.marked_after(rank, 0, 0, visited)
+        let mut way = Way {
+            rank,
+            place: 0,
+            before: 0,
+        };
+        let leaf = self.marked_leaf(&mut way, visited);
+        let marked = marked_in(leaf, way.rank);
+        Marked {
+            place: way.place + marked.place,
+            before: way.before + marked.before,
+            first: way.place,
+            ..marked
+        }
     }
 
-    // The same after so many items of so much weight, which the answer's places and weight count too. So the way down is one
-    // loop, with nothing to do on the way back.
+    // The leaf of the marked item before which so many are marked as the way says. The way goes on to the leaf's first item. All
+    // that is known on the way is in it, so that nothing is left to do on the way back.
     #[tactic(auto, using(crate::proofs::Ranges::sum_by_take_right))]
-    fn marked_after<L: Ledger>(
-        &self,
-        rank: u32,
-        place: usize,
-        before: u64,
-        visited: &mut Steps<L>,
-    ) -> Marked<'_, T>
-        requires within { rank < sum_by T.marks self.now.0 }
-        requires few { place + length self.now.0 < 2 ^ 32 }
-        requires light { before ≤ 4294967295 * place }
-        ensures after { place ≤ result.first }
-        ensures is { slice_get self.now.0 (result.place - place) ≡ Some result.item.now }
-        ensures marked { T.marks result.item.now ≡ 1 }
-        ensures rank { sum_by T.marks (take (result.place - place) self.now.0) ≡ rank }
-        ensures before { before + sum_by T.measure (take (result.place - place) self.now.0)
-            ≡ result.before }
-        ensures here { (result.first ≤ result.place)
-            × (result.place < result.first + length result.leaf.now) }
-        ensures inside { result.first + length result.leaf.now ≤ place + length self.now.0 }
-        ensures leaf { slice_range self.now.0 (result.first - place)
-            (result.first - place + length result.leaf.now)
-            ≡ result.leaf.now }
+    fn marked_leaf<L: Ledger>(&self, way: &mut Way, visited: &mut Steps<L>) -> &[T]
+        requires within { way.old.rank < sum_by T.marks self.now.0 }
+        requires few { way.old.place + length self.now.0 < 2 ^ 32 }
+        requires light { way.old.before ≤ 4294967295 * way.old.place }
+        ensures on { way.old.place ≤ way.new.place }
+        ensures inside { way.new.place + length result.now ≤ way.old.place + length self.now.0 }
+        ensures leaf { slice_range self.now.0 (way.new.place - way.old.place)
+            (way.new.place - way.old.place + length result.now)
+            ≡ result.now }
+        ensures short { length result.now ≤ longest_run }
+        ensures rank { sum_by T.marks (take (way.new.place - way.old.place) self.now.0) + way.new.rank
+            ≡ way.old.rank }
+        ensures there { way.new.rank < sum_by T.marks result.now }
+        ensures before { way.old.before
+            + sum_by T.measure (take (way.new.place - way.old.place) self.now.0)
+            ≡ way.new.before }
+        ensures light { way.new.before ≤ 4294967295 * way.new.place }
         ensures cost { visited.new ≤ visited.old + (self.now.1 + 1) }
         ensures low { FillsHeight self.now.1 (length self.now.0) }
     {
         visited.tick();
         match &self.node {
-            Node::Leaf(run) => {
-                let marked = marked_in(run.items(), rank);
-                Marked {
-                    place: place + marked.place,
-                    before: before + marked.before,
-                    first: place,
-                    ..marked
-                }
-            }
+            Node::Leaf(run) => run.items(),
             Node::Fork(sides) => {
-                let (left, right) = (&sides.left, &sides.right);
-                if rank < left.marks() {
-                    return left.marked_after(rank, place, before, visited);
+                let left = &sides.left;
+                if way.rank < left.marks() {
+                    return left.marked_leaf(way, visited);
                 }
-                right.marked_after(
-                    rank - left.marks(),
-                    place + left.len(),
-                    before + left.total(),
-                    visited,
-                )
+                way.rank -= left.marks();
+                way.place += left.len();
+                way.before += left.total();
+                sides.right.marked_leaf(way, visited)
             }
         }
     }
+}
+
+// On the way down to a marked item: how many are marked before it from here on, and the place, counted from 0, of the first item
+// of what is looked at, with the weight of those before it.
+#[derive(Clone, Copy)]
+struct Way {
+    rank: u32,
+    place: usize,
+    before: u64,
 }

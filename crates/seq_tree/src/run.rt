@@ -129,6 +129,7 @@ pub(crate) fn marked_in<T: Measured>(items: &[T], rank: u32) -> Marked<'_, T>
     ensures marked { T.marks result.item.now ≡ 1 }
     ensures rank { sum_by T.marks (take result.place items.now) ≡ rank }
     ensures before { sum_by T.measure (take result.place items.now) ≡ result.before }
+    ensures bound { result.before ≤ 4294967295 * result.place }
     ensures leaf { result.leaf.now ≡ items.now }
     ensures first { result.first ≡ 0 }
 {

@@ -54,7 +54,8 @@ pub(crate) fn item_on(line: &[u8], known: &EarlierDefinitions<'_>) -> Option<Ite
 
 // The words of an item's line that are its code and its status, and its number of repetitions.
 fn item_words(version: StoreVersion, line: &[u8]) -> Option<(&[u8], &[u8], u8)>
-    ensures { option_map (λ w. (w.0.now, w.1.now, w.2)) result ≡ rules.item_words_in version line.now }
+    ensures { option_map (λ w. (w.0.now, w.1.now, w.2)) result
+        ≡ rules.item_words_in version line.now }
 {
     match version {
         StoreVersion::First => {

@@ -126,7 +126,8 @@ fn put_placed(
     entry: u16,
     depth: u8,
 ) -> Result<(), AllocError>
-    ensures ok { OnOk result (out.new ≡ out.old ++ (placed_line number tag entry depth ++ 10 ∷ [])) }
+    ensures ok { OnOk result
+        (out.new ≡ out.old ++ (placed_line number tag entry depth ++ 10 ∷ [])) }
     ensures grown { HasGrown out.old out.new }
 {
     let mut line = Line::empty();

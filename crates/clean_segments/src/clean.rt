@@ -1,9 +1,7 @@
 //! Segments in which nothing is wrong.
-ghost use Rattle.std.specs.Prelude.{◌≡◌, ◌<◌, ◌≤◌, List, ℕ, Some, length, set, slice_range, IfOk, IfSome, IsTrue};
-ghost use Rattle.std.specs.Option.{option_map};
+ghost use Rattle.std.specs.Prelude.{◌≡◌, ◌<◌, ◌≤◌, List, [], ℕ, Some, length, set, slice_range, IfOk, IfSome, IsTrue};
 ghost use Rattle.dir_compile.specs.declared.parts.Parts.{Parts};
 ghost use Rattle.seg_lexer.specs.Fields.{components_at};
-ghost use Rattle.seg_lexer.specs.Service.{IsUsable};
 ghost use Rattle.seg_lexer.specs.Tag.{tag_of};
 ghost use Rattle.seg_lexer.specs.declared.context.Context.{Context};
 ghost use Rattle.element_check.specs.Local.{local_errors_of};
@@ -14,9 +12,7 @@ use crate::look::clean_tag;
 use dir_compile::Directory;
 use edi_octets::Octets;
 use edi_tables::Tag;
-use element_check::{LocalError, check_components};
-use seg_lexer::{Context, fields};
-use smallvec::SmallVec;
+use seg_lexer::Context;
 use std::alloc::{AllocError, Global};
 use std::marker::Model;
 
@@ -72,45 +68,40 @@ impl CleanSegments {
         }
     }
 
-    /// The tag of the segment `start..end` of a text, and its local errors, by a directory and the context of the text, in
-    /// order of element, component and kind. Only want of memory is an error.
+    /// The tag of the segment `start..end` of a text, where nothing is wrong with it by itself: by a directory and the context
+    /// of the text a first look shows that, or it is spelled like one that is remembered. `None` says nothing of the segment.
+    /// It takes no memory.
     ///
-    /// Where a first look shows that nothing is wrong with it, it is remembered, in the place of one that is spelled otherwise.
-    pub fn check<O: Octets>(
+    /// Where a first look shows it, the segment is remembered, in the place of one that is spelled otherwise.
+    #[inline(always)]
+    pub fn find<O: Octets>(
         &mut self,
-        alloc: Global,
         directory: &Directory,
         context: &Context,
         text: &O,
         start: usize,
         end: usize,
-    ) -> Result<(Option<Tag>, SmallVec<LocalError, 4>), AllocError>
-        requires usable { IsUsable context.now.service (O.octets text.now) }
+    ) -> Option<Tag>
         requires short { length (O.octets text.now) ≤ LONGEST_TEXT }
         requires ordered { start ≤ end }
         requires within { end ≤ length (O.octets text.now) }
         requires clean { AreClean directory.now context.now (O.octets text.now) self.old }
-        ensures tag { IfOk result (λ found. option_map (λ t. t.octets) found.0
-            ≡ tag_of (components_at context.now.service (O.octets text.now) start end)) }
-        ensures errors { IfOk result (λ found. found.1.items
-            ≡ local_errors_of directory.now context.now
-            (components_at context.now.service (O.octets text.now) start end)) }
+        ensures tag { IfSome result (λ tag. tag_of
+            (components_at context.now.service (O.octets text.now) start end) ≡ Some tag.octets) }
+        ensures errors { IfSome result (λ tag. local_errors_of directory.now context.now
+            (components_at context.now.service (O.octets text.now) start end) ≡ []) }
         ensures clean { AreClean directory.now context.now (O.octets text.now) self.new }
     {
-        let Some(octets) = spelled(text, start, end) else {
-            return check_alone(alloc, directory, context, text, start, end);
-        };
+        let octets = spelled(text, start, end)?;
         let place = slot_of(octets);
         if let Some(Some(clean)) = self.places.get(place) {
             if is_spelled(text, clean.start, clean.end, octets) {
-                return Ok((Some(clean.tag), SmallVec::new(alloc)));
+                return Some(clean.tag);
             }
         }
-        if let Some(tag) = clean_tag(directory, context, octets) {
-            self.put(place, Clean { start, end, tag });
-            return Ok((Some(tag), SmallVec::new(alloc)));
-        }
-        check_alone(alloc, directory, context, text, start, end)
+        let tag = clean_tag(directory, context, octets)?;
+        self.put(place, Clean { start, end, tag });
+        Some(tag)
     }
 
     // Remembers a segment at a place, if there is such a place.
@@ -121,29 +112,6 @@ impl CleanSegments {
             *known = Some(clean);
         }
     }
-}
-
-// The tag and the local errors of a segment, whatever is remembered.
-fn check_alone<O: Octets>(
-    alloc: Global,
-    directory: &Directory,
-    context: &Context,
-    text: &O,
-    start: usize,
-    end: usize,
-) -> Result<(Option<Tag>, SmallVec<LocalError, 4>), AllocError>
-    requires usable { IsUsable context.now.service (O.octets text.now) }
-    requires short { length (O.octets text.now) ≤ LONGEST_TEXT }
-    requires ordered { start ≤ end }
-    requires within { end ≤ length (O.octets text.now) }
-    ensures tag { IfOk result (λ found. option_map (λ t. t.octets) found.0
-        ≡ tag_of (components_at context.now.service (O.octets text.now) start end)) }
-    ensures errors { IfOk result (λ found. found.1.items
-        ≡ local_errors_of directory.now context.now
-        (components_at context.now.service (O.octets text.now) start end)) }
-{
-    let components = fields(text, &context.service, start, end);
-    check_components(alloc, directory, context, components)
 }
 
 // Whether a stretch of a text is lent in one part and has these octets.

@@ -1,7 +1,12 @@
 //! What is kept of one segment.
-ghost use Rattle.std.specs.Prelude.{◌≡◌, ◌+◌, ◌<◌, ◌≤◌, [], ℕ, length, IfOk};
+ghost use Rattle.std.specs.Prelude.{◌≡◌, ◌+◌, ◌<◌, ◌≤◌, ◌^◌, [], ℕ, length, IfOk};
+ghost use Rattle.std.specs.Option.{option_map};
 ghost use Rattle.edi_octets.specs.declared.octets.Octets.{Ghosts};
+ghost use Rattle.seg_lexer.specs.Fields.{IsInOrder};
+ghost use Rattle.seg_lexer.specs.Left.{components_left};
 ghost use Rattle.seg_lexer.specs.Service.{IsUsable};
+ghost use Rattle.seg_lexer.specs.Tag.{tag_of};
+ghost use Rattle.element_check.specs.Local.{local_errors_of};
 ghost use Rattle.clean_segments.specs.Clean.{AreClean};
 ghost use Rattle.segment_records.specs.Notable.{is_marked, is_well_placed};
 ghost use Rattle.segment_records.specs.Records.{IsModeOf, kept_of};
@@ -18,8 +23,8 @@ use clean_segments::CleanSegments;
 use dir_compile::Directory;
 use edi_octets::Octets;
 use edi_tables::Tag;
-use element_check::LocalError;
-use seg_lexer::{Context, fields};
+use element_check::{LocalError, check_components};
+use seg_lexer::{Context, Fields, fields};
 use seq_tree::Measured;
 use smallvec::SmallVec;
 use std::alloc::{AllocError, Global};
@@ -132,8 +137,11 @@ impl Record {
         ensures counted { placed.new ≤ placed.old + 1 }
     {
         let SegmentPlace { from, start, end } = place;
-        let (tag, local) = clean.check(alloc, directory, context, text, start, end)?;
         let components = fields(text, &context.service, start, end);
+        let (tag, faults) = match clean.find(directory, context, text, start, end) {
+            Some(tag) => (Some(tag), None),
+            None => check_alone(alloc, directory, context, components)?,
+        };
         let step = take_step(alloc, directory, before, tag, components, placed)?;
         Ok(Record {
             octets: (end + 1 - from) as u32,
@@ -142,7 +150,7 @@ impl Record {
             entry: step.entry,
             over: step.over,
             mode: step.after,
-            faults: keep_faults(alloc, local, step.missing)?,
+            faults: with_missing(alloc, faults, step.missing)?,
         })
     }
 
@@ -258,6 +266,68 @@ impl Record {
         ensures { result.now ≡ self.now.step.after }
     {
         &self.mode
+    }
+}
+
+// The tag of the segment that has these components, and its local errors, if there are any. Most segments are seen to have
+// none: this is kept out of their way.
+#[inline(never)]
+fn check_alone<O: Octets>(
+    alloc: Global,
+    directory: &Directory,
+    context: &Context,
+    components: Fields<'_, O>,
+) -> Result<(Option<Tag>, Option<Box<Faults>>), AllocError>
+    requires in_order { IsInOrder 0 (components_left components) }
+    requires few { length (components_left components) < 2 ^ 31 }
+    ensures tag { IfOk result (λ found. option_map (λ t. t.octets) found.0
+        ≡ tag_of (components_left components.entry)) }
+    ensures local { IfOk result (λ found. local_in found.1
+        ≡ local_errors_of directory.now context.now (components_left components.entry)) }
+    ensures missing { IfOk result (λ found. missing_in found.1 ≡ []) }
+{
+    let (tag, local) = check_components(alloc, directory, context, components)?;
+    let faults = keep_faults(alloc, local, SmallVec::new(alloc))?;
+    Ok((tag, faults))
+}
+
+// What is wrong with a segment, by its local errors and what is missing before it: mostly nothing.
+#[inline(always)]
+fn with_missing(
+    alloc: Global,
+    faults: Option<Box<Faults>>,
+    missing: SmallVec<u16, 4>,
+) -> Result<Option<Box<Faults>>, AllocError>
+    requires { missing_in faults ≡ [] }
+    ensures local { IfOk result (λ found. local_in found ≡ local_in faults) }
+    ensures missing { IfOk result (λ found. missing_in found ≡ missing.items) }
+{
+    if missing.is_empty() {
+        return Ok(faults);
+    }
+    add_missing(alloc, faults, missing)
+}
+
+// The same where something is missing.
+#[inline(never)]
+fn add_missing(
+    alloc: Global,
+    faults: Option<Box<Faults>>,
+    missing: SmallVec<u16, 4>,
+) -> Result<Option<Box<Faults>>, AllocError>
+    ensures local { IfOk result (λ found. local_in found ≡ local_in faults) }
+    ensures missing { IfOk result (λ found. missing_in found ≡ missing.items) }
+{
+    match faults {
+        Some(known) => {
+            let Faults {
+                local,
+                missing: none,
+            } = Box::into_inner(known);
+            drop(none);
+            keep_faults(alloc, local, missing)
+        }
+        None => keep_faults(alloc, SmallVec::new(alloc), missing),
     }
 }
 

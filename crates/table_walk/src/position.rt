@@ -186,6 +186,7 @@ impl<'a> Position<'a> {
     }
 
     /// The same, by the rank of the candidate: most have rank 0, and then nothing is looked for.
+    #[inline(always)]
     #[tactic(auto, using(crate::proofs::Choosing::rank_low))]
     pub fn missing_by(
         &self,
@@ -276,8 +277,8 @@ pub fn is_over_by(rank: u8) -> bool
     rank == 1 || rank == 3
 }
 
-/// These nodes as a list.
-#[inline(always)]
+/// These nodes as a list. Mostly none are asked for: this is kept out of the way of a walk.
+#[inline(never)]
 pub fn gather(alloc: Global, nodes: Missing<'_>) -> Result<SmallVec<u16, 4>, AllocError>
     ensures { IfOk result (λ list. list.items ≡ nodes.entry) }
 {

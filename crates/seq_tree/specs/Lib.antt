@@ -1,4 +1,5 @@
 pub mod Join
+pub mod Marks
 pub mod Seq
 pub mod Shape
 pub mod Tree

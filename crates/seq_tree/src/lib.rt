@@ -3,13 +3,15 @@
 
 mod join;
 mod look;
+mod marks;
 mod measure;
 mod run;
 mod sequence;
 mod tree;
 mod walk;
 
-pub use look::{Located, Marked};
+pub use look::Located;
+pub use marks::{Marked, MarkedItems};
 pub use measure::Measured;
 pub use sequence::Seq;
 pub use walk::Iter;

@@ -3,7 +3,8 @@
 ghost use Rattle.std.specs.Prelude.{◌≡◌, ◌+◌, ◌*◌, ◌^◌, ◌<◌, ◌≤◌, length, take, drop, sum_by, slice_get, slice_range, Some, IfOk};
 ghost use Rattle.seq_tree.specs.Shape.{longest_run};
 
-use crate::look::{Located, Marked};
+use crate::look::Located;
+use crate::marks::Marked;
 use crate::measure::Measured;
 use std::alloc::{AllocError, Global};
 use std::marker::Model;

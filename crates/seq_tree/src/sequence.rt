@@ -1,9 +1,12 @@
 //! The sequence that callers see: a list of weighed items, of which an edit makes a new version.
 
 ghost use Rattle.std.specs.Prelude.{◌≡◌, ℕ, ◌+◌, ◌-◌, ◌*◌, ◌^◌, ◌<◌, ◌≤◌, [], ◌++◌, length, take, drop, insert, sum_by, slice_get, slice_range, Some, IfOk, IsTrue, ◌↔◌};
+ghost use Rattle.std.specs.Option.{option_copied};
+ghost use Rattle.seq_tree.specs.Seq.{root_items};
 
 use crate::join::join;
-use crate::look::{Located, Marked};
+use crate::look::Located;
+use crate::marks::MarkedItems;
 use crate::measure::Measured;
 use crate::run::{LONGEST_RUN, Run};
 use crate::tree::{Node, Tree};
@@ -109,25 +112,23 @@ impl<T: Measured> Seq<T> {
         }
     }
 
-    /// The marked item before which `rank` items are marked, with the items of its leaf. Each node that is visited counts once;
-    /// the one that is a leaf has at most 16 items, and no item of another leaf is looked at.
-    pub fn marked<L: Ledger>(&self, rank: u32, visited: &mut Steps<L>) -> Marked<'_, T>
-        requires within { rank < sum_by T.marks self.now }
-        ensures is { slice_get self.now result.place ≡ Some result.item.now }
-        ensures marked { T.marks result.item.now ≡ 1 }
-        ensures rank { sum_by T.marks (take result.place self.now) ≡ rank }
-        ensures before { sum_by T.measure (take result.place self.now) ≡ result.before }
-        ensures here { (result.first ≤ result.place)
-            × (result.place < result.first + length result.leaf.now) }
-        ensures inside { result.first + length result.leaf.now ≤ length self.now }
-        ensures leaf { slice_range self.now result.first (result.first + length result.leaf.now)
-            ≡ result.leaf.now }
-        ensures cost { (b : ℕ) → length self.now < 2 ^ b → visited.new ≤ visited.old + (2 * b + 2) }
+    /// The way to the marked items, of which none is left behind at its begin. It takes no memory.
+    pub fn marked_items(&self) -> MarkedItems<'_, T>
+        ensures items { result.0 ≡ self.now }
+        ensures behind { result.1 ≡ 0 }
     {
-        match &self.root {
-            None => unreachable!(),
-            Some(root) => root.marked(rank, visited),
-        }
+        MarkedItems::of(self)
+    }
+
+    /// Its tree, if it has an item.
+    pub(crate) fn root(&self) -> Option<&Tree<T>>
+        ensures is { root_items (option_copied result) ≡ self.now }
+        ensures fits { length self.now < 2 ^ 32 }
+    {
+        let root = self.root.as_ref()?;
+        // So its items fit.
+        let _len = root.len();
+        Some(root)
     }
 
     /// The item at place `i`, counted from 0. Each node that is visited counts once.

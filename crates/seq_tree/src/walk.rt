@@ -1,6 +1,8 @@
 //! The items of a sequence in order: a walk over its tree that keeps the trees still to come.
 
 ghost use Rattle.std.specs.Prelude.{◌≡◌, ◌+◌, ◌<◌, ◌≤◌, [], ◌++◌, length, drop, IfSome, IfNone};
+ghost use Rattle.std.specs.Option.{option_copied};
+ghost use Rattle.seq_tree.specs.Seq.{root_items};
 
 use crate::measure::Measured;
 use crate::tree::{Node, Tree};
@@ -72,7 +74,7 @@ impl<'a, T: Measured> Iterator for Iter<'a, T> {
 
 /// The trees whose items are still to come, seen as these items and the number of trees.
 #[derive(Drop)]
-struct Pending<'a, T: Measured> {
+pub(crate) struct Pending<'a, T: Measured> {
     // The first to come is the last.
     trees: ArrayVec<Option<&'a Tree<T>>, MOST_PENDING>,
 }
@@ -99,8 +101,20 @@ impl<'a, T: Measured> Pending<'a, T> {
         }
     }
 
+    /// The items of this tree, if there is one.
+    pub(crate) fn of(root: Option<&'a Tree<T>>) -> Pending<'a, T>
+        ensures { result.0 ≡ root_items (option_copied root.entry) }
+    {
+        let mut pending = Pending::new();
+        if let Some(tree) = root {
+            let _height = tree.height();
+            pending.push(tree);
+        }
+        pending
+    }
+
     /// Puts the items of a tree before those to come.
-    fn push(&mut self, tree: &'a Tree<T>)
+    pub(crate) fn push(&mut self, tree: &'a Tree<T>)
         requires room { tree.now.1 + self.old.1 < 64 }
         ensures items { self.new.0 ≡ tree.now.0 ++ self.old.0 }
         ensures count { self.new.1 ≡ self.old.1 + 1 }
@@ -109,9 +123,10 @@ impl<'a, T: Measured> Pending<'a, T> {
     }
 
     /// Takes off the tree whose items come first.
-    fn pop(&mut self) -> Option<&'a Tree<T>>
+    pub(crate) fn pop(&mut self) -> Option<&'a Tree<T>>
         ensures items { IfSome result (λ tree. self.old.0 ≡ tree.now.0 ++ self.new.0) }
         ensures room { IfSome result (λ tree. tree.now.1 + self.new.1 < 64) }
+        ensures fewer { IfSome result (λ tree. self.new.1 < self.old.1) }
         ensures end { IfNone result ((self.old.0 ≡ []) × (self.new.0 ≡ [])) }
     {
         self.trees.pop()?

@@ -100,25 +100,31 @@ fn places_and_weights(rt: HostRuntime) -> Result<(), Fail> {
     Ok(())
 }
 
-/// The place of the marked item before which so many are marked, and the weight before it.
-fn look_for_marked(whole: &Seq<Gram>, rank: u32) -> Option<(usize, u64)> {
-    look_for_marked_counted::<Brand>(whole, rank, Blank::new(1))
+/// Goes to marked items, each by how many are marked before it, on one way through the sequence: they are at these places, and
+/// the items before them weigh so much.
+fn expect_marked(rt: &impl Abort, whole: &Seq<Gram>, wanted: &[(u32, usize, u64)]) {
+    expect_marked_counted::<Brand>(rt, whole, wanted, Blank::new(1))
 }
 
-fn look_for_marked_counted<L: Ledger>(
+fn expect_marked_counted<L: Ledger>(
+    rt: &impl Abort,
     whole: &Seq<Gram>,
-    rank: u32,
+    wanted: &[(u32, usize, u64)],
     blank: Blank,
-) -> Option<(usize, u64)>
+)
     requires name { blank.name ≡ L.name }
     requires parts { blank.parts ≡ L.parts }
     requires some { 0 < blank.parts }
 {
-    if rank >= whole.marks() {
-        return None;
+    let mut visited = Steps::<L>::start(blank);
+    let mut way = whole.marked_items();
+    let mut last = 0;
+    for &(rank, place, before) in wanted {
+        assert!(rt; last <= rank && rank < whole.marks());
+        let marked = way.find(rank, &mut visited);
+        assert!(rt; marked.place == place && marked.before == before, "{rank}");
+        last = rank;
     }
-    let marked = whole.marked(rank, &mut Steps::<L>::start(blank));
-    Some((marked.place, marked.before))
 }
 
 #[test]
@@ -127,14 +133,11 @@ fn places_of_marked_items(rt: HostRuntime) -> Result<(), Fail> {
     assert!(rt; 3 <= whole.len() && whole.len() < 1000);
     // The weights 0, 1, 0, 9, 1, 0, 1, 0 and so on.
     let longer = whole.insert(rt.alloc(), 3, Gram(9))?;
-    assert_eq!(rt; look_for_marked(&whole, 0), Some((1, 0)));
-    assert_eq!(rt; look_for_marked(&whole, 19), Some((39, 19)));
-    assert_eq!(rt; look_for_marked(&whole, 20), None);
-    assert_eq!(rt; look_for_marked(&longer, 0), Some((1, 0)));
-    assert_eq!(rt; look_for_marked(&longer, 1), Some((3, 1)));
-    assert_eq!(rt; look_for_marked(&longer, 2), Some((4, 10)));
-    assert_eq!(rt; look_for_marked(&longer, 20), Some((40, 28)));
-    assert_eq!(rt; look_for_marked(&longer, 21), None);
+    assert_eq!(rt; whole.marks(), 20);
+    assert_eq!(rt; longer.marks(), 21);
+    expect_marked(&rt, &whole, &[(0, 1, 0), (0, 1, 0), (1, 3, 1), (19, 39, 19)]);
+    expect_marked(&rt, &whole, &[(12, 25, 12), (13, 27, 13)]);
+    expect_marked(&rt, &longer, &[(0, 1, 0), (1, 3, 1), (2, 4, 10), (2, 4, 10), (20, 40, 28)]);
     Ok(())
 }
 

@@ -1,5 +1,5 @@
 //! The components of a segment that lies in one slice and has neither release character nor repetition separator.
-ghost use Rattle.std.specs.Prelude.{Some, [], ◌≡◌, ◌∷◌, ◌+◌, ◌<◌, ◌≤◌, ◌^◌, false, true, length, slice_index, IfSome, IsTrue};
+ghost use Rattle.std.specs.Prelude.{Some, [], ◌≡◌, ◌∷◌, ◌+◌, ◌<◌, ◌≤◌, ◌^◌, false, true, length, slice_index, IfNone, IfSome, IsTrue};
 ghost use Rattle.std.specs.Iterator.{YieldsFirstBy};
 ghost use Rattle.std.specs.List.{list_any};
 ghost use Rattle.std.specs.Option.{ForSome};
@@ -22,10 +22,18 @@ struct Start {
     component: u32,
 }
 
-/// The components that are left of a segment that has neither release character nor repetition separator, in order, empty
-/// ones too.
+/// A component of a plain segment: its numbers, as those of `seg_lexer::Component`, and its octets, which the segment lends.
 #[derive(Clone, Copy, Debug)]
-pub(crate) struct PlainFields<'a> {
+pub struct PlainComponent<'a> {
+    pub element: u32,
+    pub component: u32,
+    pub octets: &'a [u8],
+}
+
+/// The components that are left of a plain segment, one that has neither release character nor repetition separator, in order,
+/// empty ones too.
+#[derive(Clone, Copy, Debug)]
+pub struct PlainFields<'a> {
     octets: &'a [u8],
     separators: Separators,
     next: Option<Start>,
@@ -36,11 +44,11 @@ pub(crate) struct PlainFields<'a> {
 }
 
 impl<'a> PlainFields<'a> {
-    ghost use Rattle.clean_segments.specs.Plain.{plain_left};
+    ghost use Rattle.clean_segments.specs.Plain.{component_in, plain_left};
 
     /// The components of the segment of these octets, if none of them is the release character or separates repetitions.
     #[tactic(auto, unfolding(crate::specs::Plain::plain_left))]
-    pub(crate) fn of(octets: &'a [u8], separators: Separators) -> Option<PlainFields<'a>>
+    pub fn of(octets: &'a [u8], separators: Separators) -> Option<PlainFields<'a>>
         requires short { length octets.now ≤ LONGEST_TEXT }
         ensures components { IfSome result
             (λ fields. plain_left fields ≡ components_of separators octets.now) }
@@ -81,6 +89,23 @@ impl<'a> PlainFields<'a> {
             Some(start) => start.element != element,
             None => true,
         }
+    }
+
+    /// Takes the next component.
+    #[inline(always)]
+    #[tactic(auto, unfolding(crate::specs::Plain::plain_left))]
+    pub fn step(&mut self) -> Option<PlainComponent<'a>>
+        ensures next { IfSome result
+            (λ found. plain_left self.old ≡ component_in found ∷ plain_left self.new) }
+        ensures end { IfNone result (plain_left self.old ≡ []) }
+    {
+        let start = self.next?;
+        let octets = self.take_from(start);
+        Some(PlainComponent {
+            element: start.element,
+            component: start.component,
+            octets,
+        })
     }
 
     /// Takes the value of the next component, if it belongs to an element.

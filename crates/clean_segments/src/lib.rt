@@ -1,5 +1,5 @@
 //! The local errors of the segments of one text. Most have none: a look at the octets shows it, and a segment that is spelled
-//! like an earlier one without an error isn't checked again.
+//! like an earlier one without an error isn't checked again. A plain segment's components are found quicker than others.
 #![tactic(auto)]
 
 mod clean;
@@ -7,4 +7,5 @@ mod fields;
 mod look;
 
 pub use clean::CleanSegments;
+pub use fields::{PlainComponent, PlainFields};
 pub use look::clean_tag;

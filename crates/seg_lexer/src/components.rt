@@ -1,5 +1,5 @@
 //! The components of a segment, one after another.
-ghost use Rattle.std.specs.Prelude.{Some, ℕ, ⊤, ◌≡◌, ◌∷◌, ◌+◌, ◌-◌, ◌^◌, ◌<◌, ◌≤◌, MatchOption, IfSome, length, slice_index, slice_range};
+ghost use Rattle.std.specs.Prelude.{Some, ℕ, ⊤, ◌≡◌, ◌∷◌, ◌+◌, ◌-◌, ◌^◌, ◌<◌, ◌≤◌, MatchOption, IfSome, IsTrue, length, slice_index, slice_range};
 ghost use Rattle.std.specs.List.{list_any};
 ghost use Rattle.std.specs.Option.{ForSome};
 ghost use Rattle.seg_lexer.specs.Fields.{is_repeating, is_separator as is_separator_of, separators_of};
@@ -8,6 +8,7 @@ ghost use Rattle.edi_octets.specs.declared.octets.TheConstants.{LONGEST_TEXT};
 
 use crate::scan::{Found, Sought, find_free};
 use crate::service::{Separators, Service};
+use crate::stretch::lend;
 use crate::value::Value;
 use edi_octets::Octets;
 use std::alloc::AllocError;
@@ -32,6 +33,13 @@ struct ComponentPlace {
 }
 
 impl ComponentPlace {
+    /// Whether it is that of the first component of a segment.
+    fn is_first(&self) -> bool
+        ensures { IsTrue result → self.now ≡ record { at = 0; element = 0; repetition = 1; component = 1 } }
+    {
+        self.at == 0 && self.element == 0 && self.repetition == 1 && self.component == 1
+    }
+
     /// The first component of the next element.
     fn next_element(&self, at: usize) -> ComponentPlace
         requires { self.now.element + 1 < 2 ^ 32 }
@@ -122,7 +130,7 @@ impl<O: Octets> Copy for Fields<'_, O> {}
 impl<'a, O: Octets> Fields<'a, O> {
     ghost use Rattle.std.specs.Iterator.{YieldsFirstBy};
     ghost use Rattle.std.specs.Option.{option_map};
-    ghost use Rattle.seg_lexer.specs.Fields.{fields_at, octets_at, place_at};
+    ghost use Rattle.seg_lexer.specs.Fields.{components_of, fields_at, octets_at, place_at};
     ghost use Rattle.seg_lexer.specs.Left.{components_left, fields_left};
     ghost use Rattle.memchr.specs.Find.{NoneBefore, Nowhere};
     ghost use Rattle.seg_lexer.specs.Place.{placed_at};
@@ -145,6 +153,24 @@ impl<'a, O: Octets> Fields<'a, O> {
             end,
             place: Some(FIRST),
         }
+    }
+
+    /// The octets of its segment in one slice and what separates their components, where none was taken yet and the text lends
+    /// the segment in one part. Most segments are lent so.
+    #[tactic(auto, unfolding(crate::specs::Left::fields_left))]
+    pub fn whole(&self) -> Option<(&'a [u8], Separators)>
+        ensures components { IfSome result
+            (λ whole. components_left self.now ≡ components_of whole.1 whole.0.now) }
+        ensures short { IfSome result (λ whole. length whole.0.now ≤ LONGEST_TEXT) }
+    {
+        if !self.place?.is_first() {
+            return None;
+        }
+        let part = lend(self.text, self.start, self.end);
+        if part.len() < self.end - self.start {
+            return None;
+        }
+        Some((part, self.separators))
     }
 
     /// The value of a component of an element's first repetition, if it is among those that are left.

@@ -2,6 +2,7 @@
 ghost use Rattle.std.specs.Prelude.{◌≡◌, ◌<◌, ◌∷◌, List, IfOk, IfSome, length, unwrap_or, []};
 ghost use Rattle.std.specs.Cow.{cow_slice_items};
 ghost use Rattle.std.specs.Option.{option_map, option_or};
+ghost use Rattle.clean_segments.specs.Plain.{plain_left};
 ghost use Rattle.dir_compile.specs.Directory.{tables_of};
 ghost use Rattle.seg_lexer.specs.Fields.{octets_at, unplaced, Component as SeenComponent};
 ghost use Rattle.seg_lexer.specs.Left.{components_left, placed_in};
@@ -9,6 +10,7 @@ ghost use Rattle.seg_lexer.specs.Value.{octets_of};
 ghost use Rattle.segment_records.specs.Messages.{table_for};
 ghost use Rattle.segment_records.specs.Segments.{value_in};
 
+use clean_segments::PlainFields;
 use dir_compile::Directory;
 use edi_octets::Octets;
 use edi_tables::Chunk;
@@ -30,21 +32,58 @@ pub fn find_table<O: Octets>(
 {
     // The number of its tables fits.
     let _parts = directory.parts();
-    let Names {
-        message,
-        version,
-        release,
-        agency,
-    } = find_names(components);
-    let message = lend_found(alloc, message)?;
-    let version = lend_found(alloc, version)?;
-    let release = lend_found(alloc, release)?;
-    let agency = lend_found(alloc, agency)?;
-    let found = directory.find_table(&message, &version, &release, &agency);
+    let found = match plain_components(&components) {
+        Some(plain) => find_plain_table(directory, plain),
+        None => {
+            let Names {
+                message,
+                version,
+                release,
+                agency,
+            } = find_names(components);
+            let message = lend_found(alloc, message)?;
+            let version = lend_found(alloc, version)?;
+            let release = lend_found(alloc, release)?;
+            let agency = lend_found(alloc, agency)?;
+            directory.find_table(&message, &version, &release, &agency)
+        },
+    };
     match found {
         Some(table) => Ok(Some(table as u32)),
         None => Ok(None),
     }
+}
+
+// The place of that table, where the UNH is plain: its values are lent.
+fn find_plain_table(directory: &Directory, components: PlainFields<'_>) -> Option<usize>
+    ensures { result ≡ table_for directory.now (plain_left components.entry) }
+{
+    let message = lend_plain(components, 2, 1);
+    let version = lend_plain(components, 2, 2);
+    let release = lend_plain(components, 2, 3);
+    let agency = lend_plain(components, 2, 4);
+    directory.find_table(message, version, release, agency)
+}
+
+// The components of a segment, where it is plain and none was taken yet.
+fn plain_components<'a, O: Octets>(components: &Fields<'a, O>) -> Option<PlainFields<'a>>
+    ensures { IfSome result (λ plain. plain_left plain ≡ components_left components.now) }
+{
+    let (octets, separators) = components.whole()?;
+    PlainFields::of(octets, separators)
+}
+
+// The value of a component of a plain segment, which lends it; no octets where it isn't written.
+fn lend_plain<'a>(components: PlainFields<'a>, element: u32, component: u32) -> &'a [u8]
+    ensures { result.now ≡ value_in (plain_left components.entry) element component }
+{
+    let mut left = components;
+    while let Some(found) = left.step() {
+        if found.element == element && found.component == component {
+            return found.octets;
+        }
+    }
+    &[]
 }
 
 // The values that a UNH names its segment table by, those that are written.
@@ -102,7 +141,10 @@ pub fn copy_value<O: Octets>(
     ensures { IfOk result
         (λ octets. octets ≡ value_in (components_left components.entry) element component) }
 {
-    copy_found(alloc, components.value_at(element, component))
+    match plain_components(&components) {
+        Some(plain) => Chunk::of(alloc, lend_plain(plain, element, component)),
+        None => copy_found(alloc, components.value_at(element, component)),
+    }
 }
 
 /// Copies of the values of two components of first repetitions, each by the numbers of its element and its own, in one way
@@ -118,6 +160,11 @@ pub fn copy_two<O: Octets>(
     ensures second { IfOk result
         (λ two. two.1 ≡ value_in (components_left components.entry) second.0 second.1) }
 {
+    if let Some(plain) = plain_components(&components) {
+        let one = Chunk::of(alloc, lend_plain(plain, first.0, first.1))?;
+        let other = Chunk::of(alloc, lend_plain(plain, second.0, second.1))?;
+        return Ok((one, other));
+    }
     let (one, other) = find_two(components, first, second);
     let one = copy_found(alloc, one)?;
     let other = copy_found(alloc, other)?;

@@ -1,20 +1,18 @@
 //! The segments of a text that open or close an envelope.
-ghost use Rattle.std.specs.Prelude.{◌≡◌, ◌+◌, ◌≤◌, length, slice_range, IfOk, IfSome};
-ghost use Rattle.seg_lexer.specs.Fields.{components_of, separators_of};
+ghost use Rattle.std.specs.Prelude.{◌≡◌, ◌+◌, ◌≤◌, length, IfOk};
 ghost use Rattle.seg_lexer.specs.Left.{components_left};
 ghost use Rattle.seg_lexer.specs.Service.{IsUsable};
 ghost use Rattle.segment_records.specs.Heads.{count_in, heads_of, name_in, reference_in};
 ghost use Rattle.segment_records.specs.Look.{seen_of};
-ghost use Rattle.segment_records.specs.Told.{components_seen, head_seen};
-ghost use Rattle.segment_records.specs.WalkedSegments.{as_segment};
+ghost use Rattle.segment_records.specs.Told.{head_seen};
 ghost use Rattle.segment_records.specs.Segments.{segments_of_text};
 ghost use Rattle.edi_octets.specs.declared.octets.TheConstants.{LONGEST_TEXT};
 
-use edi_octets::{Flat, Octets};
+use edi_octets::Octets;
 use edi_tables::Chunk;
 use envelope_check::{Head, HeadKind};
 use kept_text::KeptText;
-use seg_lexer::{Fields, Service, fields};
+use seg_lexer::{Fields, Service};
 use segment_records::{WalkedSegment, copy_two, copy_value};
 use std::alloc::{AllocError, Global};
 
@@ -37,7 +35,7 @@ pub(crate) fn read_head<O: Octets>(
         reference,
         count,
         name,
-    } = read_given(alloc, text, service, seen, kind)?;
+    } = copy_given(alloc, seen.components(text, service), kind)?;
     Ok(Head {
         segment: seen.number,
         start: seen.start(),
@@ -57,75 +55,7 @@ struct Given {
     name: Chunk,
 }
 
-// Those of a segment of a text. Where the text lends its octets in one part, its components are found in this part: then none
-// of them is looked up in the text.
-fn read_given<O: Octets>(
-    alloc: Global,
-    text: &O,
-    service: &Service,
-    seen: &WalkedSegment<'_>,
-    kind: HeadKind,
-) -> Result<Given, AllocError>
-    requires usable { IsUsable service.now (O.octets text.now) }
-    requires short { length (O.octets text.now) ≤ LONGEST_TEXT }
-    requires within { seen.now.from + seen.now.record.now.octets ≤ length (O.octets text.now) }
-    ensures reference { IfOk result (λ given. given.reference
-        ≡ reference_in (components_seen service.now (O.octets text.now) (seen_of seen.now)) kind) }
-    ensures count { IfOk result (λ given. given.count
-        ≡ count_in (components_seen service.now (O.octets text.now) (seen_of seen.now)) kind) }
-    ensures name { IfOk result (λ given. given.name
-        ≡ name_in (components_seen service.now (O.octets text.now) (seen_of seen.now)) kind) }
-{
-    match lend_segment(text, seen) {
-        Some(octets) => copy_lent(alloc, octets, service, kind),
-        None => copy_given(alloc, seen.components(text, service), kind),
-    }
-}
-
-// The octets of a segment without its terminator, where its text lends them in one part and there are any.
-fn lend_segment<'t, O: Octets>(text: &'t O, seen: &WalkedSegment<'_>) -> Option<&'t [u8]>
-    requires { seen.now.from + seen.now.record.now.octets ≤ length (O.octets text.now) }
-    ensures value { IfSome result (λ octets. octets.now ≡ slice_range (O.octets text.now)
-        (as_segment (seen_of seen.now)).start (as_segment (seen_of seen.now)).end) }
-    ensures short { IfSome result (λ octets. length octets.now ≤ LONGEST_TEXT) }
-{
-    let start = seen.start() as usize;
-    let count = (seen.record.octets() - seen.record.breaks() - 1) as usize;
-    if count == 0 {
-        return None;
-    }
-    let part = text.slice_at(start);
-    if part.len() < count {
-        return None;
-    }
-    Some(&part[..count])
-}
-
-// Those of a segment of these octets.
-fn copy_lent(
-    alloc: Global,
-    octets: &[u8],
-    service: &Service,
-    kind: HeadKind,
-) -> Result<Given, AllocError>
-    requires usable { IsUsable (record service.now { body = 0 }) octets.now }
-    requires short { length octets.now ≤ LONGEST_TEXT }
-    ensures reference { IfOk result (λ given. given.reference
-        ≡ reference_in (components_of (separators_of service.now) octets.now) kind) }
-    ensures count { IfOk result (λ given. given.count
-        ≡ count_in (components_of (separators_of service.now) octets.now) kind) }
-    ensures name { IfOk result (λ given. given.name
-        ≡ name_in (components_of (separators_of service.now) octets.now) kind) }
-{
-    let own = Service {
-        body: 0,
-        ..*service
-    };
-    let text = Flat { octets };
-    copy_given(alloc, fields(&text, &own, 0, octets.len()), kind)
-}
-
-// They are copied in one way through its components.
+// Those of a segment with these components.
 fn copy_given<O: Octets>(
     alloc: Global,
     components: Fields<'_, O>,

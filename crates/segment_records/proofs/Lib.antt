@@ -35,3 +35,4 @@ pub mod Turns
 pub mod Walking
 pub mod Walks
 mod Worked
+mod WorkedNotable

@@ -1,4 +1,4 @@
--- Which segments of a text have to be looked at when it is asked for its errors, its functional groups and its messages.
+-- Which segments of a text have to be looked at when it is asked for its errors, functional groups and messages.
 use Rattle.std.specs.Prelude.{ℕ, Bool, true, false, not, ◌&&◌, ◌||◌, List, [], ◌∷◌, filter, is_some, if◌then◌else◌}
 use Rattle.dir_compile.specs.Directory.{Directory}
 use Rattle.edi_tables.specs.Octets.{Octets}

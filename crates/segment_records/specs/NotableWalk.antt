@@ -11,8 +11,10 @@ notable_left s = (
   length s.records.now,
 )
 
--- the records are of stretches, and those that are marked are counted as far as the walk is done
+-- the records are of stretches, those that are marked are counted as far as the walk is done, and the way to the others is no further
 pub record IsNotableWalk (s : Inside) : Type 0 where
   pub within : s.done ≤ length s.records.now
   pub marked : s.marked ≡ sum_by marks_of (take s.done s.records.now)
   pub stretches : AreStretches 1 s.from s.records.now
+  pub way : s.way.0 ≡ s.records.now
+  pub behind : s.way.1 ≤ s.marked

@@ -9,7 +9,7 @@ use crate::mode::Mode;
 use crate::record::Record;
 use crate::tags::bounds_message;
 use crate::walked_segment::WalkedSegment;
-use seq_tree::Seq;
+use seq_tree::{MarkedItems, Seq};
 use std::marker::{Brand, Model};
 use std::sync::ledger::{Blank, Ledger};
 use step_counter::Steps;
@@ -26,6 +26,8 @@ pub struct NotableSegments<'e> {
     // How many segments are done with, and how many of them are marked.
     done: usize,
     marked: u32,
+    // The way to those of the others.
+    way: MarkedItems<'e, Record>,
 }
 
 impl<'e> Model for NotableSegments<'e> {
@@ -55,6 +57,7 @@ impl<'e> NotableSegments<'e> {
             before,
             done: 0,
             marked: 0,
+            way: records.marked_items(),
         }
     }
 
@@ -83,7 +86,7 @@ impl<'e> NotableSegments<'e> {
             };
             return Some(near.segment_at(self.done - 1, records.total(), visited));
         }
-        let marked = records.marked(self.marked, visited);
+        let marked = self.way.find(self.marked, visited);
         let near = Nearby {
             records,
             from: self.from,

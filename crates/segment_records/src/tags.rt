@@ -1,5 +1,5 @@
 //! The tags that bound messages.
-ghost use Rattle.std.specs.Prelude.{◌≡◌, ◌∷◌, [], codes};
+ghost use Rattle.std.specs.Prelude.{◌≡◌, ◌∷◌, ℕ, true, [], codes};
 ghost use Rattle.std.specs.List.{list_any};
 ghost use Rattle.edi_tables.specs.Rows.{has_name};
 ghost use Rattle.segment_records.specs.Bounds.{bounds_message as bounds_message_of, stops_message as stops_message_of};
@@ -33,8 +33,23 @@ pub fn bounds_message(tag: Option<Tag>) -> bool
 }
 
 /// Whether a segment with this tag stops a message: UNT, UNH, UNE, UNG, UNZ and UNB do.
+#[inline(always)]
 pub fn stops_message(tag: Option<Tag>) -> bool
     ensures { result ≡ stops_message_of tag }
 {
-    is_named(b"UNT", tag) || is_named(b"UNH", tag) || is_no_part(tag)
+    // Most tags show by their first letter that they don't.
+    begins_so(b'U', tag) && (is_named(b"UNT", tag) || is_named(b"UNH", tag) || is_no_part(tag))
+}
+
+// Whether a segment has a tag that begins with this letter.
+#[inline(always)]
+fn begins_so(letter: u8, tag: Option<Tag>) -> bool
+    ensures { (second third : ℕ)
+        → has_name (letter ∷ second ∷ third ∷ []) tag ≡ true
+        → result ≡ true }
+{
+    match tag {
+        Some(tag) => tag.octets[0] == letter,
+        None => false,
+    }
 }

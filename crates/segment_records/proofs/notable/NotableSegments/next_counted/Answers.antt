@@ -36,7 +36,7 @@ returns-then-self-marks-clause-next g c =
 pub returns-then-bounds_message-clause-next : goal.returns-then-bounds_message-clause-next
 returns-then-bounds_message-clause-next g c =
     let s = c.self.inside in
-    let marked = c.marked-marked.result in
+    let marked = c.find-marked.result in
     let seen = seen_of c.segment_at-then-bounds_message.result in
     let q : ℕ = marked.place - 1 in
     let all : List SeenSegment = seen_from 1 s.from s.before.now s.records.now in
@@ -45,45 +45,47 @@ returns-then-bounds_message-clause-next g c =
     let bounds : bounds_message marked.item.now.tag ≡ true =
     ap bounds_message (sym c.tag.ensures) ∙ sym c.bounds_message.ensures ∙ c.if-bounds_message.true in
     let same : sum_by marks_of (take (q + 1) s.records.now) ≡ sum_by marks_of (take s.done s.records.now) =
-    ap (λ (n : ℕ). sum_by marks_of (take n s.records.now)) place ∙ c.marked-marked.ensures.rank ∙ c.self.invariant.marked in
+    ap (λ (n : ℕ). sum_by marks_of (take n s.records.now)) place ∙ (rw c.self.invariant.way at c.find-marked.ensures.rank) ∙ c.self.invariant.marked in
     first_part _ _ (sym c.self.view_is)
     ∙ take_before s.from s.before.now s.records.now s.done q marked.item.now seen low
-    (ap (slice_get s.records.now) place ∙ c.marked-marked.ensures.is) bounds same c.segment_at-then-bounds_message.ensures.is
+    (ap (slice_get s.records.now) place ∙ (rw c.self.invariant.way at c.find-marked.ensures.is)) bounds same c.segment_at-then-bounds_message.ensures.is
     ∙ ap (λ (n : ℕ). seen ∷ filter is_notable (drop n all)) place
 
 pub overflow_add-self : goal.overflow_add-self
 overflow_add-self g c =
     let s = c.self.inside in
-    let within = slice_get_within s.records.now c.marked-marked.result.place c.marked-marked.result.item.now c.marked-marked.ensures.is in
-    let short = place_short s.from s.records.now c.marked-marked.result.place c.self.invariant.stretches (omega arith) in omega arith
+    let within = slice_get_within s.records.now c.find-marked.result.place c.find-marked.result.item.now (rw c.self.invariant.way at c.find-marked.ensures.is) in
+    let short = place_short s.from s.records.now c.find-marked.result.place c.self.invariant.stretches (omega arith) in omega arith
 
 pub segment_at-requires-2-clause-end : goal.segment_at-requires-2-clause-end
 segment_at-requires-2-clause-end g c =
-    let next = octets_next c.self.inside.records.now c.marked-marked.result.place c.marked-marked.result.item.now c.marked-marked.ensures.is in
-    omega (arith, c.from.ensures, c.octets.ensures, c.marked-marked.ensures.before)
+    let next = octets_next c.self.inside.records.now c.find-marked.result.place c.find-marked.result.item.now (rw c.self.invariant.way at c.find-marked.ensures.is) in
+    omega (arith, c.from.ensures, c.octets.ensures, (rw c.self.invariant.way at c.find-marked.ensures.before))
 
 pub invariant_of-self-2 : goal.invariant_of-self-2
 invariant_of-self-2 g c =
     let s = c.self.inside in
-    let marked = c.marked-marked.result in
-    let at = c.marked-marked.ensures.is in
+    let marked = c.find-marked.result in
+    let at = (rw c.self.invariant.way at c.find-marked.ensures.is) in
     let within = slice_get_within s.records.now marked.place marked.item.now at in
     let next = sum_by_next marks_of s.records.now marked.place marked.item.now at in
     record {
       within = omega arith;
-      marked = omega (arith, c.marked-marked.ensures.rank, c.marked-marked.ensures.marked);
+      marked = omega (arith, (rw c.self.invariant.way at c.find-marked.ensures.rank), c.find-marked.ensures.marked);
       stretches = c.self.invariant.stretches;
+      way = c.find-marked.ensures.same ∙ c.self.invariant.way;
+      behind = omega (arith, c.find-marked.ensures.behind);
     }
 
 pub returns-clause-next : goal.returns-clause-next
 returns-clause-next g c =
     let s = c.self.inside in
-    let marked = c.marked-marked.result in
-    let at = c.marked-marked.ensures.is in
-    let one = c.marked-marked.ensures.marked in
+    let marked = c.find-marked.result in
+    let at = (rw c.self.invariant.way at c.find-marked.ensures.is) in
+    let one = c.find-marked.ensures.marked in
     let seen = seen_of c.segment_at-2.result in
     let same : sum_by marks_of (take marked.place s.records.now) ≡ sum_by marks_of (take s.done s.records.now) =
-    c.marked-marked.ensures.rank ∙ c.self.invariant.marked in
+    (rw c.self.invariant.way at c.find-marked.ensures.rank) ∙ c.self.invariant.marked in
     let inside : s.done < marked.place → bounds_message marked.item.now.tag ≡ false =
     elim c.else-marked-self.branch [
       | else-marked-self-via-then-marked-self+else-bounds_message w ↦

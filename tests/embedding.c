@@ -183,6 +183,63 @@ static void try_refusals(struct call it, bool all, struct octets due, const char
            all ? "with all that follow" : "alone", spared);
 }
 
+/* What a handle comes to, which keeps the text: each question, edits, each code, and each allocation refused. */
+static struct octets kept(edicheck_handle *handle, char kind, uint32_t due, const char *what) {
+    static uint8_t out[ROOM];
+    size_t needed = 12345;
+    struct octets stamp = octets_of("960105:0930"), reference = octets_of("A1");
+    uint32_t code = kind == 'e' ? edicheck_kept_errors(handle, out, ROOM, &needed)
+        : kind == 't' ? edicheck_kept_tree(handle, out, ROOM, &needed)
+        : kind == 'x' ? edicheck_kept_text(handle, out, ROOM, &needed)
+        : edicheck_kept_contrl(handle, stamp.at, stamp.length, reference.at, reference.length, out, ROOM, &needed);
+    expect(code == due, what);
+    return (struct octets){out, needed};
+}
+
+static bool is_same(struct octets a, struct octets b) { return a.length == b.length && memcmp(a.at, b.at, a.length) == 0; }
+
+static void try_handles(const struct octets *dues) {
+    edicheck_handle directory = {0}, handle = {0};
+    size_t number = 12345;
+    expect(edicheck_close(&handle) == EDICHECK_CLOSED, "a handle that begins closed");
+    kept(&handle, 'e', EDICHECK_CLOSED, "errors of a closed handle");
+    expect(edicheck_replace(&handle, 0, 0, text.at, 0, &number) == EDICHECK_CLOSED && number == 0, "an edit of a closed handle");
+    expect(edicheck_open_beside(&handle, &directory, text.at, text.length, &number) == EDICHECK_CLOSED, "beside a closed handle");
+    expect(edicheck_open(&directory, store.at, store.length, text.at, 0, &number) == EDICHECK_DONE && number == 0, "a directory");
+    long of_directory = blocks;
+    for (long tried = 0, code = EDICHECK_NO_MEMORY; code != EDICHECK_DONE; tried++) {
+        asked = 0, first = tried + 1, last = 1 << 30;
+        code = edicheck_open_beside(&handle, &directory, text.at, text.length, &number);
+        asked = 0, first = last = 0;
+        expect(code == EDICHECK_DONE || (code == EDICHECK_NO_MEMORY && blocks == of_directory && handle.at == NULL), "an opening");
+    }
+    expect(number == text.length, "the length of the text");
+    for (int i = 0; i < 3; i++) expect(is_same(kept(&handle, "etc"[i], EDICHECK_DONE, "a question"), dues[i]), "an answer");
+    expect(is_same(kept(&handle, 'x', EDICHECK_DONE, "the text"), text), "the text as it was");
+    expect(edicheck_replace(&handle, text.length, 1, text.at, 0, &number) == EDICHECK_NO_RANGE && number == 0, "past the end");
+    uint8_t *spaces = malloc(LIMIT);
+    memset(spaces, ' ', LIMIT);
+    expect(edicheck_replace(&handle, 0, 0, spaces, LIMIT, &number) == EDICHECK_TOO_LONG && number == 0, "a text over the limit");
+    free(spaces);
+    for (long tried = 0, code = EDICHECK_NO_MEMORY; code != EDICHECK_DONE; tried++) {
+        asked = 0, first = tried + 1, last = 1 << 30;
+        code = edicheck_replace(&handle, 0, text.length, text.at, 9, &number);
+        asked = 0, first = last = 0;
+        if (code != EDICHECK_DONE) {
+            expect(code == EDICHECK_NO_MEMORY && number == 0, "an edit without memory");
+            expect(is_same(kept(&handle, 'x', EDICHECK_DONE, "the text"), text), "the text after an edit without memory");
+        }
+    }
+    expect(number == 9 && is_same(kept(&handle, 'x', EDICHECK_DONE, "the text"), (struct octets){text.at, 9}), "an edited text");
+    expect(edicheck_close(&handle) == EDICHECK_DONE && handle.at == NULL && blocks == of_directory, "nothing is left of a text");
+    for (int i = 0; i < 1000; i++)
+        if (edicheck_open_beside(&handle, &directory, text.at, text.length, &number) != EDICHECK_DONE) failed++;
+    expect(edicheck_close(&handle) == EDICHECK_DONE && blocks == of_directory, "texts one after the other in one handle");
+    expect(edicheck_close(&directory) == EDICHECK_DONE, "a directory's handle");
+    printf("handles: %ld blocks are left of one directory\n", (long)blocks);
+    blocks = 0;
+}
+
 static void try_many(struct call it, struct octets due) {
     struct rusage before, after;
     bool well = true;
@@ -234,6 +291,7 @@ int main(int count, char **words) {
     }
     try_many(calls[0], dues[0]);
     try_threads();
+    try_handles(dues);
     printf("%d passed, %d failed\n", passed, failed);
     return failed != 0;
 }

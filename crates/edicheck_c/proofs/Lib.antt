@@ -1,2 +1,3 @@
+mod Places
 mod ReplyLemmas
 mod ToldLemmas

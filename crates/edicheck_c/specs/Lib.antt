@@ -1,3 +1,5 @@
 pub mod Answer
+pub mod Held
+pub mod Keeping
 pub mod Script
 pub mod Told

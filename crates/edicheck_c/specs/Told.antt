@@ -56,6 +56,10 @@ tree_told text directory = printing code.DONE (tree_text (tree_of directory text
 abbrev pub tree_answer : Octets → Octets → Answer
 tree_answer store text = told_by (tree_told text) (opened_by_store store text)
 
+-- the text itself
+abbrev pub text_told : Octets → Directory → Answer
+text_told text directory = printing code.DONE text
+
 -- an acknowledgement; or that the text has no UNB, or one that can't be answered
 abbrev pub contrl_told : Contrl → Answer
 contrl_told (Written octets) = printing code.DONE octets
@@ -68,6 +72,10 @@ acknowledgement_told text None reference directory = refusing code.BAD_STAMP 0
 acknowledgement_told text (Some stamp) reference directory =
     if is_reference_of reference then contrl_told (contrl_to directory text stamp reference)
     else refusing code.BAD_REFERENCE 0
+
+-- the same with the stamp and the reference in two words
+abbrev pub contrl_words_told : Octets → Octets → Octets → Directory → Answer
+contrl_words_told stamp reference text directory = acknowledgement_told text (stamp_in stamp) reference directory
 
 -- the acknowledgement of a text, by the directory that a store spells, with the stamp and the reference in two words
 abbrev pub contrl_answer : Octets → Octets → Octets → Octets → Answer

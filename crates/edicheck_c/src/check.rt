@@ -5,10 +5,13 @@ ghost use Rattle.error_ledger.specs.Printing.{errors_text, tree_text};
 ghost use Rattle.text_reading.specs.Errors.{errors_of};
 ghost use Rattle.text_reading.specs.Tree.{tree_of};
 ghost use Rattle.edicheck_c.specs.Answer.{no_memory_answer};
-ghost use Rattle.edicheck_c.specs.Told.{errors_answer, errors_told, tree_answer, tree_told};
+ghost use Rattle.edicheck_c.specs.Held.{boxed};
+ghost use Rattle.edicheck_c.specs.Keeping.{told_of};
+ghost use Rattle.edicheck_c.specs.Told.{errors_answer, errors_told, text_told, tree_answer, tree_told};
 
 use crate::answer::Answer;
-use crate::code::DONE;
+use crate::code::{CLOSED, DONE};
+use crate::kept::Kept;
 use crate::opening::open;
 use dir_compile::Directory;
 use edi_engine::Engine;
@@ -33,6 +36,45 @@ pub(crate) fn tell_tree(alloc: Global, store: &[u8], text: &[u8]) -> Answer
     match open(alloc, store, text) {
         Ok(directory) => tree_by(alloc, &directory, text),
         Err(answer) => answer,
+    }
+}
+
+/// The printed errors of the text that is kept.
+pub(crate) fn tell_kept_errors(alloc: Global, kept: &Option<Box<Kept>>) -> Answer
+    ensures { (result ≡ told_of errors_told (boxed kept.now)) ⊎ (result ≡ no_memory_answer) }
+{
+    let Some(kept) = kept else {
+        return Answer::refusing(alloc, CLOSED, 0);
+    };
+    match errors_in(alloc, &kept.engine) {
+        Ok(printed) => Answer::printing(DONE, printed),
+        Err(_) => Answer::no_memory(alloc),
+    }
+}
+
+/// The printed tree of the text that is kept.
+pub(crate) fn tell_kept_tree(alloc: Global, kept: &Option<Box<Kept>>) -> Answer
+    ensures { (result ≡ told_of tree_told (boxed kept.now)) ⊎ (result ≡ no_memory_answer) }
+{
+    let Some(kept) = kept else {
+        return Answer::refusing(alloc, CLOSED, 0);
+    };
+    match tree_in(alloc, &kept.engine) {
+        Ok(printed) => Answer::printing(DONE, printed),
+        Err(_) => Answer::no_memory(alloc),
+    }
+}
+
+/// The text that is kept.
+pub(crate) fn tell_kept_text(alloc: Global, kept: &Option<Box<Kept>>) -> Answer
+    ensures { (result ≡ told_of text_told (boxed kept.now)) ⊎ (result ≡ no_memory_answer) }
+{
+    let Some(kept) = kept else {
+        return Answer::refusing(alloc, CLOSED, 0);
+    };
+    match kept.engine.copy_text(alloc) {
+        Ok(text) => Answer::printing(DONE, text),
+        Err(_) => Answer::no_memory(alloc),
     }
 }
 
@@ -64,6 +106,13 @@ fn list_errors(alloc: Global, directory: &Directory, text: &[u8]) -> Result<Chun
         (λ printed. printed ≡ errors_text (errors_of directory.now text.now)) }
 {
     let engine = Engine::read(alloc, directory, text.to_vec(alloc)?)?;
+    errors_in(alloc, &engine)
+}
+
+fn errors_in(alloc: Global, engine: &Engine<'_>) -> Result<Chunk, AllocError>
+    ensures { IfOk result
+        (λ printed. printed ≡ errors_text (errors_of engine.now.directory engine.now.text)) }
+{
     let errors = engine.errors(alloc)?;
     print_errors(alloc, &errors)
 }
@@ -73,6 +122,13 @@ fn list_tree(alloc: Global, directory: &Directory, text: &[u8]) -> Result<Chunk,
     ensures { IfOk result (λ printed. printed ≡ tree_text (tree_of directory.now text.now)) }
 {
     let engine = Engine::read(alloc, directory, text.to_vec(alloc)?)?;
+    tree_in(alloc, &engine)
+}
+
+fn tree_in(alloc: Global, engine: &Engine<'_>) -> Result<Chunk, AllocError>
+    ensures { IfOk result
+        (λ printed. printed ≡ tree_text (tree_of engine.now.directory engine.now.text)) }
+{
     let tree = engine.tree(alloc)?;
     print_tree(alloc, &tree)
 }

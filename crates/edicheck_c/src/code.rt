@@ -20,3 +20,7 @@ pub const NO_UNB: u32 = 7;
 pub const BAD_UNB: u32 = 8;
 /// The script breaks its grammar; the replies before that are in the buffer, and the line that tells why it stopped.
 pub const BAD_SCRIPT: u32 = 9;
+/// The handle is closed.
+pub const CLOSED: u32 = 10;
+/// The edit reaches past the end of the text.
+pub const NO_RANGE: u32 = 11;

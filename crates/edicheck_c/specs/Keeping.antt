@@ -6,7 +6,6 @@ use Rattle.std.specs.Result.{result_map_both}
 use Rattle.edi_tables.specs.Octets.{Octets}
 use Rattle.dir_compile.specs.Directory.{Directory}
 use Rattle.kept_text.specs.Edit.{reading_with}
-use Rattle.kept_text.specs.Reading.{Reading}
 use Rattle.edi_engine.specs.Edit.{stop_of}
 use Rattle.edi_engine.specs.declared.edit.EditStop.{EditStop}
 use Rattle.edi_engine.specs.declared.edit.EditStop.TheVariants.{Range, TooLong, Memory}

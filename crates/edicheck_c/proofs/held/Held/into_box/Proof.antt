@@ -1,5 +1,5 @@
 -- `into_box` tests the pointer, and makes the box again.
-use Rattle.std.proofs.Common.{◌≡◌, ℕ, List, [], ◌∷◌, ◌++◌, refl, sym, ap, ◌∙◌, subst, lit<}
+use Rattle.std.proofs.Common.{◌≡◌, List, [], ◌∷◌, ◌++◌, refl, sym, ap, ◌∙◌, subst, lit<}
 use mir.Syntax.{Body, Dict, a_type, impl, tnil, tcons, dnil, seq, assign, place, rv_opd, copy, aggregate, int, w8}
 use lib.Dec.{T as Yes}
 use mir.Raw.{raw as bare}
@@ -32,7 +32,6 @@ use denote.Triple.Spec.{triple_of}
 use denote.Triple.Call.{calls_at_last}
 use denote.Triple.Table.{framed}
 use denote.Triple.Walked.{Stays, stay_dropped, walk_of}
-use Rattle.std.specs.Option.{MatchOption}
 use Rattle.std.specs.declared.option.Option.TheVariants.{None, Some}
 use Rattle.std.specs.contracts.alloc.Global as heap
 use Rattle.std.proofs.alloc.Global.TheLaws as heap_laws

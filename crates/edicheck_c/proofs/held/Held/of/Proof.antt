@@ -1,8 +1,8 @@
 -- `of` takes the box apart, and keeps its pointer.
-use Rattle.std.proofs.Common.{◌≡◌, ℕ, List, [], ◌∷◌, ◌++◌, refl, sym, ap, ◌∙◌, subst}
+use Rattle.std.proofs.Common.{◌≡◌, List, [], ◌∷◌, ◌++◌, refl, sym, ap, ◌∙◌, subst}
 use mir.Syntax.{Dict, a_type, impl, tnil, tcons, dnil, dcons}
 use mir.Raw.{raw as bare}
-use mir.Val.{Val, vptr}
+use mir.Val.{Val}
 use mir.MapTy.{inst_fn}
 use base.Fraction.{left, right}
 use base.Logic.{SProp, ent, emp, never, id⊢, fst∗}

@@ -135,9 +135,17 @@ fn places_of_marked_items(rt: HostRuntime) -> Result<(), Fail> {
     let longer = whole.insert(rt.alloc(), 3, Gram(9))?;
     assert_eq!(rt; whole.marks(), 20);
     assert_eq!(rt; longer.marks(), 21);
-    expect_marked(&rt, &whole, &[(0, 1, 0), (0, 1, 0), (1, 3, 1), (19, 39, 19)]);
+    expect_marked(
+        &rt,
+        &whole,
+        &[(0, 1, 0), (0, 1, 0), (1, 3, 1), (19, 39, 19)],
+    );
     expect_marked(&rt, &whole, &[(12, 25, 12), (13, 27, 13)]);
-    expect_marked(&rt, &longer, &[(0, 1, 0), (1, 3, 1), (2, 4, 10), (2, 4, 10), (20, 40, 28)]);
+    expect_marked(
+        &rt,
+        &longer,
+        &[(0, 1, 0), (1, 3, 1), (2, 4, 10), (2, 4, 10), (20, 40, 28)],
+    );
     Ok(())
 }
 

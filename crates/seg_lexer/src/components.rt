@@ -35,7 +35,8 @@ struct ComponentPlace {
 impl ComponentPlace {
     /// Whether it is that of the first component of a segment.
     fn is_first(&self) -> bool
-        ensures { IsTrue result → self.now ≡ record { at = 0; element = 0; repetition = 1; component = 1 } }
+        ensures { IsTrue result
+            → self.now ≡ record { at = 0; element = 0; repetition = 1; component = 1 } }
     {
         self.at == 0 && self.element == 0 && self.repetition == 1 && self.component == 1
     }

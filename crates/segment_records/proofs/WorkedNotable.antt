@@ -21,14 +21,14 @@ kept name entry after = record {
 abbrev inside : Mode
 inside = Within 0 ((0, 1) ∷ [])
 
--- in a message with a table BGM and DTM are at entries and XXX is at none; a message without a table follows, which UNZ cuts off
+-- in a message with a table BGM and DTM are at entries and ABC is at none; a message without a table follows, which UNZ cuts off
 abbrev segments : List Kept
 segments =
-    kept (codes "UNH") (Some 0) inside ∷ kept (codes "BGM") (Some 1) inside ∷ kept (codes "XXX") None inside
+    kept (codes "UNH") (Some 0) inside ∷ kept (codes "BGM") (Some 1) inside ∷ kept (codes "ABC") None inside
     ∷ kept (codes "DTM") (Some 2) inside ∷ kept (codes "UNT") (Some 9) Outside ∷ kept (codes "UNH") None Untabled
     ∷ kept (codes "BGM") None Untabled ∷ kept (codes "NAD") None Untabled ∷ kept (codes "UNZ") None Outside ∷ []
 
--- both UNH, UNT and UNZ are notable, and so are XXX, and NAD, with which its message ends
+-- both UNH, UNT and UNZ are notable, and so are ABC, and NAD, with which its message ends
 notable : map (λ seen. seen.number) (filter is_notable (seen_from 1 0 Outside segments))
     ≡ 1 ∷ 3 ∷ 5 ∷ 6 ∷ 8 ∷ 9 ∷ []
 notable = refl

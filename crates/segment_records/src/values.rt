@@ -1,8 +1,8 @@
 //! Values of a segment, and the segment table that a UNH names by some of them.
 ghost use Rattle.std.specs.Prelude.{◌≡◌, ◌<◌, ◌∷◌, List, IfOk, IfSome, length, unwrap_or, []};
 ghost use Rattle.std.specs.Cow.{cow_slice_items};
-ghost use Rattle.std.specs.Option.{option_map, option_or};
-ghost use Rattle.clean_segments.specs.Plain.{plain_left};
+ghost use Rattle.std.specs.Option.{option_copied, option_map, option_or};
+ghost use Rattle.clean_segments.specs.Plain.{component_in, plain_left};
 ghost use Rattle.dir_compile.specs.Directory.{tables_of};
 ghost use Rattle.seg_lexer.specs.Fields.{octets_at, unplaced, Component as SeenComponent};
 ghost use Rattle.seg_lexer.specs.Left.{components_left, placed_in};
@@ -10,7 +10,7 @@ ghost use Rattle.seg_lexer.specs.Value.{octets_of};
 ghost use Rattle.segment_records.specs.Messages.{table_for};
 ghost use Rattle.segment_records.specs.Segments.{value_in};
 
-use clean_segments::PlainFields;
+use clean_segments::{PlainComponent, PlainFields};
 use dir_compile::Directory;
 use edi_octets::Octets;
 use edi_tables::Chunk;
@@ -58,11 +58,77 @@ pub fn find_table<O: Octets>(
 fn find_plain_table(directory: &Directory, components: PlainFields<'_>) -> Option<usize>
     ensures { result ≡ table_for directory.now (plain_left components.entry) }
 {
-    let message = lend_plain(components, 2, 1);
-    let version = lend_plain(components, 2, 2);
-    let release = lend_plain(components, 2, 3);
-    let agency = lend_plain(components, 2, 4);
-    directory.find_table(message, version, release, agency)
+    let PlainNames {
+        message,
+        version,
+        release,
+        agency,
+    } = find_plain_names(components);
+    directory.find_table(
+        message.unwrap_or(&[]),
+        version.unwrap_or(&[]),
+        release.unwrap_or(&[]),
+        agency.unwrap_or(&[]),
+    )
+}
+
+// The values that a plain UNH names its segment table by, those that are written.
+struct PlainNames<'a> {
+    message: Option<&'a [u8]>,
+    version: Option<&'a [u8]>,
+    release: Option<&'a [u8]>,
+    agency: Option<&'a [u8]>,
+}
+
+// They are found in one way through the components.
+fn find_plain_names<'a>(components: PlainFields<'a>) -> PlainNames<'a>
+    ensures message { option_copied result.message
+        ≡ octets_at 2 1 (plain_left components.entry) }
+    ensures version { option_copied result.version
+        ≡ octets_at 2 2 (plain_left components.entry) }
+    ensures release { option_copied result.release
+        ≡ octets_at 2 3 (plain_left components.entry) }
+    ensures agency { option_copied result.agency
+        ≡ octets_at 2 4 (plain_left components.entry) }
+{
+    let mut left = components;
+    let mut message = None;
+    let mut version = None;
+    let mut release = None;
+    let mut agency = None;
+    while let Some(found) = left.step() {
+        message = or_lent(message, &found, 1);
+        version = or_lent(version, &found, 2);
+        release = or_lent(release, &found, 3);
+        agency = or_lent(agency, &found, 4);
+    }
+    PlainNames {
+        message,
+        version,
+        release,
+        agency,
+    }
+}
+
+// The value that was found before, or else that of this component if its numbers are 2 and this one.
+#[inline(always)]
+fn or_lent<'a>(
+    before: Option<&'a [u8]>,
+    found: &PlainComponent<'a>,
+    component: u32,
+) -> Option<&'a [u8]>
+    ensures { (later : List SeenComponent)
+        → option_or (option_copied result) (octets_at 2 component later)
+        ≡ option_or (option_copied before.entry)
+        (octets_at 2 component (component_in found.now ∷ later)) }
+{
+    if before.is_some() {
+        return before;
+    }
+    if found.element == 2 && found.component == component {
+        return Some(found.octets);
+    }
+    None
 }
 
 // The components of a segment, where it is plain and none was taken yet.

@@ -3,8 +3,8 @@ ghost use Rattle.std.specs.Prelude.{◌≡◌, ◌+◌, ◌++◌, ◌<◌, lengt
 ghost use Rattle.std.specs.Option.{option_to_list};
 ghost use Rattle.envelope_check.specs.Heads.{Fits, head_place_of, place_by};
 
-use edi_tables::{Chunk, Tag};
-use envelope_check::{Head, HeadKind, MarkList, SegmentMark, envelope_errors};
+use edi_tables::Tag;
+use envelope_check::{Head, HeadKind, HeadValue, MarkList, SegmentMark, envelope_errors};
 use error_ledger::print_errors;
 use std::alloc::{AllocError, Global};
 use std::process::Abort;
@@ -27,9 +27,9 @@ fn head_of(
         segment,
         start,
         kind,
-        count: Chunk::of(alloc, row.1.as_bytes())?,
-        reference: Chunk::of(alloc, row.2.as_bytes())?,
-        name: Chunk::of(alloc, row.3.as_bytes())?,
+        count: HeadValue::of(alloc, row.1.as_bytes())?,
+        reference: HeadValue::of(alloc, row.2.as_bytes())?,
+        name: HeadValue::of(alloc, row.3.as_bytes())?,
         tabled: row.3 != "NONE",
     })
 }

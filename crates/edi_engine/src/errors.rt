@@ -12,11 +12,11 @@ ghost use Rattle.segment_records.specs.Segments.{segments_of_text};
 ghost use Rattle.segment_records.specs.Heads.{heads_of, marks_of};
 ghost use Rattle.text_reading.specs.Errors.{errors_found, errors_of};
 
-use crate::heads::read_heads;
+use crate::heads::read_head;
 use crate::marks::KeptMarks;
 use crate::opening::{put_advice, put_syntax, put_tail};
 use crate::structure::put_structure;
-use envelope_check::envelope_errors;
+use envelope_check::{Head, HeadKind, envelope_errors};
 use error_ledger::{ErrorLine, order_errors};
 use kept_text::KeptText;
 use segment_records::WalkedSegment;
@@ -52,40 +52,69 @@ pub fn list_errors(kept: &KeptText<'_>, alloc: Global) -> Result<Vec<ErrorLine>,
 fn find_errors(kept: &KeptText<'_>, alloc: Global) -> Result<Vec<ErrorLine>, AllocError>
     ensures { IfOk result (λ list. list.items ≡ errors_found kept.now.directory kept.now.text) }
 {
-    let mut list = find_envelope_errors(kept, alloc)?;
+    let Found { heads, lines } = walk_notable(kept, alloc)?;
+    let mut list = judge_envelopes(kept, heads, alloc)?;
     put_advice(kept, &mut list)?;
     put_tail(kept, &mut list)?;
     put_syntax(kept, &mut list)?;
-    put_segments(kept, alloc, &mut list)?;
+    put_lines(lines, &mut list)?;
     Ok(list)
 }
 
-// The errors of its envelopes.
-fn find_envelope_errors(kept: &KeptText<'_>, alloc: Global) -> Result<Vec<ErrorLine>, AllocError>
+// What one walk over the notable segments of a text finds: the heads, and the errors of each segment by itself and by its
+// message.
+struct Found {
+    heads: Vec<Head>,
+    lines: Vec<ErrorLine>,
+}
+
+// That of a text. The values of its heads are read from it. The other segments are no heads and have no error.
+fn walk_notable(kept: &KeptText<'_>, alloc: Global) -> Result<Found, AllocError>
+    ensures heads { IfOk result (λ found. found.heads.items
+        ≡ heads_of kept.now.directory (segments_of_text kept.now.text)) }
+    ensures lines { IfOk result (λ found. let segments = segments_of_text kept.now.text in
+        found.lines.items
+        ≡ flat_map (segment_lines kept.now.directory (context_of kept.now.text) segments)
+        (enumerate_from 0 segments)) }
+{
+    let directory = kept.directory();
+    let text = kept.whole();
+    let service = kept.service();
+    let mut heads = Vec::new(alloc);
+    let mut lines = Vec::new(alloc);
+    for seen in kept.notable_segments() {
+        put_structure(alloc, directory, &seen, &mut lines)?;
+        put_local(&seen, &mut lines)?;
+        if let Some(kind) = HeadKind::of(seen.record.tag()) {
+            let head = read_head(alloc, &text, service, &seen, kind)?;
+            heads.push(head)?;
+        }
+    }
+    Ok(Found { heads, lines })
+}
+
+// The errors of the envelopes of a text with these heads.
+fn judge_envelopes(
+    kept: &KeptText<'_>,
+    heads: Vec<Head>,
+    alloc: Global,
+) -> Result<Vec<ErrorLine>, AllocError>
+    requires { heads.items ≡ heads_of kept.now.directory (segments_of_text kept.now.text) }
     ensures { IfOk result (λ errors. let segments = segments_of_text kept.now.text in
         errors.items
         ≡ envelope_errors_of (heads_of kept.now.directory segments) (marks_of segments)) }
 {
-    let heads = read_heads(kept, alloc)?;
     let mut marks = KeptMarks::of(kept);
     envelope_errors(alloc, &heads, kept.segment_count(), &mut marks)
 }
 
-// Puts the errors of each segment by itself and by its message. Those that aren't notable have none.
-fn put_segments(
-    kept: &KeptText<'_>,
-    alloc: Global,
-    list: &mut Vec<ErrorLine>,
-) -> Result<(), AllocError>
-    ensures { OnOk result (list.new.items ≡ list.old.items
-        ++ (let segments = segments_of_text kept.now.text in
-        flat_map (segment_lines kept.now.directory (context_of kept.now.text) segments)
-        (enumerate_from 0 segments))) }
+// Puts these errors at the end. Most often one of the lists is empty, and nothing is copied.
+fn put_lines(lines: Vec<ErrorLine>, list: &mut Vec<ErrorLine>) -> Result<(), AllocError>
+    ensures { OnOk result (list.new.items ≡ list.old.items ++ lines.items) }
 {
-    let directory = kept.directory();
-    for seen in kept.notable_segments() {
-        put_structure(alloc, directory, &seen, list)?;
-        put_local(&seen, list)?;
+    if list.is_empty() {
+        *list = lines;
+        return Ok(());
     }
-    Ok(())
+    list.extend_from_slice(&lines)
 }

@@ -2,18 +2,15 @@
 ghost use Rattle.std.specs.Prelude.{◌≡◌, ◌+◌, ◌≤◌, length, IfOk};
 ghost use Rattle.seg_lexer.specs.Left.{components_left};
 ghost use Rattle.seg_lexer.specs.Service.{IsUsable};
-ghost use Rattle.segment_records.specs.Heads.{count_in, heads_of, name_in, reference_in};
+ghost use Rattle.segment_records.specs.Heads.{count_in, name_in, reference_in};
 ghost use Rattle.segment_records.specs.Look.{seen_of};
 ghost use Rattle.segment_records.specs.Told.{head_seen};
-ghost use Rattle.segment_records.specs.Segments.{segments_of_text};
 ghost use Rattle.edi_octets.specs.declared.octets.TheConstants.{LONGEST_TEXT};
 
 use edi_octets::Octets;
-use edi_tables::Chunk;
-use envelope_check::{Head, HeadKind};
-use kept_text::KeptText;
+use envelope_check::{Head, HeadKind, HeadValue};
 use seg_lexer::{Fields, Service};
-use segment_records::{WalkedSegment, copy_two, copy_value};
+use segment_records::{WalkedSegment, lend_two, lend_value};
 use std::alloc::{AllocError, Global};
 
 /// A segment as a head of this kind, with the values that its kind gives. They are read from its text, by the service
@@ -50,9 +47,9 @@ pub(crate) fn read_head<O: Octets>(
 
 // The values that a segment gives by its kind; no octets for one that its kind doesn't give.
 struct Given {
-    reference: Chunk,
-    count: Chunk,
-    name: Chunk,
+    reference: HeadValue,
+    count: HeadValue,
+    name: HeadValue,
 }
 
 // Those of a segment with these components.
@@ -69,52 +66,37 @@ fn copy_given<O: Octets>(
         ≡ name_in (components_left components.entry) kind) }
 {
     match kind {
-        HeadKind::Unb => Ok(Given {
-            reference: copy_value(alloc, components, 5, 1)?,
-            count: Chunk::empty(alloc),
-            name: Chunk::empty(alloc),
-        }),
-        HeadKind::Ung => {
-            let (name, reference) = copy_two(alloc, components, (1, 1), (5, 1))?;
+        HeadKind::Unb => {
+            let reference = lend_value(alloc, components, 5, 1)?;
             Ok(Given {
-                reference,
-                count: Chunk::empty(alloc),
-                name,
+                reference: HeadValue::of(alloc, &reference)?,
+                count: HeadValue::empty(alloc),
+                name: HeadValue::empty(alloc),
+            })
+        },
+        HeadKind::Ung => {
+            let (name, reference) = lend_two(alloc, components, (1, 1), (5, 1))?;
+            Ok(Given {
+                reference: HeadValue::of(alloc, &reference)?,
+                count: HeadValue::empty(alloc),
+                name: HeadValue::of(alloc, &name)?,
             })
         },
         HeadKind::Unh => {
-            let (reference, name) = copy_two(alloc, components, (1, 1), (2, 1))?;
+            let (reference, name) = lend_two(alloc, components, (1, 1), (2, 1))?;
             Ok(Given {
-                reference,
-                count: Chunk::empty(alloc),
-                name,
+                reference: HeadValue::of(alloc, &reference)?,
+                count: HeadValue::empty(alloc),
+                name: HeadValue::of(alloc, &name)?,
             })
         },
         HeadKind::Unt | HeadKind::Une | HeadKind::Unz => {
-            let (count, reference) = copy_two(alloc, components, (1, 1), (2, 1))?;
+            let (count, reference) = lend_two(alloc, components, (1, 1), (2, 1))?;
             Ok(Given {
-                reference,
-                count,
-                name: Chunk::empty(alloc),
+                reference: HeadValue::of(alloc, &reference)?,
+                count: HeadValue::of(alloc, &count)?,
+                name: HeadValue::empty(alloc),
             })
         },
     }
-}
-
-/// The segments of a text that open or close an envelope, in order, with their values, which are read from the text. Only want
-/// of memory is an error.
-pub(crate) fn read_heads(kept: &KeptText<'_>, alloc: Global) -> Result<Vec<Head>, AllocError>
-    ensures { IfOk result (λ heads. heads.items
-        ≡ heads_of kept.now.directory (segments_of_text kept.now.text)) }
-{
-    let text = kept.whole();
-    let service = kept.service();
-    let mut heads = Vec::new(alloc);
-    for seen in kept.notable_segments() {
-        if let Some(kind) = HeadKind::of(seen.record.tag()) {
-            let head = read_head(alloc, &text, service, &seen, kind)?;
-            heads.push(head)?;
-        }
-    }
-    Ok(heads)
 }

@@ -21,5 +21,5 @@ pub use mode::Mode;
 pub use notable::NotableSegments;
 pub use record::{Record, SegmentPlace};
 pub use tags::{bounds_message, is_named, is_no_part, stops_message};
-pub use values::{copy_two, copy_value, find_table, lend_found};
+pub use values::{copy_two, copy_value, find_table, lend_found, lend_two, lend_value};
 pub use walked_segment::{Segments, WalkedSegment};

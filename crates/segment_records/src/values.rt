@@ -97,10 +97,10 @@ fn find_plain_names<'a>(components: PlainFields<'a>) -> PlainNames<'a>
     let mut release = None;
     let mut agency = None;
     while let Some(found) = left.step() {
-        message = or_lent(message, &found, 1);
-        version = or_lent(version, &found, 2);
-        release = or_lent(release, &found, 3);
-        agency = or_lent(agency, &found, 4);
+        message = or_lent(message, &found, 2, 1);
+        version = or_lent(version, &found, 2, 2);
+        release = or_lent(release, &found, 2, 3);
+        agency = or_lent(agency, &found, 2, 4);
     }
     PlainNames {
         message,
@@ -110,22 +110,23 @@ fn find_plain_names<'a>(components: PlainFields<'a>) -> PlainNames<'a>
     }
 }
 
-// The value that was found before, or else that of this component if its numbers are 2 and this one.
+// The value that was found before, or else that of this component if its numbers are these.
 #[inline(always)]
 fn or_lent<'a>(
     before: Option<&'a [u8]>,
     found: &PlainComponent<'a>,
+    element: u32,
     component: u32,
 ) -> Option<&'a [u8]>
     ensures { (later : List SeenComponent)
-        → option_or (option_copied result) (octets_at 2 component later)
+        → option_or (option_copied result) (octets_at element component later)
         ≡ option_or (option_copied before.entry)
-        (octets_at 2 component (component_in found.now ∷ later)) }
+        (octets_at element component (component_in found.now ∷ later)) }
 {
     if before.is_some() {
         return before;
     }
-    if found.element == 2 && found.component == component {
+    if found.element == element && found.component == component {
         return Some(found.octets);
     }
     None
@@ -197,7 +198,24 @@ fn find_names<'a, O: Octets>(components: Fields<'a, O>) -> Names<'a, O>
     }
 }
 
-/// A copy of the value of a component of an element's first repetition; no octets where it isn't written.
+/// The value of a component of an element's first repetition, which the text lends where it can; no octets where it isn't
+/// written. Only want of memory is an error.
+pub fn lend_value<'a, O: Octets>(
+    alloc: Global,
+    components: Fields<'a, O>,
+    element: u32,
+    component: u32,
+) -> Result<CowSlice<'a, u8, Global>, AllocError>
+    ensures { IfOk result (λ octets. cow_slice_items octets
+        ≡ value_in (components_left components.entry) element component) }
+{
+    match plain_components(&components) {
+        Some(plain) => Ok(CowSlice::Borrowed(lend_plain(plain, element, component))),
+        None => lend_found(alloc, components.value_at(element, component)),
+    }
+}
+
+/// A copy of it.
 pub fn copy_value<O: Octets>(
     alloc: Global,
     components: Fields<'_, O>,
@@ -207,14 +225,37 @@ pub fn copy_value<O: Octets>(
     ensures { IfOk result
         (λ octets. octets ≡ value_in (components_left components.entry) element component) }
 {
-    match plain_components(&components) {
-        Some(plain) => Chunk::of(alloc, lend_plain(plain, element, component)),
-        None => copy_found(alloc, components.value_at(element, component)),
-    }
+    let value = lend_value(alloc, components, element, component)?;
+    Chunk::of(alloc, &value)
 }
 
-/// Copies of the values of two components of first repetitions, each by the numbers of its element and its own, in one way
-/// through the components of a segment; no octets for one that isn't written. Only want of memory is an error.
+/// The values of two components of first repetitions, each by the numbers of its element and its own, in one way through the
+/// components of a segment. The text lends them where it can; no octets for one that isn't written. Only want of memory is an
+/// error.
+pub fn lend_two<'a, O: Octets>(
+    alloc: Global,
+    components: Fields<'a, O>,
+    first: (u32, u32),
+    second: (u32, u32),
+) -> Result<(CowSlice<'a, u8, Global>, CowSlice<'a, u8, Global>), AllocError>
+    ensures first { IfOk result (λ two. cow_slice_items two.0
+        ≡ value_in (components_left components.entry) first.0 first.1) }
+    ensures second { IfOk result (λ two. cow_slice_items two.1
+        ≡ value_in (components_left components.entry) second.0 second.1) }
+{
+    if let Some(plain) = plain_components(&components) {
+        let (one, other) = find_plain_two(plain, first, second);
+        let one = CowSlice::Borrowed(one.unwrap_or(&[]));
+        let other = CowSlice::Borrowed(other.unwrap_or(&[]));
+        return Ok((one, other));
+    }
+    let (one, other) = find_two(components, first, second);
+    let one = lend_found(alloc, one)?;
+    let other = lend_found(alloc, other)?;
+    Ok((one, other))
+}
+
+/// Copies of them.
 pub fn copy_two<O: Octets>(
     alloc: Global,
     components: Fields<'_, O>,
@@ -226,15 +267,34 @@ pub fn copy_two<O: Octets>(
     ensures second { IfOk result
         (λ two. two.1 ≡ value_in (components_left components.entry) second.0 second.1) }
 {
-    if let Some(plain) = plain_components(&components) {
-        let one = Chunk::of(alloc, lend_plain(plain, first.0, first.1))?;
-        let other = Chunk::of(alloc, lend_plain(plain, second.0, second.1))?;
-        return Ok((one, other));
-    }
-    let (one, other) = find_two(components, first, second);
-    let one = copy_found(alloc, one)?;
-    let other = copy_found(alloc, other)?;
+    let (one, other) = lend_two(alloc, components, first, second)?;
+    let one = Chunk::of(alloc, &one)?;
+    let other = Chunk::of(alloc, &other)?;
     Ok((one, other))
+}
+
+// The values of two components of a plain segment, which lends them, those that are written.
+fn find_plain_two<'a>(
+    components: PlainFields<'a>,
+    first: (u32, u32),
+    second: (u32, u32),
+) -> (Option<&'a [u8]>, Option<&'a [u8]>)
+    ensures first { option_copied result.0
+        ≡ octets_at first.0 first.1 (plain_left components.entry) }
+    ensures second { option_copied result.1
+        ≡ octets_at second.0 second.1 (plain_left components.entry) }
+{
+    let mut left = components;
+    let mut one = None;
+    let mut other = None;
+    while let Some(found) = left.step() {
+        one = or_lent(one, &found, first.0, first.1);
+        other = or_lent(other, &found, second.0, second.1);
+        if one.is_some() && other.is_some() {
+            return (one, other);
+        }
+    }
+    (one, other)
 }
 
 // The values of two components, those that are written. They are found in one way through the components, up to the first
@@ -284,17 +344,6 @@ fn or_found<'a, O: Octets>(
         return Some(found.value);
     }
     None
-}
-
-// A copy of a value; no octets where there is none.
-fn copy_found<O: Octets>(alloc: Global, value: Option<Value<'_, O>>) -> Result<Chunk, AllocError>
-    ensures { IfOk result
-        (λ octets. octets ≡ unwrap_or (option_map octets_of value.entry) []) }
-{
-    match value {
-        Some(value) => value.copy(alloc),
-        None => Ok(Chunk::empty(alloc)),
-    }
 }
 
 /// The octets of a value, which the text lends where it can; none where there is no value. Only want of memory is an error.

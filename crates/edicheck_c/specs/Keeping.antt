@@ -1,6 +1,6 @@
--- What a call that is given a handle comes to, by what the handle keeps. Of several things that are wrong the first is
--- answered: 1. a handle that is closed; 2. a store or a text that is too long, or an edit past the end; 3. a fault of the
--- store; and the rest as without a handle.
+-- What a call with a handle answers, by what the handle keeps. If several things are wrong, the first of these is answered:
+-- 1. a handle that is closed; 2. a store or a text that is too long, or an edit past the end; 3. a fault of the store; and
+-- the rest as without a handle.
 use Rattle.std.specs.Prelude.{◌≡◌, ◌⊎◌, ℕ, Option, Some, None, Result, Ok, Err, length, if◌then◌else◌}
 use Rattle.std.specs.Result.{result_map_both}
 use Rattle.edi_tables.specs.Octets.{Octets}
@@ -54,8 +54,8 @@ pub record Changed : Type 0 where
   pub number : ℕ
   pub code : ℕ
 
--- the handle keeps what is due, and the number is the length of its text; or it keeps what it kept, and the code and the
--- number are those of the refusal
+-- the handle keeps what is due, and the number is the length of its text; or it keeps what it kept, and the code and
+-- the number are those of the refusal
 abbrev pub IsChangedTo : Result Kept Answer → Changed → Type 0
 IsChangedTo (Ok due) it = (it.code ≡ code.DONE) × (it.number ≡ length due.engine.text) × (it.after ≡ Some due)
 IsChangedTo (Err refusal) it =

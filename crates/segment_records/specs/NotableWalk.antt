@@ -11,8 +11,8 @@ notable_left s = (
   length s.records.now,
 )
 
--- the records are of stretches, those that are marked are counted as far as the walk is done, and the way to the others is
--- no further
+-- the records are of stretches, those that are marked are counted as far as the walk is done, and the way to the others
+-- is no further
 pub record IsNotableWalk (s : Inside) : Type 0 where
   pub within : s.done ≤ length s.records.now
   pub marked : s.marked ≡ sum_by marks_of (take s.done s.records.now)

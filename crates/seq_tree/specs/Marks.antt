@@ -9,8 +9,8 @@ pub record IsAfter {T : Type 0} (weight_of marks_of : T → ℕ) (old new : Fron
   pub weight : new.weight ≡ old.weight + sum_by weight_of xs
   pub marks : new.marks ≡ old.marks + sum_by marks_of xs
 
--- among items before which `old` lies there is a leaf with the marked item before which `rank` are marked: `new` lies before
--- it, and `rest` comes after it
+-- among items before which `old` lies there is a leaf with the marked item before which `rank` are marked: `new` lies
+-- before it, and `rest` comes after it
 pub record IsNextLeaf {T : Type 0} (weight_of marks_of : T → ℕ) (rank : ℕ) (old : Front) (xs : List T)
     (new : Front) (leaf rest : List T) : Type 0 where
   pub on : old.items ≤ new.items
@@ -21,8 +21,8 @@ pub record IsNextLeaf {T : Type 0} (weight_of marks_of : T → ℕ) (rank : ℕ)
   pub short : length leaf ≤ longest_run
   pub light : new.weight ≤ 4294967295 * new.items
 
--- a way through the items of a sequence is before the items `rest`, of which `n` are marked, and then the others: `before` lies
--- before them
+-- a way through the items of a sequence is before the items `rest`, of which `n` are marked, and then the others: `before`
+-- lies before them
 pub record IsWayThrough {T : Type 0} (weight_of marks_of : T → ℕ) (xs : List T) (before : Front) (rest : List T)
     (n : ℕ) (others : List T) : Type 0 where
   pub items : drop before.items xs ≡ rest ++ others

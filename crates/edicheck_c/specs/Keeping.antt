@@ -1,6 +1,6 @@
--- What a call with a handle answers, by what the handle keeps. If several things are wrong, the first of these is answered:
--- 1. a handle that is closed; 2. a store or a text that is too long, or an edit past the end; 3. a fault of the store; and
--- the rest as without a handle.
+-- What a call with a handle answers, by what the handle keeps. If several things are wrong, the first of these is
+-- answered: 1. a handle that is closed; 2. a store or a text that is too long, or an edit past the end; 3. a fault
+-- of the store; and the rest as without a handle.
 use Rattle.std.specs.Prelude.{◌≡◌, ◌⊎◌, ℕ, Option, Some, None, Result, Ok, Err, length, if◌then◌else◌}
 use Rattle.std.specs.Result.{result_map_both}
 use Rattle.edi_tables.specs.Octets.{Octets}

@@ -21,8 +21,8 @@ pub record IsNextLeaf {T : Type 0} (weight_of marks_of : T → ℕ) (rank : ℕ)
   pub short : length leaf ≤ longest_run
   pub light : new.weight ≤ 4294967295 * new.items
 
--- a way through the items of a sequence is before the items `rest`, of which `n` are marked, and then the others: `before`
--- lies before them
+-- a way through the items of a sequence is before the items `rest`, of which `n` are marked, and then the others:
+-- `before` lies before them
 pub record IsWayThrough {T : Type 0} (weight_of marks_of : T → ℕ) (xs : List T) (before : Front) (rest : List T)
     (n : ℕ) (others : List T) : Type 0 where
   pub items : drop before.items xs ≡ rest ++ others

@@ -1,3 +1,4 @@
+pub mod Ends
 pub mod Heights
 pub mod Passing
 pub mod Parts

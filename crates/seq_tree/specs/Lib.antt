@@ -1,3 +1,4 @@
+pub mod Gathered
 pub mod Join
 pub mod Marks
 pub mod Seq

@@ -1,6 +1,7 @@
 //! A sequence of weighed items whose versions share what they have in common: a tree of nodes held by `Rc`, balanced by height.
 #![tactic(auto)]
 
+mod gathered;
 mod join;
 mod look;
 mod marks;
@@ -10,6 +11,7 @@ mod sequence;
 mod tree;
 mod walk;
 
+pub use gathered::Gathered;
 pub use look::Located;
 pub use marks::{Marked, MarkedItems};
 pub use measure::Measured;

@@ -4,11 +4,12 @@ ghost use Rattle.std.specs.Prelude.{◌≡◌, ℕ, ◌+◌, ◌-◌, ◌*◌, �
 ghost use Rattle.std.specs.Option.{option_copied};
 ghost use Rattle.seq_tree.specs.Seq.{root_items};
 
+use crate::gathered::Gathered;
 use crate::join::join;
 use crate::look::Located;
 use crate::marks::MarkedItems;
 use crate::measure::Measured;
-use crate::run::{LONGEST_RUN, Run};
+use crate::run::Run;
 use crate::tree::{Node, Tree};
 use crate::walk::Iter;
 use std::alloc::{AllocError, Global};
@@ -52,16 +53,15 @@ impl<T: Measured + Debug> Debug for Seq<T> {
 
 impl<T: Measured> Seq<T> {
     /// A sequence of these items, in their order. After an error they are dropped.
-    pub fn of_items(alloc: Global, mut items: Vec<T>) -> Result<Seq<T>, AllocError>
+    pub fn of_items(alloc: Global, items: Vec<T>) -> Result<Seq<T>, AllocError>
         requires { length items.items < 2 ^ 32 }
         ensures { IfOk result (λ s. s ≡ items.items) }
     {
-        let n = items.len();
-        if n == 0 {
-            return Ok(Seq { root: None });
+        let mut gathered = Gathered::none(alloc);
+        for item in items {
+            gathered.push(alloc, item)?;
         }
-        let root = build(alloc, &mut items, n)?;
-        Ok(Seq { root: Some(root) })
+        gathered.into_seq(alloc)
     }
 
     /// The same version once more. It takes no memory: the error is that of an `Rc` whose count is full.
@@ -258,6 +258,20 @@ impl<T: Measured> Seq<T> {
         front.join(alloc, &back)
     }
 
+    /// No item.
+    pub(crate) fn empty() -> Seq<T>
+        ensures { result ≡ [] }
+    {
+        Seq { root: None }
+    }
+
+    /// The items of a tree.
+    pub(crate) fn of_tree(root: Tree<T>) -> Seq<T>
+        ensures { result ≡ root.0 }
+    {
+        Seq { root: Some(root) }
+    }
+
     /// The items of a run.
     fn of_run(run: Run<T>) -> Seq<T>
         ensures { result ≡ run }
@@ -274,35 +288,6 @@ impl<T: Measured> Seq<T> {
         let root = tree.share()?;
         Ok(Seq { root: Some(root) })
     }
-}
-
-// From so many items on, the room of those that were taken out of a list is given back: so the list and the leaves together
-// take little more than the list did.
-const WORTH_GIVING_BACK: usize = 16_384;
-
-/// A tree of the last `n` items of a list, which are taken out of it. Each leaf has a list of its own, and all but the last
-/// leaf are full.
-fn build<T: Measured>(alloc: Global, items: &mut Vec<T>, n: usize) -> Result<Tree<T>, AllocError>
-    requires some { 0 < n }
-    requires within { n ≤ length items.old.items }
-    requires fits { n < 2 ^ 32 }
-    ensures taken { IfOk result (λ t. items.new.items ++ t.0 ≡ items.old.items) }
-    ensures count { IfOk result (λ t. length t.0 ≡ n) }
-{
-    if n <= LONGEST_RUN {
-        let last = items.split_off(items.len() - n)?;
-        let run = Run::of_list(alloc, last)?;
-        return Ok(Tree::of_run(run));
-    }
-    // About half of them, in full leaves.
-    let first = (n / 2).div_ceil(LONGEST_RUN) * LONGEST_RUN;
-    let right = build(alloc, items, n - first)?;
-    if n >= WORTH_GIVING_BACK {
-        items.shrink_to_fit();
-    }
-    let left = build(alloc, items, first)?;
-    let tree = join(alloc, &left, &right)?;
-    Ok(tree)
 }
 
 /// The first `i` items of a tree and the others.

@@ -1,4 +1,4 @@
-use Rattle.seq_tree.proofs.sequence.+build.Given as goal
+use Rattle.seq_tree.proofs.gathered.+build.Given as goal
 
 abbrev pub decreases-build : goal.decreases-build
 decreases-build g l = l.n

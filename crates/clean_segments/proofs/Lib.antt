@@ -1,3 +1,4 @@
 mod CleanLemmas
+mod EightOctets
 mod LookLemmas
 mod PlainLemmas

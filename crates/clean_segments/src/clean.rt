@@ -9,6 +9,7 @@ ghost use Rattle.clean_segments.specs.Clean.{AreClean};
 ghost use Rattle.edi_octets.specs.declared.octets.TheConstants.{LONGEST_TEXT};
 
 use crate::look::clean_tag;
+use crate::same::are_same;
 use dir_compile::Directory;
 use edi_octets::Octets;
 use edi_tables::Tag;
@@ -121,7 +122,7 @@ fn is_spelled<O: Octets>(text: &O, start: usize, end: usize, octets: &[u8]) -> b
     ensures { IsTrue result → slice_range (O.octets text.now) start end ≡ octets.now }
 {
     match spelled(text, start, end) {
-        Some(other) => other == octets,
+        Some(other) => are_same(other, octets),
         None => false,
     }
 }

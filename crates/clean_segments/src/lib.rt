@@ -5,6 +5,7 @@
 mod clean;
 mod fields;
 mod look;
+mod same;
 
 pub use clean::CleanSegments;
 pub use fields::{PlainComponent, PlainFields};

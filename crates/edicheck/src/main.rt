@@ -13,6 +13,7 @@ use edi_tables::Chunk;
 use edicheck_core::{Status, find_wrong_word, refuse_memory, run};
 use std::alloc::{AllocError, Global};
 use std::env::FillError;
+use std::io::BufReader;
 use std::process::ExitCode;
 use std::rt::Env;
 
@@ -27,16 +28,16 @@ const _: () = prove!(LONGEST_NAME <= LONGEST_WORD);
 
 fn main(rt: HostRuntime) -> ExitCode {
     let alloc = rt.alloc();
-    let mut input = WatchedSource::new(StdSource::new(rt.stdin()));
     let mut out = StdSink::new(rt.stdout());
-    let status = match read_words(&rt, alloc) {
-        Ok(words) => {
+    let status = match (read_words(&rt, alloc), BufReader::new(alloc, rt.stdin())) {
+        (Ok(words), Ok(reader)) => {
             let mut shelf = WatchedShelf::new(FolderShelf::new(&rt));
+            let mut input = WatchedSource::new(StdSource::new(reader));
             let status = run(alloc, &words, &mut shelf, &mut input, &mut out);
             hint(&rt, status, &words, &shelf, &input);
             status
         }
-        Err(_) => refuse_memory(&mut out),
+        _ => refuse_memory(&mut out),
     };
     ExitCode::from(status.number())
 }

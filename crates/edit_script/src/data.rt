@@ -12,8 +12,8 @@ use edi_ports::Source;
 use edi_tables::Chunk;
 use std::alloc::Global;
 
-/// So many octets are asked for at a time.
-const PIECE: usize = 4096;
+/// So many octets are asked for at a time. Most edits put fewer, and the room for them is cleared for each.
+const PIECE: usize = 512;
 
 /// What the next octets put: their number, a line feed, so many octets and a line feed.
 pub(crate) fn take_put<I: Source>(

@@ -17,7 +17,7 @@ use Rattle.seg_lexer.proofs.SegmentsLemmas.{boundary-high}
 use Rattle.seg_lexer.proofs.ContextEnds.{context-usable}
 use Rattle.segment_records.specs.Bounds.{stops_message}
 use Rattle.segment_records.specs.Messages.{mode_after}
-use Rattle.segment_records.specs.Segments.{Segment, segments_by, segments_of_text}
+use Rattle.segment_records.specs.Segments.{Segment, segments_by}
 use Rattle.segment_records.specs.declared.mode.Mode.{Mode}
 use Rattle.kept_text.specs.Edit.{Edit, edited}
 use Rattle.kept_text.specs.Stretch.{first_kept, segments_before, stretch_from, stretch_to}

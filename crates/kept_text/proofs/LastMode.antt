@@ -39,3 +39,10 @@ last_mode_at before records k kept is =
 pub last_mode_same : (before mode : Mode) (told read : List Kept) → mode ≡ last_mode before told → told ≡ read
     → mode ≡ last_mode before read
 last_mode_same before mode told read is same = is ∙ ap (last_mode before) same
+
+-- a mode that the last of these records leaves is the one after them
+pub last_mode_left : (before mode : Mode) (read : List Kept) (last : Option Kept)
+    → mode ≡ option_map_or (λ kept. kept.step.after) last before → last ≡ slice_get read (length read - 1)
+    → mode ≡ last_mode before read
+last_mode_left before mode read last is left =
+    is ∙ ap (λ (found : Option Kept). option_map_or (λ kept. kept.step.after) found before) left

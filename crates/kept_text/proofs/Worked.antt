@@ -1,5 +1,5 @@
 -- Edits worked out by hand: how far their stretches reach, and how much is placed again.
-use Rattle.std.proofs.Common.{◌≡◌, ℕ, List, [], ◌∷◌, refl}
+use Rattle.std.proofs.Common.{◌≡◌, ℕ, List, [], refl}
 use Rattle.std.specs.Prelude.{codes}
 use Rattle.edi_tables.specs.Extents.{message_extents, message_at, message_closed_at}
 use Rattle.edi_tables.specs.Pairs.{pairs_of}
@@ -17,7 +17,6 @@ use Rattle.seg_lexer.specs.Stretch.{places_that}
 use Rattle.seg_lexer.specs.Tag.{tag_of}
 use Rattle.segment_records.specs.Messages.{mode_after, position_at}
 use Rattle.segment_records.specs.Segments.{segments_by, segments_of_text}
-use Rattle.kept_text.specs.Edit.{Edit}
 use Rattle.kept_text.specs.Rerun.{rerun_of}
 use Rattle.kept_text.specs.Stretch.{reach_of}
 

@@ -79,7 +79,7 @@ impl<'d> KeptText<'d> {
             directory,
             text,
             context,
-            records: Seq::of_items(alloc, records)?,
+            records,
             outside: Mode::Outside,
         })
     }
@@ -385,6 +385,5 @@ fn read_whole<L: Ledger, M: Ledger>(
     ensures placed { placed.new ≤ placed.old + segment_count_of text.now }
 {
     let whole = text.copy(alloc)?;
-    let records = read_body(alloc, directory, context, whole.octets(), lexed, placed)?;
-    Seq::of_items(alloc, records)
+    read_body(alloc, directory, context, whole.octets(), lexed, placed)
 }

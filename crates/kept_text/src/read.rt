@@ -1,7 +1,7 @@
 //! The records of a text, from a boundary on.
 ghost use Rattle.std.specs.Prelude.{◌≡◌, ◌+◌, ◌-◌, ◌≤◌, ℕ, List, drop, length, IfOk};
 ghost use Rattle.std.specs.List.{slice_get};
-ghost use Rattle.std.specs.Option.{option_map_or};
+ghost use Rattle.std.specs.Option.{option_copied, option_map_or};
 ghost use Rattle.seg_lexer.specs.Context.{context_of};
 ghost use Rattle.seg_lexer.specs.Segments.{IsBoundary};
 ghost use Rattle.seg_lexer.specs.Service.{IsUsable};
@@ -18,12 +18,10 @@ use dir_compile::Directory;
 use edi_octets::{Flat, Octets};
 use seg_lexer::{Context, Lexed, next_segment, read_context};
 use segment_records::{Mode, Record, SegmentPlace};
+use seq_tree::{Gathered, Seq};
 use std::alloc::{AllocError, Global};
 use std::sync::ledger::Ledger;
 use step_counter::Steps;
-
-// Most segments have more octets: room for records is made by it before the first is read.
-const SHORT_SEGMENT: usize = 16;
 
 /// The records of the octets after the boundary `from` of a text, in order, after a mode. Each call of the lexer and of the
 /// walk is counted. Only want of memory is an error.
@@ -37,13 +35,13 @@ pub fn read_records<O: Octets, L: Ledger, M: Ledger>(
     from: usize,
     lexed: &mut Steps<L>,
     placed: &mut Steps<M>,
-) -> Result<Vec<Record>, AllocError>
+) -> Result<Seq<Record>, AllocError>
     requires usable { IsUsable context.now.service (O.octets text.now) }
     requires short { length (O.octets text.now) ≤ LONGEST_TEXT }
     requires boundary { IsBoundary context.now.service (O.octets text.now) from }
     // No node was counted more often than there are octets before.
     requires mode { IsModeOf directory.now from before.now }
-    ensures records { IfOk result (λ records. records.items
+    ensures records { IfOk result (λ records. records
         ≡ records_from directory.now context.now before.now (drop from (O.octets text.now))) }
     // The records of a whole text are those of its body, from outside of messages on.
     ensures whole { WholeIsBody directory.now context.now (O.octets text.now) }
@@ -62,20 +60,19 @@ pub fn read_records<O: Octets, L: Ledger, M: Ledger>(
 {
     // The modes, structure errors and places are those of a directory without a fault.
     let _parts = directory.parts();
-    let room = text.len().saturating_sub(from) / SHORT_SEGMENT;
-    let mut records = Vec::with_capacity(alloc, room)?;
+    let mut records = Gathered::none(alloc);
     let mut clean = CleanSegments::none(alloc)?;
     let mut from = from;
     while let Lexed::Ended { start, end } = next_segment(text, &context.service, from, lexed) {
         let place = SegmentPlace { from, start, end };
-        let mode = mode_after(before, &records);
+        let mode = mode_of(before, records.last());
         let record = Record::read(
             alloc, directory, context, mode, text, place, &mut clean, placed,
         )?;
-        records.push(record)?;
+        records.push(alloc, record)?;
         from = end + 1;
     }
-    Ok(records)
+    records.into_seq(alloc)
 }
 
 /// The mode after the last of these records, or where there is none, the one before.
@@ -83,7 +80,15 @@ pub(crate) fn mode_after<'a>(before: &'a Mode, records: &'a [Record]) -> &'a Mod
     ensures { result.now ≡ option_map_or (λ kept. kept.step.after)
         (slice_get records.now (length records.now - 1)) before.now }
 {
-    match records.last() {
+    mode_of(before, records.last())
+}
+
+// The mode after a record, or where there is none, the one before.
+fn mode_of<'a>(before: &'a Mode, last: Option<&'a Record>) -> &'a Mode
+    ensures { result.now
+        ≡ option_map_or (λ kept. kept.step.after) (option_copied last.entry) before.now }
+{
+    match last {
         Some(record) => record.mode(),
         None => before,
     }
@@ -97,10 +102,10 @@ pub fn read_text<L: Ledger, M: Ledger>(
     octets: &[u8],
     lexed: &mut Steps<L>,
     placed: &mut Steps<M>,
-) -> Result<(Context, Vec<Record>), AllocError>
+) -> Result<(Context, Seq<Record>), AllocError>
     requires { length octets.now ≤ LONGEST_TEXT }
     ensures context { IfOk result (λ read. read.0 ≡ context_of octets.now) }
-    ensures records { IfOk result (λ read. read.1.items ≡ kept_in directory.now octets.now) }
+    ensures records { IfOk result (λ read. read.1 ≡ kept_in directory.now octets.now) }
     ensures lexed { lexed.new ≤ lexed.old + (segment_count_of octets.now + 2) }
     ensures placed { placed.new ≤ placed.old + segment_count_of octets.now }
 {
@@ -118,10 +123,10 @@ pub(crate) fn read_body<L: Ledger, M: Ledger>(
     octets: &[u8],
     lexed: &mut Steps<L>,
     placed: &mut Steps<M>,
-) -> Result<Vec<Record>, AllocError>
+) -> Result<Seq<Record>, AllocError>
     requires short { length octets.now ≤ LONGEST_TEXT }
     requires context { context.now ≡ context_of octets.now }
-    ensures records { IfOk result (λ records. records.items ≡ kept_in directory.now octets.now) }
+    ensures records { IfOk result (λ records. records ≡ kept_in directory.now octets.now) }
     ensures lexed { lexed.new ≤ lexed.old + (segment_count_of octets.now + 1) }
     ensures placed { placed.new ≤ placed.old + segment_count_of octets.now }
 {

@@ -12,7 +12,7 @@ read_records-requires-clause-boundary g c = boundary_by c.args.octets.now c.args
 
 pub returns-clause-records : goal.returns-clause-records
 returns-clause-records g c =
-    subst (λ (kept : List Kept). IfOk c.read_records.result (λ records. records.items ≡ kept))
+    subst (λ (kept : List Kept). IfOk c.read_records.result (λ records. records ≡ kept))
     (kept_by c.args.octets.now c.args.context.now c.requires.context c.args.directory.now) c.read_records.ensures.records
 
 pub returns-clause-lexed : goal.returns-clause-lexed

@@ -10,9 +10,10 @@ use Rattle.kept_text.proofs.read.read_records.Given as goal
 abbrev pub invariant-loop-start : goal.invariant-loop-start
 invariant-loop-start g l = record {
   boundary : IsBoundary l.context.service (g.O.Octets.octets l.text) l.from;
-  mode : IsModeOf l.directory l.from (last_mode l.fn.before l.records.items);
-  records : l.records.items ++ records_from l.directory l.context (last_mode l.fn.before l.records.items) (drop l.from (g.O.Octets.octets l.text))
+  mode : IsModeOf l.directory l.from (last_mode l.fn.before l.records);
+  records : l.records ++ records_from l.directory l.context (last_mode l.fn.before l.records) (drop l.from (g.O.Octets.octets l.text))
       ≡ records_from l.directory l.context l.fn.before (drop l.fn.from (g.O.Octets.octets l.text));
+  few : length l.records ≤ l.from;
   clean : AreClean l.directory l.context (g.O.Octets.octets l.text) l.clean;
   lexed : l.lexed + rest_count l.context.service (g.O.Octets.octets l.text) l.from
       ≤ l.initial.lexed + rest_count l.context.service (g.O.Octets.octets l.text) l.fn.from;

@@ -1,4 +1,4 @@
-use Rattle.std.proofs.Common.{◌∙◌, drop, sym, ap, subst, arith}
+use Rattle.std.proofs.Common.{◌∙◌, drop, ap, arith}
 use Rattle.kept_text.specs.Reading.{Reading}
 use Rattle.segment_records.specs.Count.{segment_count_of}
 use Rattle.segment_records.specs.WalkedSegments.{seen_in}

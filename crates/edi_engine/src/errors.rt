@@ -61,6 +61,9 @@ fn find_errors(kept: &KeptText<'_>, alloc: Global) -> Result<Vec<ErrorLine>, All
     Ok(list)
 }
 
+// Room for so many heads is made at once, if there are as many segments.
+const MANY_HEADS: u32 = 2_048;
+
 // What one walk over the notable segments of a text finds: the heads, and the errors of each segment by itself and by its
 // message.
 struct Found {
@@ -80,7 +83,8 @@ fn walk_notable(kept: &KeptText<'_>, alloc: Global) -> Result<Found, AllocError>
     let directory = kept.directory();
     let text = kept.whole();
     let service = kept.service();
-    let mut heads = Vec::new(alloc);
+    let room = kept.segment_count().min(MANY_HEADS);
+    let mut heads = Vec::with_capacity(alloc, room as usize)?;
     let mut lines = Vec::new(alloc);
     for seen in kept.notable_segments() {
         put_structure(alloc, directory, &seen, &mut lines)?;

@@ -18,8 +18,8 @@ use Rattle.segment_records.proofs.NotableLaws.{notable_heads, notable_lines}
 use Rattle.text_reading.proofs.Passing.{filter_done, filter_left, filter_past, flat_done, flat_left, rest_all}
 use Rattle.edi_engine.proofs.errors.walk_notable.Goals as goal
 
-pub loop-seen-preserved-in-Continue-branch-4 : goal.loop-seen-preserved-in-Continue-branch-4
-loop-seen-preserved-in-Continue-branch-4 c =
+pub loop-seen-preserved-in-Continue-branch-5 : goal.loop-seen-preserved-in-Continue-branch-5
+loop-seen-preserved-in-Continue-branch-5 c =
     let service = c.service-service.result.now in
     let text = c.whole-text.result in
     let dir = c.directory-directory.result.now in

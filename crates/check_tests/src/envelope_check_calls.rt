@@ -92,9 +92,9 @@ fn expect(rt: &impl Abort, alloc: Global, rows: &[Row], wanted: &str) -> Result<
 }
 
 #[test]
-fn envelopes_are_judged(rt: HostRuntime) -> Result<(), Fail> {
+fn groups_messages_and_counts_are_judged(rt: HostRuntime) -> Result<(), Fail> {
     #[rattlefmt::skip]
-    let cases: [(&[Row], &str); 11] = [
+    let cases: [(&[Row], &str); 6] = [
         (&[("UNB", "", "R1", ""), ("UNH", "", "M1", ""), ("BGM", "", "", ""), ("UNT", "3", "M1", ""), ("UNZ", "01", "R1", "")],
             "errors 0\n"),
         (&[], "errors 2\n0 0 --- 0 0 13 no-unb\n0 0 --- 0 0 13 no-unz\n"),
@@ -113,6 +113,17 @@ fn envelopes_are_judged(rt: HostRuntime) -> Result<(), Fail> {
             ("UNH", "", "M3", "A"), ("UNT", "00000000000000000002", "M3", ""), ("UNE", "1", "G2", ""), ("UNZ", "", "R2", "")],
             "errors 8\n3 20 UNH 0 0 31 group-type\n5 40 UNT 1 0 29 count\n5 40 UNT 2 0 28 reference\n7 60 UNT 1 0 29 count\n\
             8 70 UNE 1 0 29 count\n8 70 UNE 2 0 28 reference\n9 80 UNZ 1 0 29 count\n9 80 UNZ 2 0 28 reference\n"),
+    ];
+    for (rows, wanted) in cases {
+        expect(&rt, rt.alloc(), rows, wanted)?;
+    }
+    Ok(())
+}
+
+#[test]
+fn segments_out_of_place_are_told(rt: HostRuntime) -> Result<(), Fail> {
+    #[rattlefmt::skip]
+    let cases: [(&[Row], &str); 5] = [
         // Segments that close nothing, and others outside.
         (&[("UNB", "", "R1", ""), ("UNT", "1", "M1", ""), ("DTM", "", "", ""), ("UNE", "0", "G1", ""), ("", "", "", ""), ("UNZ", "0", "R1", "")],
             "errors 5\n2 10 UNT 0 0 33 outside\n3 20 DTM 0 0 33 outside\n4 30 UNE 0 0 33 outside\n5 40 --- 0 0 33 outside\n\

@@ -158,7 +158,8 @@ static void try_codes(struct call errors, struct call contrl, struct call replie
     free(spaces);
 }
 
-/* Refuses each allocation of a call, alone or with all that follow, until a call needs no more of them. Some are for speed alone: a
+/* Refuses each allocation of a call, alone or with all that follow, until a call needs no more of them. Some are for speed alone, or
+ * give room back: a
  * call may do without one of these, and give the whole answer. */
 static void try_refusals(struct call it, bool all, struct octets due, const char *what) {
     long tried = 0, spared = 0;
@@ -178,7 +179,7 @@ static void try_refusals(struct call it, bool all, struct octets due, const char
         spared += is_whole;
         tried++;
     }
-    expect(tried > 10 && spared < tried / 10, what);
+    expect(tried > 10 && spared < tried / 5, what);
     printf("%s: each of %ld allocations refused %s, %ld of them with the whole answer\n", what, tried,
            all ? "with all that follow" : "alone", spared);
 }

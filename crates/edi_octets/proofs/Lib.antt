@@ -7,6 +7,7 @@ pub mod EarlierNameLemmas
 pub mod EntryLemmas
 pub mod HeadLemmas
 pub mod LineLemmas
+pub mod NumeralLemmas
 pub mod PartLemmas
 pub mod PlaceLemmas
 pub mod PlainLemmas

@@ -1,5 +1,5 @@
 -- Decimal numbers in a text.
-use Rattle.std.specs.Prelude.{ℕ, ◌&&◌, nat_le, [], ◌∷◌, ◌++◌, length, Option, Some, None, codes, decimal, if◌then◌else◌}
+use Rattle.std.specs.Prelude.{ℕ, ◌≡◌, ◌<◌, ◌+◌, ◌*◌, ◌/◌, ◌^◌, ◌&&◌, nat_le, [], ◌∷◌, ◌++◌, length, replicate, Option, Some, None, codes, decimal, if◌then◌else◌}
 use Rattle.std.specs.Str.{all_ascii_digits}
 use Rattle.std.specs.Str.Parse.{digits_value}
 use Rattle.edi_tables.specs.Octets.{Octets}
@@ -14,3 +14,11 @@ decimal_in part =
 -- the line of a word and a number
 abbrev pub count_line : Octets → ℕ → Octets
 count_line word n = word ++ codes " " ++ decimal n ++ 10 ∷ []
+
+-- For a numeral: these ten octets are spaces and then the digits of the number, and this is the greatest multiple of 1000
+-- that isn't above the number.
+pub record IsWritten (number thousands : ℕ) (digits : Octets) (spaces : ℕ) : Type 0 where
+  pub small : number < 2 ^ 32
+  pub multiple : thousands ≡ number / 1000 * 1000
+  pub room : spaces + length (decimal number) ≡ 10
+  pub octets : digits ≡ replicate spaces 32 ++ decimal number

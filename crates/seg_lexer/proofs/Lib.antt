@@ -10,6 +10,7 @@ pub mod ForwardLemmas
 pub mod OrderLemmas
 mod PartsLemmas
 pub mod PlacesLemmas
+mod PlainTagLemmas
 pub mod ReleasedLemmas
 pub mod RepeatLemmas
 mod ScanLemmas

@@ -52,7 +52,8 @@ module _ (sp : Separators) (xs : List ℕ) where
   IsInOrder-after element r c (s ∷ ss) =
       IsInOrder-rest element r c (repetitions_in sp xs element s) _ (IsInOrder-lower element (element + 1) _ (omega arith) (IsInOrder-elements (element + 1) ss))
 
-  IsInOrder-from : (element r c a : ℕ) → IsInOrder element (map unplaced (fields_from sp xs element r c a))
+  -- from a component of an element on
+  pub IsInOrder-from : (element r c a : ℕ) → IsInOrder element (map unplaced (fields_from sp xs element r c a))
   unfolding fields_from
   IsInOrder-from element r c a = IsInOrder-after element r c (cut sp.release xs sp.element a (length xs))
 

@@ -1,9 +1,11 @@
 -- The tag of a segment.
-use Rattle.std.specs.Prelude.{not, ◌&&◌, ◌==◌, List, [], ◌∷◌, map, filter, length, Option, Some, None, if◌then◌else◌}
+use Rattle.std.specs.Prelude.{ℕ, ◌≡◌, ◌≢◌, false, not, ◌&&◌, ◌==◌, List, [], ◌∷◌, map, filter, length, Option, Some, None, if◌then◌else◌}
 use Rattle.std.specs.List.{list_all}
 use Rattle.edi_tables.specs.Octets.{Octets}
 use Rattle.edi_tables.specs.Tag.{is_tag_of}
 use Rattle.seg_lexer.specs.Fields.{Component, PlacedComponent}
+use Rattle.seg_lexer.specs.Released.{is_release}
+use Rattle.seg_lexer.specs.declared.service.Separators.{Separators}
 
 -- the values of the tag field, which is element 0
 abbrev pub tag_field : List Component → List Octets
@@ -22,3 +24,9 @@ tag_of components = tag_in (tag_field components)
 -- the components after the tag field: those of the elements
 abbrev pub past_tag_field : List PlacedComponent → List PlacedComponent
 past_tag_field fs = filter (λ f. not (f.element == 0)) fs
+
+-- for bodies: an octet neither separates components or elements nor releases
+pub record IsBare (sp : Separators) (x : ℕ) : Type 0 where
+  pub element : x ≢ sp.element
+  pub component : x ≢ sp.component
+  pub release : is_release sp.release x ≡ false

@@ -10,3 +10,4 @@ pub mod Marking
 pub mod Meeting
 pub mod AllDiffer
 pub mod GoesOn
+pub mod Noting

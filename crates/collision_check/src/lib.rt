@@ -6,5 +6,7 @@ mod front;
 mod list;
 mod marks;
 mod numbers;
+mod ranks;
+mod suspect;
 
 pub use list::{Collision, list_collisions};

@@ -1,16 +1,18 @@
 //! The collisions of a segment table.
-ghost use Rattle.std.specs.Prelude.{◌≡◌, ℕ, List, ◌<◌, ◌+◌, ◌∷◌, [], None, ◌++◌, All, map, length, true, IfOk};
+ghost use Rattle.std.specs.Prelude.{◌≡◌, ℕ, List, ◌<◌, ◌+◌, ◌∷◌, [], None, ◌++◌, All, map, length, true, false, IfOk};
 ghost use Rattle.std.specs.List.{filter_map, range_with_len};
 ghost use Rattle.edi_tables.specs.Rows.{IsTable};
-ghost use Rattle.edi_tables.specs.Walk.{tag_at};
-ghost use Rattle.edi_tables.specs.Collisions.{collisions_of};
+ghost use Rattle.edi_tables.specs.Walk.{is_group_at, tag_at};
+ghost use Rattle.edi_tables.specs.Collisions.{collisions_of, followers_of, shared_pairs};
 ghost use Rattle.edi_tables.specs.Placement.{IsPlacement};
 ghost use Rattle.edi_tables.specs.declared.tag.Tag.{Tag};
 ghost use Rattle.collision_check.specs.Listed.{IsAmbiguous, collision_seen, collisions_at, with_followers};
 ghost use Rattle.collision_check.specs.Marks.{IsClear, IsFresh, goes_on, numbers_of};
 
 use crate::marks::Mark;
-use crate::numbers::{all_differ, numbers};
+use crate::numbers::numbers;
+use crate::ranks::Ranks;
+use crate::suspect::may_share;
 use crate::{follow, front};
 use edi_tables::{List, Table, Tag};
 use std::alloc::{AllocError, Global};
@@ -40,11 +42,12 @@ pub fn list_collisions(alloc: Global, table: &Table) -> Result<Vec<Collision>, A
         → p ≡ q }
 {
     let count = table.len();
-    let numbers = numbers(alloc, table.nodes())?;
+    let ranks = Ranks::of(table.nodes());
     let mut collisions = Vec::new(alloc);
-    if all_differ(&numbers) {
+    if has_none(table, &ranks) {
         return Ok(collisions);
     }
+    let numbers = numbers(alloc, table.nodes())?;
     let mut marks = unmarked(alloc, count)?;
     let marks = marks.as_mut_slice();
     let mut is_clear = false;
@@ -52,6 +55,7 @@ pub fn list_collisions(alloc: Global, table: &Table) -> Result<Vec<Collision>, A
         is_clear = push_collisions(
             alloc,
             table,
+            &ranks,
             &numbers,
             marks,
             entry as u16,
@@ -62,6 +66,23 @@ pub fn list_collisions(alloc: Global, table: &Table) -> Result<Vec<Collision>, A
     Ok(collisions)
 }
 
+/// Whether a table has no collision, as far as a look at each entry shows.
+fn has_none(table: &Table, ranks: &Ranks) -> bool
+    ensures { result ≡ true → collisions_of table.now ≡ [] }
+{
+    let mut is_clear = false;
+    for place in 0..table.len() {
+        if table.is_group(place) {
+            is_clear = false;
+        } else if is_clear_at(table, ranks, place as u16, is_clear) {
+            is_clear = true;
+        } else {
+            return false;
+        }
+    }
+    true
+}
+
 /// So many marks that say nothing.
 fn unmarked(alloc: Global, count: usize) -> Result<Vec<Option<Mark>>, AllocError>
     ensures { IfOk result (λ marks. marks.items ≡ map (λ _. None) (range_with_len 0 count)) }
@@ -70,12 +91,10 @@ fn unmarked(alloc: Global, count: usize) -> Result<Vec<Option<Mark>>, AllocError
 }
 
 /// Appends the collisions after an entry; a group has none. Answers whether it is an entry without any.
-///
-/// Where the node before has none and this one is optional and beside it, it has none: what follows it, follows that
-/// node too.
 fn push_collisions(
     alloc: Global,
     table: &Table,
+    ranks: &Ranks,
     numbers: &[Option<u16>],
     marks: &mut [Option<Mark>],
     entry: u16,
@@ -95,7 +114,7 @@ fn push_collisions(
     if table.is_group(usize::from(entry)) {
         return Ok(false);
     }
-    if is_clear && goes_on(table, entry) {
+    if is_clear_at(table, ranks, entry, is_clear) {
         return Ok(true);
     }
     let pairs = follow::pairs(alloc, table, numbers, marks, entry)?;
@@ -107,7 +126,25 @@ fn push_collisions(
     Ok(false)
 }
 
+/// Whether a look at an entry shows that it has no collision.
+///
+/// Where the node before has none and this one is optional and beside it, it has none: what follows it, follows that
+/// node too.
+#[inline]
+fn is_clear_at(table: &Table, ranks: &Ranks, entry: u16, is_clear: bool) -> bool
+    requires within { entry < length table.now }
+    requires segment { is_group_at table.now entry ≡ false }
+    requires clear { is_clear ≡ true → IsClear table.now entry }
+    ensures { result ≡ true → shared_pairs table.now (followers_of table.now entry) ≡ [] }
+{
+    if is_clear && goes_on(table, entry) {
+        return true;
+    }
+    !may_share(table, ranks, entry)
+}
+
 /// Whether this node is optional, and beside the one before.
+#[inline]
 fn goes_on(table: &Table, entry: u16) -> bool
     requires some { 0 < entry }
     requires within { entry < length table.now }

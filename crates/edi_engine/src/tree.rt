@@ -12,6 +12,7 @@ ghost use Rattle.text_reading.specs.Tree.{tree_of};
 
 use crate::places::{find_place, number_groups};
 use dir_compile::Directory;
+use edi_octets::Numeral;
 use edi_tables::{Chunk, List};
 use error_ledger::{TreeLine, put_tree_line};
 use kept_text::KeptText;
@@ -61,8 +62,10 @@ pub(crate) fn print_tree(kept: &KeptText<'_>, alloc: Global) -> Result<PrintedTr
     let room = (kept.segment_count() as usize).saturating_mul(SEGMENT_ROOM);
     let mut text = Chunk::with_room(alloc, room)?;
     let mut lines = 0;
+    let mut numeral = Numeral::of(0);
     for seen in kept.segments() {
-        lines += put_tree_line(&mut text, &line_of(directory, &numbers, &seen))?;
+        let line = line_of(directory, &numbers, &seen);
+        lines += put_tree_line(&mut text, &mut numeral, &line)?;
     }
     Ok(PrintedTree { lines, text })
 }

@@ -23,7 +23,7 @@ pub use fault::{DirFault, DirKind, DirStop};
 pub use labels::Labels;
 pub use lines::{LineText, Lines};
 pub use name::{is_label, is_message_name, is_name};
-pub use numeral::Numeral;
+pub use numeral::{MOST_DIGITS, Numeral};
 pub use octets::{Flat, LONGEST_TEXT, Octets};
 pub use profile::{
     after_position, is_composite_code, is_element_code, is_greater, is_lone_mark, put_status,

@@ -1,11 +1,11 @@
 //! A number with its decimal digits.
-ghost use Rattle.std.specs.Prelude.{◌≡◌, ◌+◌, ◌++◌, ◌≤◌, length, drop, decimal};
+ghost use Rattle.std.specs.Prelude.{◌≡◌, ◌+◌, ◌++◌, ◌≤◌, length, drop, replicate, decimal};
 
 use itoa::write_digits;
 use std::marker::Model;
 
 /// The most digits of a numeral.
-const MOST_DIGITS: usize = 10;
+pub const MOST_DIGITS: usize = 10;
 
 /// The place of the last three digits.
 const LAST_THREE: usize = 7;
@@ -65,6 +65,15 @@ impl Numeral {
         } else {
             *self = Numeral::of(n);
         }
+    }
+
+    /// Its digits after spaces, and how many spaces these are.
+    #[inline(always)]
+    pub fn octets(&self) -> (&[u8; MOST_DIGITS], usize)
+        ensures spaces { result.1 + length (decimal self.now) ≡ MOST_DIGITS }
+        ensures digits { result.0.now ≡ replicate result.1 32 ++ decimal self.now }
+    {
+        (&self.digits, self.spaces)
     }
 
     /// Puts its digits before a place of a room, with the spaces in front of them in one piece, and answers where they begin.

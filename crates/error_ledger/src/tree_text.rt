@@ -1,15 +1,15 @@
 //! The printed tree.
-ghost use Rattle.std.specs.Prelude.{◌≡◌, ◌+◌, ◌-◌, ◌*◌, ◌<◌, ◌≤◌, [], ◌∷◌, ◌++◌, All, codes, count_by, length, IfOk, IfSome, OnOk};
+ghost use Rattle.std.specs.Prelude.{◌≡◌, ◌+◌, ◌-◌, ◌*◌, ◌<◌, ◌≤◌, [], ◌∷◌, ◌++◌, All, codes, count_by, length, take, drop, replicate, decimal, IfOk, IfSome, OnOk};
 ghost use Rattle.std.specs.List.{flat_map};
 ghost use Rattle.error_ledger.specs.Printing.{tree_text, tree_lines, ended_lines, group_line, opening_lines, placed_line, numbered, indentation, IsWellPlaced};
 ghost use Rattle.edi_octets.specs.Decimal.{count_line};
 ghost use Rattle.edi_tables.specs.Growing.{HasGrown};
 ghost use Rattle.error_ledger.specs.TreeCount.{opens_group as opens_in_tree};
 
-use crate::line::Line;
+use crate::line::{MOST_OCTETS, NO_LINE, put, put_number, put_numeral, put_spaces};
 use crate::put::{room_for_lines, tag_octets};
 use crate::tree::{GroupMark, TreeLine, TreePlace};
-use edi_octets::put_count;
+use edi_octets::{Numeral, put_count};
 use edi_tables::{Chunk, Tag};
 use std::alloc::{AllocError, Global};
 
@@ -29,8 +29,9 @@ pub fn print_tree(alloc: Global, list: &[TreeLine]) -> Result<Chunk, AllocError>
     let lines = count_lines(list);
     let mut out = room_for_lines(alloc, lines, TREE_LINE_ROOM)?;
     put_tree_head(&mut out, lines)?;
+    let mut numeral = Numeral::of(0);
     for line in list {
-        put_segment(&mut out, line)?;
+        put_segment(&mut out, &mut numeral, line)?;
     }
     Ok(out)
 }
@@ -45,16 +46,21 @@ pub fn put_tree_head(out: &mut Chunk, lines: usize) -> Result<(), AllocError>
 
 /// Puts the lines of a segment in a printed tree, that of the group that it opens, if it opens one, and its own, and
 /// answers how many these are. A segment that opens a group lies in it, so that its depth is at least 1. Where memory is
-/// refused, a part of them may be put.
+/// refused, a part of them may be put. The numeral becomes the number of the segment: one is used for a whole tree, where it
+/// is the number before.
 #[tactic(auto, using(crate::proofs::PrintLemmas::lines_of_segment))]
 #[inline(always)]
-pub fn put_tree_line(out: &mut Chunk, line: &TreeLine) -> Result<usize, AllocError>
+pub fn put_tree_line(
+    out: &mut Chunk,
+    numeral: &mut Numeral,
+    line: &TreeLine,
+) -> Result<usize, AllocError>
     requires { IsWellPlaced line.now }
     ensures printed { OnOk result (out.new ≡ out.old ++ ended_lines (tree_lines line.now)) }
     ensures count { IfOk result (λ n. n ≡ length (tree_lines line.now)) }
     ensures grown { HasGrown out.old out.new }
 {
-    put_segment(out, line)?;
+    put_segment(out, numeral, line)?;
     Ok(1 + usize::from(opens_group(line)))
 }
 
@@ -82,112 +88,205 @@ fn opens_group(line: &TreeLine) -> bool
 // The lines of a segment.
 #[tactic(auto, using(edi_tables::proofs::GrowingLaws::grown_then), unfolding(crate::specs::Printing::lines_at))]
 #[inline(always)]
-fn put_segment(out: &mut Chunk, line: &TreeLine) -> Result<(), AllocError>
+fn put_segment(out: &mut Chunk, numeral: &mut Numeral, line: &TreeLine) -> Result<(), AllocError>
     requires { IsWellPlaced line.now }
     ensures ok { OnOk result (out.new ≡ out.old ++ ended_lines (tree_lines line.now)) }
     ensures grown { HasGrown out.old out.new }
 {
+    numeral.go_to(line.segment);
     match line.place {
-        TreePlace::Outside => put_marked(out, b"- ", line.segment, line.tag),
-        TreePlace::Untabled => put_marked(out, b"? ", line.segment, line.tag),
-        TreePlace::Unplaced => put_marked(out, b"! ", line.segment, line.tag),
+        TreePlace::Outside => put_marked(out, b"- ", numeral, line.tag),
+        TreePlace::Untabled => put_marked(out, b"? ", numeral, line.tag),
+        TreePlace::Unplaced => put_marked(out, b"! ", numeral, line.tag),
         TreePlace::Placed {
             entry,
             depth,
             opens,
-        } => {
-            put_opening(out, depth, opens)?;
-            put_placed(out, line.segment, line.tag, entry, depth)
-        }
+        } => put_placed(out, numeral, line.tag, entry, depth, opens),
     }
 }
 
 // The line of a segment that isn't placed, with its mark of two octets.
-#[inline]
-fn put_marked(out: &mut Chunk, mark: &[u8], number: u32, tag: Option<Tag>) -> Result<(), AllocError>
+#[inline(never)]
+fn put_marked(
+    out: &mut Chunk,
+    mark: &[u8],
+    numeral: &Numeral,
+    tag: Option<Tag>,
+) -> Result<(), AllocError>
     requires { length mark.now ≤ 2 }
-    ensures ok { OnOk result (out.new ≡ out.old ++ (mark.now ++ numbered number tag ++ 10 ∷ [])) }
+    ensures ok { OnOk result
+        (out.new ≡ out.old ++ (mark.now ++ numbered numeral.now tag ++ 10 ∷ [])) }
     ensures grown { HasGrown out.old out.new }
 {
-    let mut line = Line::empty();
-    line.put(&tag_octets(tag, b'\n'));
-    line.put_number(number);
-    line.put(mark);
-    out.add(line.octets())
+    let mut room = NO_LINE;
+    let at = put(&mut room, MOST_OCTETS, &tag_octets(tag, b'\n'));
+    let at = put_numeral(&mut room, at, numeral);
+    let at = put(&mut room, at, mark);
+    out.add(&room[at..])
 }
 
-// The line of a segment at its entry.
-#[tactic(auto, unfolding(crate::specs::Printing::placed_line))]
+// The line of a segment at its entry, after that of the group that the entry opens, if it opens one. Both are put in one piece.
 #[inline(always)]
 fn put_placed(
     out: &mut Chunk,
-    number: u32,
+    numeral: &Numeral,
     tag: Option<Tag>,
     entry: u16,
     depth: u8,
+    opens: Option<GroupMark>,
 ) -> Result<(), AllocError>
-    ensures ok { OnOk result
-        (out.new ≡ out.old ++ (placed_line number tag entry depth ++ 10 ∷ [])) }
+    requires { IfSome opens (λ _. 1 ≤ depth) }
+    ensures ok { OnOk result (out.new
+        ≡ out.old ++ (ended_lines (opening_lines depth opens)
+        ++ placed_line numeral.now tag entry depth ++ 10 ∷ [])) }
     ensures grown { HasGrown out.old out.new }
 {
-    let mut line = Line::empty();
-    line.put(b"\n");
-    line.put_number(u32::from(entry));
-    line.put(&tag_octets(tag, b' '));
-    line.put_number(number);
-    line.put(b"= ");
-    put_indented(out, &mut line, depth)
+    if depth > MOST_GROUPS {
+        return put_deep(out, numeral, tag, entry, depth, opens);
+    }
+    let mut room = NO_LINE;
+    let at = lay_placed(&mut room, numeral, tag, entry, depth, opens);
+    out.add(&room[at..])
 }
 
-// The line of the group that an entry opens, if it opens one.
+// The same with any number of groups round the entry.
+#[inline(never)]
+#[tactic(auto, using(edi_tables::proofs::GrowingLaws::grown_then), unfolding(crate::specs::Printing::placed_line))]
+fn put_deep(
+    out: &mut Chunk,
+    numeral: &Numeral,
+    tag: Option<Tag>,
+    entry: u16,
+    depth: u8,
+    opens: Option<GroupMark>,
+) -> Result<(), AllocError>
+    requires { IfSome opens (λ _. 1 ≤ depth) }
+    ensures ok { OnOk result (out.new
+        ≡ out.old ++ (ended_lines (opening_lines depth opens)
+        ++ placed_line numeral.now tag entry depth ++ 10 ∷ [])) }
+    ensures grown { HasGrown out.old out.new }
+{
+    put_deep_opening(out, depth, opens)?;
+    put_indentation(out, depth)?;
+    let mut room = NO_LINE;
+    let at = lay_entry(&mut room, numeral, tag, entry);
+    out.add(&room[at..])
+}
+
+// The line of the group that an entry opens, if it opens one, with any number of groups round it.
 #[tactic(auto, using(edi_tables::proofs::GrowingLaws::grown_same))]
-#[inline(always)]
-fn put_opening(out: &mut Chunk, depth: u8, opens: Option<GroupMark>) -> Result<(), AllocError>
+fn put_deep_opening(out: &mut Chunk, depth: u8, opens: Option<GroupMark>) -> Result<(), AllocError>
     requires { IfSome opens (λ _. 1 ≤ depth) }
     ensures ok { OnOk result (out.new ≡ out.old ++ ended_lines (opening_lines depth opens)) }
     ensures grown { HasGrown out.old out.new }
 {
     match opens {
-        Some(mark) => put_group(out, mark, depth - 1),
+        Some(mark) => put_deep_group(out, mark, depth - 1),
         None => Ok(()),
     }
 }
 
-// The line of a group that is opened.
-#[tactic(auto, unfolding(crate::specs::Printing::group_line))]
-#[inline(always)]
-fn put_group(out: &mut Chunk, mark: GroupMark, depth: u8) -> Result<(), AllocError>
+// The line of a group that is opened, with any number of groups round it.
+#[tactic(auto, using(edi_tables::proofs::GrowingLaws::grown_then), unfolding(crate::specs::Printing::group_line))]
+fn put_deep_group(out: &mut Chunk, mark: GroupMark, depth: u8) -> Result<(), AllocError>
     ensures ok { OnOk result (out.new ≡ out.old ++ (group_line mark depth ++ 10 ∷ [])) }
     ensures grown { HasGrown out.old out.new }
 {
-    let mut line = Line::empty();
-    line.put(b"\n");
-    line.put_number(mark.count);
-    line.put(b" ");
-    line.put_number(u32::from(mark.number));
-    line.put(b"group ");
-    put_indented(out, &mut line, depth)
+    put_indentation(out, depth)?;
+    let mut room = NO_LINE;
+    let at = lay_group(&mut room, MOST_OCTETS, mark);
+    out.add(&room[at..])
 }
 
-// A line, after two spaces for each group round it. It is short enough for those of `MOST_GROUPS` groups.
-#[tactic(auto, using(edi_tables::proofs::GrowingLaws::grown_then))]
+// Lays out the line of a segment at its entry, after that of the group that the entry opens, if it opens one, and answers where
+// they begin.
+#[tactic(auto, unfolding(crate::specs::Printing::placed_line))]
 #[inline(always)]
-fn put_indented(out: &mut Chunk, line: &mut Line, groups: u8) -> Result<(), AllocError>
-    requires { length line.old ≤ 32 }
-    ensures ok { OnOk result (out.new ≡ out.old ++ (indentation groups ++ line.old)) }
-    ensures grown { HasGrown out.old out.new }
+fn lay_placed(
+    room: &mut [u8; MOST_OCTETS],
+    numeral: &Numeral,
+    tag: Option<Tag>,
+    entry: u16,
+    depth: u8,
+    opens: Option<GroupMark>,
+) -> usize
+    requires inside { IfSome opens (λ _. 1 ≤ depth) }
+    requires few { depth ≤ MOST_GROUPS }
+    requires empty { room.old ≡ replicate MOST_OCTETS 32 }
+    ensures within { result ≤ MOST_OCTETS }
+    ensures lines { drop result room.new
+        ≡ ended_lines (opening_lines depth opens)
+        ++ placed_line numeral.now tag entry depth ++ 10 ∷ [] }
 {
-    if groups > MOST_GROUPS {
-        put_deep_indentation(out, groups)?;
-        return out.add(line.octets());
+    let at = lay_entry(room, numeral, tag, entry);
+    let at = put_spaces(room, at, 2 * usize::from(depth));
+    lay_opening(room, at, depth, opens)
+}
+
+// Lays out the line of a segment at its entry, without its indentation, and answers where it begins.
+#[inline(always)]
+fn lay_entry(room: &mut [u8; MOST_OCTETS], numeral: &Numeral, tag: Option<Tag>, entry: u16) -> usize
+    requires { room.old ≡ replicate MOST_OCTETS 32 }
+    ensures short { 100 ≤ result }
+    ensures within { result ≤ MOST_OCTETS }
+    ensures line { drop result room.new ≡ codes "= " ++ numbered numeral.now tag ++ codes " " ++ decimal entry ++ 10 ∷ [] }
+    ensures before { take result room.new ≡ replicate result 32 }
+{
+    let at = put(room, MOST_OCTETS, b"\n");
+    let at = put_number(room, at, u32::from(entry));
+    let at = put(room, at, &tag_octets(tag, b' '));
+    let at = put_numeral(room, at, numeral);
+    put(room, at, b"= ")
+}
+
+// Puts in front the line of the group that an entry opens, if it opens one.
+#[tactic(auto, unfolding(crate::specs::Printing::group_line))]
+#[inline(always)]
+fn lay_opening(
+    room: &mut [u8; MOST_OCTETS],
+    at: usize,
+    depth: u8,
+    opens: Option<GroupMark>,
+) -> usize
+    requires inside { IfSome opens (λ _. 1 ≤ depth) }
+    requires few { depth ≤ MOST_GROUPS }
+    requires within { at ≤ MOST_OCTETS }
+    requires fits { 60 ≤ at }
+    requires before { take at room.old ≡ replicate at 32 }
+    ensures within { result ≤ MOST_OCTETS }
+    ensures line { drop result room.new ≡ ended_lines (opening_lines depth opens) ++ drop at room.old }
+{
+    match opens {
+        Some(mark) => {
+            let at = lay_group(room, at, mark);
+            put_spaces(room, at, 2 * usize::from(depth - 1))
+        }
+        None => at,
     }
-    line.put_spaces(2 * usize::from(groups));
-    out.add(line.octets())
+}
+
+// Puts in front the line of a group, without its indentation.
+#[inline(always)]
+fn lay_group(room: &mut [u8; MOST_OCTETS], at: usize, mark: GroupMark) -> usize
+    requires within { at ≤ MOST_OCTETS }
+    requires fits { 60 ≤ at }
+    requires before { take at room.old ≡ replicate at 32 }
+    ensures short { at ≤ result + 28 }
+    ensures within { result ≤ MOST_OCTETS }
+    ensures line { drop result room.new ≡ (codes "group " ++ decimal mark.number ++ codes " " ++ decimal mark.count ++ 10 ∷ []) ++ drop at room.old }
+    ensures before { take result room.new ≡ replicate result 32 }
+{
+    let at = put(room, at, b"\n");
+    let at = put_number(room, at, mark.count);
+    let at = put(room, at, b" ");
+    let at = put_number(room, at, u32::from(mark.number));
+    put(room, at, b"group ")
 }
 
 // Two spaces for each group, of which there may be any number.
 #[tactic(auto, using(crate::proofs::PrintLemmas::indentation_more, edi_tables::proofs::GrowingLaws::grown_then, edi_tables::proofs::GrowingLaws::grown_same))]
-fn put_deep_indentation(out: &mut Chunk, groups: u8) -> Result<(), AllocError>
+fn put_indentation(out: &mut Chunk, groups: u8) -> Result<(), AllocError>
     ensures ok { OnOk result (out.new ≡ out.old ++ indentation groups) }
     ensures grown { HasGrown out.old out.new }
 {

@@ -4,13 +4,13 @@ use Rattle.edi_tables.specs.Octets.{Octets}
 use Rattle.edi_tables.specs.declared.tag.Tag.{Tag}
 use Rattle.collision_check.specs.declared.ranks.Ranks.{Ranks}
 
--- the octets of a tag as one number
+-- the octets of a tag as one number, the first of them lowest
 abbrev pub tag_number : Octets → ℕ
-tag_number octets = slice_index octets 0 * 65536 + slice_index octets 1 * 256 + slice_index octets 2
+tag_number octets = slice_index octets 0 + slice_index octets 1 * 256 + slice_index octets 2 * 65536
 
 -- the small number of a tag
 abbrev pub rank_of : Ranks → Octets → ℕ
-rank_of ranks octets = slice_index ranks.places (tag_number octets % 2011) % 64
+rank_of ranks octets = slice_index ranks.places (tag_number octets % 1979) % 64
 
 -- whether a tag's number is among those that were seen
 abbrev pub is_seen : Ranks → List Bool → Tag → Bool

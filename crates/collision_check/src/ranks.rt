@@ -5,7 +5,7 @@ ghost use Rattle.collision_check.specs.Ranks.{rank_of, tag_number};
 use edi_tables::{Node, Tag};
 
 // How many places there are. By this prime number few tags of a real table share a place.
-const PLACES: usize = 2011;
+const PLACES: usize = 1979;
 
 /// How many numbers there are.
 pub const RANKS: usize = 64;
@@ -46,12 +46,12 @@ impl Ranks {
     }
 }
 
-// The place of a tag: a remainder of its octets as one number.
+// The place of a tag: a remainder of its octets as one number, the first of them lowest.
 #[inline]
 fn place_of(tag: Tag) -> usize
-    ensures value { result ≡ tag_number tag.octets % 2011 }
-    ensures small { result < 2011 }
+    ensures value { result ≡ tag_number tag.octets % 1979 }
+    ensures small { result < 1979 }
 {
     let [first, second, third] = tag.octets;
-    (usize::from(first) * 65536 + usize::from(second) * 256 + usize::from(third)) % PLACES
+    (usize::from(first) + usize::from(second) * 256 + usize::from(third) * 65536) % PLACES
 }

@@ -42,7 +42,8 @@ pub fn list_collisions(alloc: Global, table: &Table) -> Result<Vec<Collision>, A
         → p ≡ q }
 {
     let count = table.len();
-    let ranks = Ranks::of(table.nodes());
+    let mut ranks = Ranks::none();
+    ranks.number(table.nodes());
     let mut collisions = Vec::new(alloc);
     if has_none(table, &ranks) {
         return Ok(collisions);

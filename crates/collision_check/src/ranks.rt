@@ -18,22 +18,25 @@ pub struct Ranks {
 }
 
 impl Ranks {
-    /// The numbers of the tags of these nodes.
-    pub fn of(nodes: &[Node]) -> Ranks {
-        let mut ranks = Ranks {
+    /// No tag has a number of its own yet.
+    pub fn none() -> Ranks {
+        Ranks {
             places: [0; PLACES],
-        };
+        }
+    }
+
+    /// Numbers the tags of these nodes.
+    pub fn number(&mut self, nodes: &[Node]) {
         let mut last = 0;
         for node in nodes {
             if let Some(tag) = node.tag {
-                let place = &mut ranks.places[place_of(tag)];
+                let place = &mut self.places[place_of(tag)];
                 if *place == 0 {
                     last = last % 255 + 1;
                     *place = last;
                 }
             }
         }
-        ranks
     }
 
     /// The number of a tag.

@@ -1,7 +1,9 @@
 //! The errors of the envelopes of a text.
 ghost use Rattle.std.specs.Prelude.{
   ◌≡◌,
+  ◌+◌,
   ◌-◌,
+  ◌^◌,
   ◌<◌,
   ◌≤◌,
   ◌++◌,
@@ -11,12 +13,14 @@ ghost use Rattle.std.specs.Prelude.{
   IfOk,
   OnOk,
 };
+ghost use Rattle.std.specs.Option.{option_copied};
 ghost use Rattle.edi_tables.specs.Rows.{when};
 ghost use Rattle.envelope_check.specs.Heads.{Fits};
 ghost use Rattle.envelope_check.specs.Envelope.{envelope_errors_of, error_of_text as text_error};
 ghost use Rattle.envelope_check.specs.Known.{
   errors_by,
   mark_at,
+  rules_by,
   first_unb as first_unb_of,
   has_kind,
   is_unz,
@@ -26,7 +30,7 @@ use crate::head::{Head, SegmentMark};
 use crate::heads::{first_unb, has_end, split_here};
 use crate::known::Known;
 use crate::marks::SegmentMarks;
-use crate::rules::{Rule, breaks_any, rules, sound_run};
+use crate::rules::{Rule, breaks_any, is_sound, rules, sound_run};
 use error_ledger::{ErrorLine, Kind};
 use std::alloc::{AllocError, Global};
 
@@ -59,7 +63,7 @@ pub fn envelope_errors<M: SegmentMarks>(
         }
         let number = known.segments + 1;
         let (head, after) = split_here(rest, number);
-        push_segment_errors(&mut errors, number, marks, rules(&known, head, after))?;
+        push_segment_errors(&mut errors, number, marks, &known, head, after)?;
         known = known.after(head);
         rest = after;
     }
@@ -98,8 +102,31 @@ fn error_of_text(kind: Kind) -> ErrorLine
     }
 }
 
-// Puts the errors of the rules that a segment breaks at the end.
+// Puts the errors of the rules that a segment breaks at the end. Most segments break none, which is seen at once.
 fn push_segment_errors<M: SegmentMarks>(
+    errors: &mut Vec<ErrorLine>,
+    number: u32,
+    marks: &mut M,
+    known: &Known,
+    head: Option<&Head>,
+    after: &[Head],
+) -> Result<(), AllocError>
+    requires first { 0 < number }
+    requires last { number ≤ length (M.marks marks.old) }
+    requires few { known.now.segments + 1 < 2 ^ 32 }
+    ensures told { OnOk result (errors.new.items ≡ errors.old.items
+        ++ errors_by number (mark_at (M.marks marks.old) (number - 1))
+        (rules_by known.now (option_copied head.entry) after.now)) }
+    ensures same { M.marks marks.new ≡ M.marks marks.old }
+{
+    if is_sound(known, head) {
+        return Ok(());
+    }
+    push_broken(errors, number, marks, rules(known, head, after))
+}
+
+// Puts the errors of those of these rules that a segment breaks at the end.
+fn push_broken<M: SegmentMarks>(
     errors: &mut Vec<ErrorLine>,
     number: u32,
     marks: &mut M,

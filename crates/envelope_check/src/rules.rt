@@ -1,7 +1,8 @@
 //! The rules on envelopes, each a test of its own on one segment.
-ghost use Rattle.std.specs.Prelude.{◌≡◌, ◌+◌, ◌<◌, ◌^◌, is_some};
+ghost use Rattle.std.specs.Prelude.{◌≡◌, ◌+◌, ◌<◌, ◌^◌, List, Some, false, is_some, true};
 ghost use Rattle.std.specs.Option.{option_copied};
 ghost use Rattle.std.specs.List.{list_any};
+ghost use Rattle.envelope_check.specs.declared.head.Head as heads;
 ghost use Rattle.envelope_check.specs.Envelope.{gives as gives_number};
 ghost use Rattle.envelope_check.specs.Known.{
   second_unb_by,
@@ -56,6 +57,56 @@ pub(crate) fn rules(known: &Known, head: Option<&Head>, after: &[Head]) -> [Rule
         (lacks_table(head), 2, Kind::NoTable),
     ];
     rules
+}
+
+/// Whether a segment is seen at once to break no rule: a UNH or a UNT that is as it should be, as nearly every one is. Another one
+/// may break none either.
+pub(crate) fn is_sound(known: &Known, head: Option<&Head>) -> bool
+    requires { known.now.segments + 1 < 2 ^ 32 }
+    ensures { (after : List heads.Head) → result ≡ true
+        → list_any (λ rule. rule.0) (rules_by known.now (option_copied head.entry) after) ≡ false }
+{
+    match head {
+        Some(head) if !known.ended => match head.kind {
+            HeadKind::Unh => is_sound_start(known, head),
+            HeadKind::Unt => is_sound_end(known, head),
+            _ => false,
+        },
+        _ => false,
+    }
+}
+
+// Whether a UNH breaks no rule.
+fn is_sound_start(known: &Known, head: &Head) -> bool
+    ensures table { result ≡ true → lacks_table_by (Some head.now) ≡ false }
+    ensures mixed { result ≡ true
+        → mixed_by (Some head.now.kind) (is_some known.now.group) known.now.has_groups ≡ false }
+    ensures name { result ≡ true
+        → other_type_by (Some head.now.kind) (Some head.now) (option_copied known.now.group)
+        ≡ false }
+{
+    let kind = Some(head.kind);
+    if lacks_table(Some(head)) || is_mixed(known, kind) {
+        return false;
+    }
+    !is_of_other_type(kind, Some(head), known.group)
+}
+
+// Whether a UNT is in a message and breaks no rule.
+fn is_sound_end(known: &Known, head: &Head) -> bool
+    requires { known.now.segments + 1 < 2 ^ 32 }
+    ensures inside { result ≡ true → is_some known.now.message ≡ true }
+    ensures count { result ≡ true
+        → miscounts_by (Some head.now) (count_due_by (Some head.now.kind) known.now) ≡ false }
+    ensures reference { result ≡ true
+        → refers_elsewhere_by (Some head.now) (opening_by (Some head.now.kind) known.now)
+        ≡ false }
+{
+    let kind = Some(head.kind);
+    if known.message.is_none() || miscounts(Some(head), count_due(known, kind)) {
+        return false;
+    }
+    !refers_elsewhere(Some(head), opening(known, kind))
 }
 
 /// How many segments from here on are no heads and can break no rule: before the end and in an open message, those up to

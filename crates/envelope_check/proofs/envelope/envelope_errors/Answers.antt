@@ -30,7 +30,7 @@ pub loop-known-preserved : goal.loop-known-preserved
 loop-known-preserved g c = record {
   same = c.push_segment_errors.ensures.same ∙ c.loop-known.invariant.same;
   done = done_next _ _ _ _ _ _ _ _ _ _ _ (omega (arith, c.loop-known-test.true, c.requires.total)) c.loop-known.invariant.same c.loop-known.invariant.done c.split_here.ensures.head c.split_here.ensures.after
-      c.rules.ensures c.in_ok-push_segment_errors.ensures.told c.after-known.ensures;
+      refl c.in_ok-push_segment_errors.ensures.told c.after-known.ensures;
 }
 
 pub returns : goal.returns

@@ -1,4 +1,5 @@
 pub mod AppendLemmas
+mod BareTagLemmas
 pub mod ContextEnds
 mod ContextLemmas
 mod CountLemmas
@@ -10,7 +11,6 @@ pub mod ForwardLemmas
 pub mod OrderLemmas
 mod PartsLemmas
 pub mod PlacesLemmas
-mod PlainTagLemmas
 pub mod ReleasedLemmas
 pub mod RepeatLemmas
 mod ScanLemmas

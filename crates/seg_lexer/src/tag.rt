@@ -27,7 +27,7 @@ pub fn read_tag<O: Octets>(text: &O, service: &Service, start: usize, end: usize
     ensures { option_map (λ t. t.octets) result
         ≡ tag_of (components_at service.now (O.octets text.now) start end) }
 {
-    match plain_tag(lend(text, start, end), end - start, &service.separators()) {
+    match bare_tag(lend(text, start, end), end - start, &service.separators()) {
         Some(tag) => Some(tag),
         None => read_tag_field(text, service, start, end),
     }
@@ -50,7 +50,7 @@ fn read_tag_field<O: Octets>(text: &O, service: &Service, start: usize, end: usi
 /// The tag of a segment of so many octets that begins with these, where one look shows it: the tag is bare, and then the segment
 /// ends or a separator of elements comes. `None` says nothing of the segment.
 #[inline(always)]
-fn plain_tag(part: &[u8], len: usize, separators: &Separators) -> Option<Tag>
+fn bare_tag(part: &[u8], len: usize, separators: &Separators) -> Option<Tag>
     ensures { (segment : List ℕ) → length segment ≡ len
         → part.now ≡ take (length part.now) segment
         → IfSome result (λ tag. tag_of (components_of separators.now segment) ≡ Some tag.octets) }

@@ -54,15 +54,15 @@ module _ (sp : Separators) (a b c : ℕ) (bare_a : IsBare sp a) (bare_b : IsBare
         tag_of-first es (a ∷ b ∷ c ∷ []) [] (Some (a ∷ b ∷ c ∷ [])) field found
 
   -- the segment is its tag
-  pub plain-last : is_tag_of (a ∷ b ∷ c ∷ []) ≡ true → tag_of (components_of sp (a ∷ b ∷ c ∷ [])) ≡ Some (a ∷ b ∷ c ∷ [])
-  plain-last tag =
+  pub bare-last : is_tag_of (a ∷ b ∷ c ∷ []) ≡ true → tag_of (components_of sp (a ∷ b ∷ c ∷ [])) ≡ Some (a ∷ b ∷ c ∷ [])
+  bare-last tag =
       let xs : List ℕ = a ∷ b ∷ c ∷ [] in
       let fields : fields_of sp xs ≡ _ = sym (fields_of-from sp xs) ∙ fields_from-last sp xs 0 1 1 0 (no-element []) (no-repeat []) (no-component []) in
       tag-by [] (components_of sp xs) _ [] (ap (map unplaced) fields) refl (own-value []) refl tag
 
   -- a separator of elements comes after its tag
-  pub plain-next : (more : List ℕ) → is_tag_of (a ∷ b ∷ c ∷ []) ≡ true → tag_of (components_of sp (a ∷ b ∷ c ∷ sp.element ∷ more)) ≡ Some (a ∷ b ∷ c ∷ [])
-  plain-next more tag =
+  pub bare-next : (more : List ℕ) → is_tag_of (a ∷ b ∷ c ∷ []) ≡ true → tag_of (components_of sp (a ∷ b ∷ c ∷ sp.element ∷ more)) ≡ Some (a ∷ b ∷ c ∷ [])
+  bare-next more tag =
       let ys : List ℕ = sp.element ∷ more in
       let xs : List ℕ = a ∷ b ∷ c ∷ ys in
       let here : is_cut sp.release xs sp.element 3 ≡ true = and_from _ _ (eq-eqb sp.element sp.element refl) (ap not (free ys)) in
@@ -72,20 +72,20 @@ module _ (sp : Separators) (a b c : ℕ) (bare_a : IsBare sp a) (bare_b : IsBare
       tag-by ys (components_of sp xs) _ (map unplaced later) (ap (map unplaced) fields) refl (own-value ys) past tag
 
 -- what one look at the front of a segment shows
-pub plain-tag : (sp : Separators) (part xs : List ℕ) (len : ℕ) → 3 ≤ length part → IsBare sp (get_or part 0 0) → IsBare sp (get_or part 1 0) → IsBare sp (get_or part 2 0)
+pub bare-tag : (sp : Separators) (part xs : List ℕ) (len : ℕ) → 3 ≤ length part → IsBare sp (get_or part 0 0) → IsBare sp (get_or part 1 0) → IsBare sp (get_or part 2 0)
     → is_tag_of (get_or part 0 0 ∷ get_or part 1 0 ∷ get_or part 2 0 ∷ []) ≡ true → ((x : ℕ) (later : List ℕ) → take (length part - 3) (drop 3 part) ≡ x ∷ later → x ≡ sp.element) → (take (length part - 3) (drop 3 part) ≡ [] → len ≡ 3)
     → length xs ≡ len → part ≡ take (length part) xs → tag_of (components_of sp xs) ≡ Some (get_or part 0 0 ∷ get_or part 1 0 ∷ get_or part 2 0 ∷ [])
-plain-tag sp [] xs len some bare_a bare_b bare_c tag next last long is = absurd (omega arith)
-plain-tag sp (a ∷ []) xs len some bare_a bare_b bare_c tag next last long is = absurd (omega arith)
-plain-tag sp (a ∷ b ∷ []) xs len some bare_a bare_b bare_c tag next last long is = absurd (omega arith)
-plain-tag sp (a ∷ b ∷ c ∷ []) xs len some bare_a bare_b bare_c tag next last long is =
+bare-tag sp [] xs len some bare_a bare_b bare_c tag next last long is = absurd (omega arith)
+bare-tag sp (a ∷ []) xs len some bare_a bare_b bare_c tag next last long is = absurd (omega arith)
+bare-tag sp (a ∷ b ∷ []) xs len some bare_a bare_b bare_c tag next last long is = absurd (omega arith)
+bare-tag sp (a ∷ b ∷ c ∷ []) xs len some bare_a bare_b bare_c tag next last long is =
     let three : len ≡ 3 = last refl in
     let all : take 3 xs ≡ xs = take_all 3 xs (omega arith) in
-    ap (λ (ys : List ℕ). tag_of (components_of sp ys)) (sym (is ∙ all)) ∙ plain-last sp a b c bare_a bare_b bare_c tag
-plain-tag sp (a ∷ b ∷ c ∷ x ∷ later) xs len some bare_a bare_b bare_c tag next last long is =
+    ap (λ (ys : List ℕ). tag_of (components_of sp ys)) (sym (is ∙ all)) ∙ bare-last sp a b c bare_a bare_b bare_c tag
+bare-tag sp (a ∷ b ∷ c ∷ x ∷ later) xs len some bare_a bare_b bare_c tag next last long is =
     let n : ℕ = length (a ∷ b ∷ c ∷ x ∷ later) in
     let rest : List ℕ = drop n xs in
     let after : n - 3 ≡ suc (length later) = omega arith in
     let whole : xs ≡ a ∷ b ∷ c ∷ x ∷ (later ++ rest) = sym (take-append-drop n xs) ∙ ap (λ (ys : List ℕ). ys ++ rest) (sym is) in
     ap (λ (ys : List ℕ). tag_of (components_of sp ys)) (whole ∙ ap (λ (y : ℕ). a ∷ b ∷ c ∷ y ∷ (later ++ rest)) (next x (take (length later) later) (ap (λ (k : ℕ). take k (x ∷ later)) after)))
-    ∙ plain-next sp a b c bare_a bare_b bare_c (later ++ rest) tag
+    ∙ bare-next sp a b c bare_a bare_b bare_c (later ++ rest) tag

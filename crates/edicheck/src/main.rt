@@ -3,9 +3,13 @@
 
 ghost use Rattle.std.specs.Prelude.{◌≡◌, [], IfOk, IsUtf8};
 
+mod command_input;
 mod hints;
+mod kept;
+mod place;
 mod watched;
 
+use crate::command_input::CommandInput;
 use crate::hints::{hint_at_read, hint_at_script, hint_at_word};
 use crate::watched::{WatchedShelf, WatchedSource};
 use edi_ports::{FolderShelf, Shelf, Source, StdSink, StdSource};
@@ -13,7 +17,6 @@ use edi_tables::Chunk;
 use edicheck_core::{Status, find_wrong_word, refuse_memory, run};
 use std::alloc::{AllocError, Global};
 use std::env::FillError;
-use std::io::BufReader;
 use std::process::ExitCode;
 use std::rt::Env;
 
@@ -29,15 +32,15 @@ const _: () = prove!(LONGEST_NAME <= LONGEST_WORD);
 fn main(rt: HostRuntime) -> ExitCode {
     let alloc = rt.alloc();
     let mut out = StdSink::new(rt.stdout());
-    let status = match (read_words(&rt, alloc), BufReader::new(alloc, rt.stdin())) {
-        (Ok(words), Ok(reader)) => {
+    let mut input = WatchedSource::new(CommandInput::new(StdSource::new(rt.stdin())));
+    let status = match read_words(&rt, alloc) {
+        Ok(words) => {
             let mut shelf = WatchedShelf::new(FolderShelf::new(&rt));
-            let mut input = WatchedSource::new(StdSource::new(reader));
             let status = run(alloc, &words, &mut shelf, &mut input, &mut out);
             hint(&rt, status, &words, &shelf, &input);
             status
         }
-        _ => refuse_memory(&mut out),
+        Err(_) => refuse_memory(&mut out),
     };
     ExitCode::from(status.number())
 }

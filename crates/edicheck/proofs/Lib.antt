@@ -1,0 +1,4 @@
+pub mod CommandLemmas
+pub mod KeptLemmas
+pub mod PlaceLemmas
+pub mod StepLemmas

@@ -11,5 +11,6 @@ pub mod ReprLemmas
 pub mod SearchLemmas
 pub mod SeveralLemmas
 pub mod StoreLemmas
+pub mod UsualLemmas
 pub mod WholeLemmas
 mod Worked

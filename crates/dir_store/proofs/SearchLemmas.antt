@@ -177,3 +177,55 @@ tags_compared (x ∷ y ∷ z ∷ w ∷ more) b long other = absurd (omega arith)
 pub tags_numbered : (a b : List ℕ) → length a ≡ 3 → length b ≡ 3 → get_or a 1 0 < 256 → get_or a 2 0 < 256 → get_or b 1 0 < 256 → get_or b 2 0 < 256 → nat_cmp (number_of a) (number_of b) ≡ slice_cmp nat_cmp a b
 tags_numbered a b long other second third b_second b_third =
     sym (tags_compared a b long other ∙ by_number (get_or a 0 0) (get_or a 1 0) (get_or a 2 0) (get_or b 0 0) (get_or b 1 0) (get_or b 2 0) second third b_second b_third)
+
+-- two codes are compared octet by octet
+abbrev pub by_four : List ℕ → List ℕ → Ordering
+by_four a b =
+    ordering_then (nat_cmp (get_or a 0 0) (get_or b 0 0))
+    (ordering_then (nat_cmp (get_or a 1 0) (get_or b 1 0)) (ordering_then (nat_cmp (get_or a 2 0) (get_or b 2 0)) (nat_cmp (get_or a 3 0) (get_or b 3 0))))
+
+other_four : (x y z w : ℕ) (b : List ℕ) → length b ≡ 4 → by_four (x ∷ y ∷ z ∷ w ∷ []) b ≡ slice_cmp nat_cmp (x ∷ y ∷ z ∷ w ∷ []) b
+other_four x y z w [] long = absurd (omega arith)
+other_four x y z w (a ∷ []) long = absurd (omega arith)
+other_four x y z w (a ∷ b ∷ []) long = absurd (omega arith)
+other_four x y z w (a ∷ b ∷ d ∷ []) long = absurd (omega arith)
+other_four x y z w (a ∷ b ∷ d ∷ e ∷ []) long = ap (λ o. ordering_then (nat_cmp x a) (ordering_then (nat_cmp y b) (ordering_then (nat_cmp z d) o))) (then_equal (nat_cmp w e))
+other_four x y z w (a ∷ b ∷ d ∷ e ∷ f ∷ more) long = absurd (omega arith)
+
+four_compared : (a b : List ℕ) → length a ≡ 4 → length b ≡ 4 → slice_cmp nat_cmp a b ≡ by_four a b
+four_compared [] b long other = absurd (omega arith)
+four_compared (x ∷ []) b long other = absurd (omega arith)
+four_compared (x ∷ y ∷ []) b long other = absurd (omega arith)
+four_compared (x ∷ y ∷ z ∷ []) b long other = absurd (omega arith)
+four_compared (x ∷ y ∷ z ∷ w ∷ []) b long other = sym (other_four x y z w b other)
+four_compared (x ∷ y ∷ z ∷ w ∷ v ∷ more) b long other = absurd (omega arith)
+
+-- four octets as one number
+abbrev pub number_of_four : List ℕ → ℕ
+number_of_four a = get_or a 0 0 * 16777216 + (get_or a 1 0 * 65536 + get_or a 2 0 * 256 + get_or a 3 0)
+
+by_first : (x a n m : ℕ) → n < 16777216 → m < 16777216 → ordering_then (nat_cmp x a) (nat_cmp n m) ≡ nat_cmp (x * 16777216 + n) (a * 16777216 + m)
+by_first x a n m n_small m_small =
+    then_order x a (nat_cmp n m) (x * 16777216 + n) (a * 16777216 + m) (λ h. omega arith) (λ h. omega arith)
+    (λ first. then_equal (nat_cmp n m)
+    ∙ then_order n m Equal (x * 16777216 + n) (a * 16777216 + m) (λ h. omega arith) (λ h. omega arith) (λ second. nat_cmp_is (x * 16777216 + n) (a * 16777216 + m) Equal (omega arith)))
+
+-- octets that are small
+pub record AreSmall (a : List ℕ) : Type 0 where
+  pub long : length a ≡ 4
+  pub second : get_or a 1 0 < 256
+  pub third : get_or a 2 0 < 256
+  pub fourth : get_or a 3 0 < 256
+
+-- codes are ordered as their numbers are
+pub codes_numbered : (a b : List ℕ) → AreSmall a → AreSmall b → nat_cmp (number_of_four a) (number_of_four b) ≡ slice_cmp nat_cmp a b
+codes_numbered a b one other =
+    sym (four_compared a b one.long other.long
+    ∙ ap (ordering_then (nat_cmp (get_or a 0 0) (get_or b 0 0)))
+    (by_number (get_or a 1 0) (get_or a 2 0) (get_or a 3 0) (get_or b 1 0) (get_or b 2 0) (get_or b 3 0) one.third one.fourth other.third other.fourth)
+    ∙ by_first (get_or a 0 0) (get_or b 0 0) (get_or a 1 0 * 65536 + get_or a 2 0 * 256 + get_or a 3 0) (get_or b 1 0 * 65536 + get_or b 2 0 * 256 + get_or b 3 0)
+    (omega (arith, one.second, one.third, one.fourth)) (omega (arith, other.second, other.third, other.fourth)))
+
+-- codes with one number are one
+pub one_number : (a b : List ℕ) → AreSmall a → AreSmall b → number_of_four a ≡ number_of_four b → a ≡ b
+one_number a b one other same = same-name a b (sym (codes_numbered a b one other) ∙ sym (nat_cmp_is (number_of_four a) (number_of_four b) Equal same))

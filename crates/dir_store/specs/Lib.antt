@@ -4,3 +4,4 @@ pub mod Rules
 pub mod Spelling
 pub mod Stop
 pub mod Store
+pub mod Usual

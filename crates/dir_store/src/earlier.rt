@@ -52,7 +52,7 @@ impl<'a> EarlierDefinitions<'a> {
             Some element.now ≡ named_in element_name self.now.elements.now code.octets) }
     {
         let element = self.elements.get(self.element_hints.of_code(code))?;
-        if element.code == code {
+        if code_number(element.code) == code_number(code) {
             Some(element)
         } else {
             None
@@ -63,10 +63,9 @@ impl<'a> EarlierDefinitions<'a> {
     fn search_element(&self, code: Code) -> Option<&'a ElementDef>
         ensures { option_copied result ≡ named_in element_name self.now.elements.now code.octets }
     {
-        let wanted = code.octets.as_slice();
         let place = self
             .elements
-            .binary_search_by(|element| element.code.octets.as_slice().cmp(&wanted))
+            .binary_search_by(|element| compare_codes(element.code, code))
             .ok()?;
         self.elements.get(place)
     }
@@ -75,9 +74,8 @@ impl<'a> EarlierDefinitions<'a> {
     pub fn has_composite(&self, code: Code) -> bool
         ensures { result ≡ is_some (named_in composite_name self.now.composites.now code.octets) }
     {
-        let wanted = code.octets.as_slice();
         self.composites
-            .binary_search_by(|composite| composite.code.octets.as_slice().cmp(&wanted))
+            .binary_search_by(|composite| compare_codes(composite.code, code))
             .is_ok()
     }
 
@@ -133,4 +131,29 @@ pub(crate) fn tag_number(tag: Tag) -> u32
 {
     let [first, second, third] = tag.octets;
     u32::from(first) * 65536 + u32::from(second) * 256 + u32::from(third)
+}
+
+// The order of two codes. Each item of a segment looks a code up, so their numbers are compared, and no slices of any
+// length.
+#[inline]
+fn compare_codes(code: Code, other: Code) -> Ordering
+    ensures { result ≡ slice_cmp nat_cmp code.octets other.octets }
+{
+    code_number(code).cmp(&code_number(other))
+}
+
+/// The octets of a code as one number, the first of them highest.
+#[inline]
+pub(crate) fn code_number(code: Code) -> u32
+    ensures value { result
+        ≡ slice_index code.octets 0 * 16777216 + (slice_index code.octets 1 * 65536
+        + slice_index code.octets 2 * 256 + slice_index code.octets 3) }
+    ensures second { slice_index code.octets 1 < 256 }
+    ensures third { slice_index code.octets 2 < 256 }
+    ensures fourth { slice_index code.octets 3 < 256 }
+    ensures four { length code.octets ≡ 4 }
+{
+    let [first, second, third, fourth] = code.octets;
+    u32::from(first) * 16777216
+        + (u32::from(second) * 65536 + u32::from(third) * 256 + u32::from(fourth))
 }

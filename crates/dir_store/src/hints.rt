@@ -1,7 +1,7 @@
 //! Where a definition may be, by the number of its name: the place that is looked at before a search by halving.
 ghost use Rattle.std.specs.Prelude.{◌<◌};
 
-use crate::earlier::tag_number;
+use crate::earlier::{code_number, tag_number};
 use edi_tables::{Code, ElementDef, SegmentDef, Tag};
 
 // How many places are kept. By a prime number of them few names of a real directory share one.
@@ -53,12 +53,6 @@ impl Hints {
     pub fn of_tag(&self, tag: Tag) -> usize {
         usize::from(self.places[slot_of(tag_number(tag))])
     }
-}
-
-// The octets of a code as one number, the first of them highest.
-#[inline]
-fn code_number(code: Code) -> u32 {
-    u32::from_be_bytes(code.octets)
 }
 
 // The remainder of a number.

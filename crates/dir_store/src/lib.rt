@@ -13,6 +13,7 @@ mod reading;
 mod segment_line;
 mod segments;
 mod stop;
+mod usual_row;
 mod version;
 mod writing;
 

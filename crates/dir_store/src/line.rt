@@ -30,8 +30,9 @@ pub fn read_number(word: &[u8]) -> Option<u64>
     read_decimal(word)
 }
 
-// Whether a word of two octets or more begins with zero.
-fn has_leading_zero(word: &[u8]) -> bool
+/// Whether a word of two octets or more begins with zero.
+#[inline]
+pub(crate) fn has_leading_zero(word: &[u8]) -> bool
     ensures { result ≡ (slice_index word.now 0 == 48 && nat_lt 1 (length word.now)) }
 {
     matches!(word, [b'0', _, ..])

@@ -9,6 +9,7 @@ use crate::entry::{Entry, put_listed, read_several};
 use crate::line::read_line;
 use crate::line_stop::Stop;
 use crate::segment_line::{item_on, message_on, row_on, segment_on};
+use crate::usual_row::usual_row;
 use edi_octets::{put_decimal, put_status};
 use edi_tables::{
     Chunk, Code, ItemDef, List as Members, MessageDef, SegmentDef, Table, TableRow, Tag,
@@ -116,6 +117,9 @@ impl Entry for TableRow {
         _: Option<&TableRow>,
         octets: &'o [u8],
     ) -> Result<(TableRow, &'o [u8]), Stop> {
+        if let Some((row, rest)) = usual_row(known, octets) {
+            return Ok((row, rest));
+        }
         let (line, rest) = read_line(octets)?;
         let row = row_on(line, known).ok_or(Stop::at(octets))?;
         Ok((row, rest))

@@ -1,0 +1,12 @@
+use Rattle.std.proofs.Common.{◌≡◌, ◌≤◌, true, take}
+use Rattle.std.specs.Char.{is_ascii_digit}
+use Rattle.std.specs.List.{list_all}
+use Rattle.std.specs.Str.Parse.{digits_value}
+use Rattle.dir_store.proofs.usual_row.number_to.Given as goal
+
+abbrev pub invariant-loop-place : goal.invariant-loop-place
+invariant-loop-place l = record {
+  few : l.place ≤ 6;
+  digits : list_all is_ascii_digit (take l.place l.octets) ≡ true;
+  value : l.n ≡ digits_value 10 (take l.place l.octets);
+}

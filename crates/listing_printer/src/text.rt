@@ -7,8 +7,8 @@ ghost use Rattle.seg_lexer.specs.Service.{IsUsable};
 ghost use Rattle.listing_printer.specs.Printing.{printed_text, segments_from, segment_lines, tail_line};
 ghost use Rattle.edi_octets.specs.declared.octets.TheConstants.{LONGEST_TEXT};
 
-use crate::segment_line::{put_places, put_tag};
-use crate::value_lines::put_tag_and_values;
+use crate::segment_line::{Numerals, put_line};
+use crate::value_lines::put_values;
 use edi_octets::{Flat, put_count, put_decimal};
 use edi_tables::Chunk;
 use seg_lexer::{Lexed, Service, fields, next_segment, read_context, read_tag};
@@ -45,7 +45,7 @@ pub fn print_text(alloc: Global, detail: Detail, text: &[u8]) -> Result<PrintedT
 }
 
 // The line of a count of segments.
-fn print_count(alloc: Global, count: u64) -> Result<Chunk, AllocError>
+fn print_count(alloc: Global, count: u32) -> Result<Chunk, AllocError>
     ensures { IfOk result (λ c. c ≡ count_line (codes "segments") count) }
 {
     let mut head = Chunk::empty(alloc);
@@ -59,7 +59,7 @@ fn list_segments<L: Ledger>(
     detail: Detail,
     text: &Flat,
     blank: Blank,
-) -> Result<(u64, Chunk), AllocError>
+) -> Result<(u32, Chunk), AllocError>
     requires short { length text.now.octets.now ≤ LONGEST_TEXT }
     requires name { blank.name ≡ L.name }
     requires parts { blank.parts ≡ L.parts }
@@ -73,13 +73,23 @@ fn list_segments<L: Ledger>(
     let mut lexed = Steps::<L>::start(blank);
     let service = read_context(text, &mut lexed).service;
     let mut lines = Chunk::empty(alloc);
-    let mut count: u64 = 0;
+    let mut numerals = Numerals::new();
+    let mut count: u32 = 0;
     let mut from = service.body;
     loop {
         match next_segment(text, &service, from, &mut lexed) {
             Lexed::Ended { start, end } => {
                 count += 1;
-                put_segment(&mut lines, detail, text, &service, count, start, end)?;
+                put_segment(
+                    &mut lines,
+                    &mut numerals,
+                    detail,
+                    text,
+                    &service,
+                    count,
+                    start,
+                    end,
+                )?;
                 from = end + 1;
             }
             Lexed::Tail { start } => {
@@ -107,10 +117,11 @@ fn put_tail(lines: &mut Chunk, text: &Flat, start: usize) -> Result<(), AllocErr
 #[tactic(auto, unfolding(crate::specs::Printing::segment_lines))]
 fn put_segment(
     lines: &mut Chunk,
+    numerals: &mut Numerals,
     detail: Detail,
     text: &Flat,
     service: &Service,
-    number: u64,
+    number: u32,
     start: usize,
     end: usize,
 ) -> Result<(), AllocError>
@@ -121,9 +132,10 @@ fn put_segment(
     ensures { let segment = segment_lines detail service.now text.now.octets.now number in
         OnOk result (lines.new ≡ lines.old ++ segment (record { from = start; to = end })) }
 {
-    put_places(lines, number, start, end)?;
+    let tag = read_tag(text, service, start, end);
+    put_line(lines, numerals, number, start, end, tag)?;
     match detail {
-        Detail::Segments => put_tag(lines, read_tag(text, service, start, end)),
-        Detail::Values => put_tag_and_values(lines, fields(text, service, start, end)),
+        Detail::Segments => Ok(()),
+        Detail::Values => put_values(lines, fields(text, service, start, end)),
     }
 }

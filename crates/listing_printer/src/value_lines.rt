@@ -1,46 +1,37 @@
 //! The printed lines of values.
-ghost use Rattle.std.specs.Prelude.{◌≡◌, ◌++◌, ◌<◌, codes, decimal, OnOk};
+ghost use Rattle.std.specs.Prelude.{◌≡◌, ◌++◌, codes, decimal, OnOk};
 ghost use Rattle.std.specs.List.{flat_map};
 ghost use Rattle.seg_lexer.specs.Fields.{unplaced};
 ghost use Rattle.seg_lexer.specs.Left.{components_left, placed_in};
-ghost use Rattle.seg_lexer.specs.Tag.{tag_of};
 ghost use Rattle.seg_lexer.specs.Value.{octets_of};
 ghost use Rattle.edi_octets.specs.Shown.{octet_shown};
-ghost use Rattle.listing_printer.specs.Printing.{component_line, repetition_shown, tag_end, value_line, value_lines};
+ghost use Rattle.listing_printer.specs.Printing.{component_line, repetition_shown, value_line, value_lines};
 
-use crate::segment_line::put_tag;
 use edi_octets::{Octets, put_decimal, put_shown};
 use edi_tables::Chunk;
 use seg_lexer::{Component, Fields, Value};
 use std::alloc::AllocError;
 
-/// The last part of a segment's line, which is its tag, and the lines of its values. Each component is lexed once.
-pub fn put_tag_and_values<O: Octets>(
-    lines: &mut Chunk,
-    components: Fields<'_, O>,
-) -> Result<(), AllocError>
-    ensures { let components = components_left components.entry in
-        OnOk result (lines.new
-        ≡ lines.old ++ tag_end (tag_of components) ++ value_lines components) }
+/// The lines of a segment's values. Each component is lexed once.
+pub fn put_values<O: Octets>(lines: &mut Chunk, components: Fields<'_, O>) -> Result<(), AllocError>
+    ensures { OnOk result
+        (lines.new ≡ lines.old ++ value_lines (components_left components.entry)) }
 {
-    let mut components = components;
-    put_tag(lines, components.take_tag())?;
     for component in components {
         put_component(lines, &component)?;
     }
     Ok(())
 }
 
-// The line of a component after the tag field, if it is printed.
+// The line of a component, if it is printed: one of an element that isn't empty.
 fn put_component<O: Octets>(
     lines: &mut Chunk,
     component: &Component<'_, O>,
 ) -> Result<(), AllocError>
-    requires { 0 < component.now.element }
     ensures { OnOk result (lines.new
         ≡ lines.old ++ component_line (unplaced (placed_in component.now))) }
 {
-    if component.value.is_empty() {
+    if component.element == 0 || component.value.is_empty() {
         return Ok(());
     }
     put_value(lines, component)

@@ -1,5 +1,5 @@
 -- The printed forms of a text's segments and values.
-use Rattle.std.specs.Prelude.{ℕ, ◌+◌, ◌-◌, Bool, not, ◌&&◌, ◌==◌, List, [], ◌∷◌, ◌++◌, length, Option, Some, None, codes, decimal, if◌then◌else◌}
+use Rattle.std.specs.Prelude.{ℕ, ◌+◌, ◌-◌, Bool, not, ◌&&◌, nat_le, ◌==◌, List, [], ◌∷◌, ◌++◌, length, Option, Some, None, codes, decimal, if◌then◌else◌}
 use Rattle.std.specs.List.{flat_map}
 use Rattle.edi_tables.specs.Octets.{Octets}
 use Rattle.edi_tables.specs.Filled.{is_filled}
@@ -28,6 +28,10 @@ unfoldable pub value_line : Component → Octets
 value_line e =
     codes "  " ++ decimal e.element ++ repetition_shown e.repetition ++ codes " " ++ decimal e.component ++ codes " "
     ++ flat_map octet_shown e.octets ++ 10 ∷ []
+
+-- for bodies: an octet stands for itself where it is shown
+abbrev pub stands_for_itself : ℕ → Bool
+stands_for_itself x = nat_le 32 x && nat_le x 126 && not (x == 92)
 
 -- components that are printed: those that aren't empty, the tag field left out
 abbrev pub is_printed : Component → Bool

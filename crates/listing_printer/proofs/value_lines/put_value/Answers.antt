@@ -12,8 +12,8 @@ pub returns : goal.returns
 unfolding value_line
 returns g c =
     let component = c.args.component.now in
-    on_ok_weaker c.add-3.result
-    (value_put (codes "  ") (codes " ") (10 ∷ []) (decimal component.element) (repetition_shown component.repetition) (decimal component.component) (flat_map octet_shown (octets_of component.value)) c.args.lines.now
-    c.add.new.self c.put_numbers.new.lines c.add-2.new.self c.put_octets.new.lines c.add-3.new.self
-    c.in_ok-add.ensures.ok c.in_ok-put_numbers.ensures c.in_ok-add-2.ensures.ok c.in_ok-put_octets.ensures)
-    c.add-3.ensures.ok
+    on_ok_weaker c.add.result
+    (value_put (codes "  ") (decimal component.element) (repetition_shown component.repetition) (codes " ") (decimal component.component) (flat_map octet_shown (octets_of component.value)) (10 ∷ []) c.args.lines.now
+    c.put_numbers.new.lines c.put_octets.new.lines c.add.new.self
+    c.in_ok-put_numbers.ensures c.in_ok-put_octets.ensures)
+    c.add.ensures.ok

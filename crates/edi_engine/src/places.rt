@@ -103,20 +103,8 @@ fn opened_at(table: &Table, numbers: &[u16], state: &State, entry: u16) -> Optio
     let group = entry - 1;
     Some(GroupMark {
         number: numbers[usize::from(group)],
-        count: count_in(state, group) + 1,
+        count: state.count_of(group) + 1,
     })
-}
-
-// The count of a group in a state; 0 where it lacks it.
-fn count_in(state: &State, group: u16) -> u32
-    ensures { result ≡ count_of state.now group }
-{
-    for pair in state.pairs() {
-        if pair.0 == group {
-            return pair.1;
-        }
-    }
-    0
 }
 
 /// For each table of a directory, how many groups there are up to each node, itself included: for a group, its number from 1.

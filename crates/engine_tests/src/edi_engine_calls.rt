@@ -16,7 +16,7 @@ fn read_drill<'d>(alloc: Global, directory: &'d Directory) -> Result<Engine<'d>,
 fn is_at_first_quantity(mode: &Mode) -> bool {
     match mode {
         Mode::Within { table, state } => {
-            *table == 1 && state.pairs() == [(6, 1), (8, 1)].as_slice()
+            *table == 1 && state.count_of(6) == 1 && state.count_of(8) == 1
         }
         _ => false,
     }

@@ -2,6 +2,7 @@ pub mod Backwards
 pub mod Choosing
 pub mod Derived
 pub mod Least
+pub mod NextReached
 pub mod Onward
 pub mod PairReads
 pub mod Placing

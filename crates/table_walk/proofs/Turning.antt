@@ -2,7 +2,7 @@
 use Rattle.std.proofs.Common.{◌≡◌, ℕ, zero, suc, ◌+◌, ◌<◌, ◌≤◌, List, [], ◌∷◌, ◌++◌, map, length, take, drop, refl, sym, ap, subst, ◌∙◌, arith}
 use Rattle.std.specs.Prelude.{All, reverse}
 use Rattle.std.specs.List.{refill}
-use Rattle.std.proofs.lemmas.List.{append-nil, reverse-append, length-append, take_all, append_assoc}
+use Rattle.std.proofs.lemmas.List.{append-nil, reverse-append, reverse-reverse, length-append, take_all, append_assoc}
 use Rattle.std.proofs.lemmas.List.Elements.{All-head, All-tail}
 use Rattle.edi_tables.specs.declared.table.Node.{Node}
 use Rattle.edi_tables.specs.Rows.{IsTable}
@@ -64,6 +64,15 @@ module _ (nodes : List Node) (pairs : List (ℕ × ℕ)) (c : ℕ) where
       sym (append-nil made) ∙ ap (λ gs. made ++ counted pairs c gs) (sym is) ∙ turned.all in
       ap reverse whole ∙ reverse-append (own_pair nodes pairs c ∷ []) (counted pairs c (groups_round nodes c))
       ∙ ap (λ xs. xs ++ own_pair nodes pairs c ∷ []) (reverse_map (λ g. (g, group_next pairs c g)) (groups_round nodes c))
+
+  -- the same, where each pair is put in front of those made before
+  pub turned_front : (g : ℕ) (left more : List ℕ) (made next : List (ℕ × ℕ)) → left ≡ g ∷ more → (let pair : ℕ × ℕ = (g, group_next pairs c g) in next ≡ pair ∷ made) → IsTurned nodes pairs c (reverse made) left → IsTurned nodes pairs c (reverse next) more
+  turned_front g left more made next is put turned =
+      let pair : ℕ × ℕ = (g, group_next pairs c g) in
+      turned_more g left more (reverse made) (reverse next) is (ap reverse put ∙ reverse-append (pair ∷ []) made) turned
+
+  pub turned_front_end : (left : List ℕ) (made : List (ℕ × ℕ)) → left ≡ [] → IsTurned nodes pairs c (reverse made) left → made ≡ pairs_next nodes pairs c
+  turned_front_end left made is turned = sym (reverse-reverse made) ∙ turned_end left (reverse made) is turned
 
 pub drop_past : {A : Type 0} (n : ℕ) (xs : List A) → length xs ≤ n → drop n xs ≡ []
 drop_past n [] long = drop_nil n

@@ -6,5 +6,5 @@ use Rattle.table_walk.specs.declared.state.Held.TheVariants.{Few, Many}
 
 -- the pairs that a state holds
 abbrev pub pairs_held : Held → List (ℕ × ℕ)
-pairs_held (Few pairs) = pairs.items
+pairs_held (Few pairs) = pairs
 pairs_held (Many pairs) = rc_slice_items pairs

@@ -1,6 +1,7 @@
 //! The walk of a message through its segment table: at which entry each segment is, and what is missing or too many there.
 #![tactic(auto)]
 
+mod few_pairs;
 mod position;
 mod read;
 mod state;

@@ -8,13 +8,11 @@ ghost use Rattle.table_walk.specs.Bodies.{bound_of};
 ghost use Rattle.table_walk.specs.Reading.{has_tag, least_from};
 ghost use Rattle.table_walk.specs.Steps.{AreCountsUpTo, IsShaped, member_in};
 
-use arrayvec::ArrayVec;
+use crate::few_pairs::FewPairs;
+use crate::state::State;
 use edi_tables::{Candidates, Missing, Table, Tag};
 use smallvec::SmallVec;
 use std::alloc::{AllocError, Global};
-
-/// Few pairs of a walk: the number of a node, and its count. Most entries have at most three groups round them.
-pub type FewPairs = ArrayVec<(u16, u32), 4>;
 
 /// The best candidate so far, and its rank: 4, which is more than each rank, where there is none.
 #[derive(Clone, Copy)]
@@ -51,7 +49,7 @@ impl Best {
 #[derive(Drop)]
 pub struct Position<'a> {
     table: &'a Table,
-    pairs: &'a [(u16, u32)],
+    pairs: &'a State,
     entry: u16,
     ghost lawful: { IsTable table.now },
     ghost shaped: { IsShaped table.now pairs.now },
@@ -59,13 +57,14 @@ pub struct Position<'a> {
 }
 
 impl<'a> Position<'a> {
-    /// The position that these pairs tell.
-    pub fn of(table: &'a Table, pairs: &'a [(u16, u32)]) -> Position<'a>
+    /// The position that a state tells by its pairs.
+    #[inline(always)]
+    pub fn of(table: &'a Table, pairs: &'a State) -> Position<'a>
         requires { IsShaped table.now pairs.now }
         ensures table { result.table.now ≡ table.now }
         ensures pairs { result.pairs.now ≡ pairs.now }
     {
-        let entry = entry_in(pairs);
+        let entry = pairs.entry();
         prove!(usize::from(entry) < table.len());
         Position {
             table,
@@ -110,7 +109,7 @@ impl<'a> Position<'a> {
         ensures rank { result.rank
             ≡ bound_of (rank_in self.now.table.now self.now.pairs.now) result.entry }
     {
-        let misses = self.missing(first).next().is_some();
+        let misses = self.passes_must(first);
         let mut best = Best::NONE.or(first, self.rank(first, misses));
         if best.rank == 0 {
             return best;
@@ -128,7 +127,21 @@ impl<'a> Position<'a> {
         best
     }
 
+    // Whether going to a candidate passes a mandatory node. It passes no node at all where it reaches the next one at most.
+    #[inline(always)]
+    fn passes_must(&self, candidate: u16) -> bool
+        requires { candidate < length self.now.table.now }
+        ensures { result ≡ is_filled (missing_between
+            self.now.table.now
+            (entry_in self.now.pairs.now)
+            candidate) }
+    {
+        self.table.reached(self.entry, candidate) > self.entry + 1
+            && self.missing(candidate).next().is_some()
+    }
+
     /// Whether going to a candidate is one too many.
+    #[inline(always)]
     pub fn is_over(&self, candidate: u16) -> bool
         requires { candidate < length self.now.table.now }
         ensures { result ≡ over_in self.now.table.now self.now.pairs.now candidate }
@@ -146,17 +159,13 @@ impl<'a> Position<'a> {
         requires within { candidate < length self.now.table.now }
         requires few { AreCountsUpTo 4194303 self.now.pairs.now }
         ensures { IfSome result
-            (λ pairs. pairs.items ≡ pairs_next self.now.table.now self.now.pairs.now candidate) }
+            (λ pairs. pairs ≡ pairs_next self.now.table.now self.now.pairs.now candidate) }
     {
-        let mut pairs = ArrayVec::new();
-        pairs.push((candidate, self.entry_next(candidate)));
+        let mut pairs = FewPairs::none();
+        pairs.put(candidate, self.entry_next(candidate))?;
         for group in self.table.groups_round(usize::from(candidate)) {
-            if pairs.is_full() {
-                return None;
-            }
-            pairs.push((group, self.group_next(candidate, group)));
+            pairs.put(group, self.group_next(candidate, group))?;
         }
-        pairs.as_mut_slice().reverse();
         Some(pairs)
     }
 
@@ -213,6 +222,7 @@ impl<'a> Position<'a> {
     }
 
     // The rank of a candidate, from 0 to 3, by whether going there passes a mandatory node.
+    #[inline(always)]
     fn rank(&self, candidate: u16, misses: bool) -> u8
         requires within { candidate < length self.now.table.now }
         requires missing { misses
@@ -236,7 +246,7 @@ impl<'a> Position<'a> {
         ensures { result
             ≡ nat_le (max_at self.now.table.now node) (count_in self.now.pairs.now node) }
     {
-        self.table.node(usize::from(node)).max <= count_in(self.pairs, node)
+        self.table.node(usize::from(node)).max <= self.pairs.count_of(node)
     }
 
     // The count of a group round a candidate after going there: one more where the candidate is its trigger.
@@ -245,7 +255,7 @@ impl<'a> Position<'a> {
         requires few { AreCountsUpTo 4194303 self.now.pairs.now }
         ensures { result ≡ group_next self.now.pairs.now candidate group }
     {
-        let count = count_in(self.pairs, group);
+        let count = self.pairs.count_of(group);
         if candidate == group + 1 {
             count + 1
         } else {
@@ -260,7 +270,7 @@ impl<'a> Position<'a> {
         ensures { result ≡ entry_next self.now.table.now self.now.pairs.now candidate }
     {
         if candidate == self.entry && !self.table.is_trigger(usize::from(candidate)) {
-            count_in(self.pairs, candidate) + 1
+            self.pairs.count_of(candidate) + 1
         } else {
             1
         }
@@ -298,26 +308,4 @@ pub fn has_tag(table: &Table, tag: Option<Tag>, entry: u16) -> bool
         (Some(tag), Some(other)) => tag.octets == other.octets,
         _ => false,
     }
-}
-
-// The entry of pairs: the node of the last.
-fn entry_in(pairs: &[(u16, u32)]) -> u16
-    ensures { result ≡ entry_in pairs.now }
-{
-    match pairs.last() {
-        Some(pair) => pair.0,
-        None => 0,
-    }
-}
-
-// The count of a node in pairs; 0 where they lack it.
-fn count_in(pairs: &[(u16, u32)], node: u16) -> u32
-    ensures { result ≡ count_in pairs.now node }
-{
-    for pair in pairs {
-        if pair.0 == node {
-            return pair.1;
-        }
-    }
-    0
 }

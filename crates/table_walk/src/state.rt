@@ -5,12 +5,12 @@ ghost use Rattle.edi_tables.specs.declared.table.Node.{Node};
 ghost use Rattle.edi_tables.specs.Rows.{IsTable};
 ghost use Rattle.edi_tables.specs.Walk.{missing_past};
 ghost use Rattle.edi_tables.specs.Placement.{last_placed};
-ghost use Rattle.edi_tables.specs.Pairs.{entry_in, pairs_next, pairs_of};
+ghost use Rattle.edi_tables.specs.Pairs.{count_in, entry_in, pairs_next, pairs_of};
 ghost use Rattle.table_walk.specs.Reading.{IsReading};
 ghost use Rattle.table_walk.specs.Steps.{AreCountsUpTo, GoOnAlike, GoesOn, IsShaped, is_over_in, member_in, missing_in, pairs_after, tagged_in};
 
-use crate::position::{FewPairs, Position, gather, is_over_by};
-use arrayvec::ArrayVec;
+use crate::few_pairs::FewPairs;
+use crate::position::{Position, gather, is_over_by};
 use edi_tables::{Table, Tag};
 use smallvec::SmallVec;
 use std::alloc::{AllocError, Global};
@@ -21,7 +21,7 @@ use step_counter::Steps;
 
 /// The groups round the entry placed last, outermost first, and that entry, each with its count.
 ///
-/// It is seen as this list of pairs. Up to four of them lie in it; more are in a slice that states share.
+/// It is seen as this list of pairs. A few of them lie in it; more, or greater counts, are in a slice that states share.
 #[derive(Debug, Drop)]
 pub struct State {
     pairs: Held,
@@ -60,21 +60,31 @@ pub fn start(_alloc: Global, table: &Table) -> Result<State, AllocError>
 {
     // UNH is the first entry of each table, and in no group.
     prove!(table.len() > 0);
-    let mut pairs = ArrayVec::new();
-    pairs.push((0, 1));
     Ok(State {
-        pairs: Held::Few(pairs),
+        pairs: Held::Few(FewPairs::one(0, 1)),
     })
 }
 
 impl State {
-    /// Its pairs: the number of a node, and its count.
-    pub fn pairs(&self) -> &[(u16, u32)]
-        ensures { result.now ≡ self.now }
+    /// The count of a group round the entry placed last, or of that entry; 0 for another node.
+    #[inline(always)]
+    pub fn count_of(&self, node: u16) -> u32
+        ensures { result ≡ count_in self.now node }
     {
         match &self.pairs {
-            Held::Few(pairs) => pairs.as_slice(),
-            Held::Many(pairs) => pairs.as_slice(),
+            Held::Few(pairs) => pairs.count_of(node),
+            Held::Many(pairs) => count_in(pairs.as_slice(), node),
+        }
+    }
+
+    // The entry placed last.
+    #[inline(always)]
+    pub(crate) fn entry(&self) -> u16
+        ensures { result ≡ entry_in self.now }
+    {
+        match &self.pairs {
+            Held::Few(pairs) => pairs.entry(),
+            Held::Many(pairs) => entry_in(pairs.as_slice()),
         }
     }
 
@@ -109,7 +119,7 @@ impl State {
             → GoesOn table.now tags before tag next) }
     {
         placed.tick();
-        let position = Position::of(table, self.pairs());
+        let position = Position::of(table, self);
         let best = position.member(tag);
         match best.entry {
             Some(entry) => Ok(Placed {
@@ -138,7 +148,7 @@ impl State {
             → pairs_of table.now placed ≡ self.now
             → missing.items ≡ missing_past table.now (last_placed placed)) }
     {
-        let position = Position::of(table, self.pairs());
+        let position = Position::of(table, self);
         let missing = gather(alloc, position.missing_past())?;
         Ok(missing)
     }
@@ -156,18 +166,33 @@ impl State {
             → pairs_of nodes two ≡ other.now
             → GoOnAlike nodes one two }
     {
-        self.pairs() == other.pairs()
+        self.has_pairs_of(other)
+    }
+
+    // Whether two states have the same pairs.
+    fn has_pairs_of(&self, other: &State) -> bool
+        ensures { IsTrue result ↔ (self.now ≡ other.now) }
+    {
+        match (&self.pairs, &other.pairs) {
+            (Held::Few(one), Held::Few(other)) => are_same_few(one, other),
+            (Held::Many(one), Held::Many(other)) => are_same(one.as_slice(), other.as_slice()),
+            (Held::Few(few), Held::Many(many)) => are_alike(few.as_slice(), many.as_slice()),
+            (Held::Many(many), Held::Few(few)) => are_alike(few.as_slice(), many.as_slice()),
+        }
     }
 
     /// The same state once more. It takes no memory: the error is that of an `Rc` whose count is full.
     pub fn share(&self) -> Result<State, AllocError>
         ensures { IfOk result (λ state. state ≡ self.now) }
     {
-        let pairs = match &self.pairs {
-            Held::Few(pairs) => Held::Few(pairs.clone()?),
-            Held::Many(pairs) => Held::Many(pairs.clone()?),
-        };
-        Ok(State { pairs })
+        match &self.pairs {
+            Held::Few(pairs) => Ok(State {
+                pairs: Held::Few(pairs.copy()),
+            }),
+            Held::Many(pairs) => Ok(State {
+                pairs: Held::Many(pairs.clone()?),
+            }),
+        }
     }
 }
 
@@ -179,9 +204,75 @@ fn state_next(alloc: Global, position: &Position<'_>, entry: u16) -> Result<Stat
     ensures { IfOk result
         (λ state. state ≡ pairs_next position.now.table.now position.now.pairs.now entry) }
 {
-    let pairs = match position.few_next(entry) {
-        Some(pairs) => Held::Few(pairs),
-        None => Held::Many(RcSlice::from_vec(position.pairs_next(alloc, entry)?)?),
-    };
-    Ok(State { pairs })
+    match position.few_next(entry) {
+        Some(pairs) => Ok(State {
+            pairs: Held::Few(pairs),
+        }),
+        None => many_next(alloc, position, entry),
+    }
+}
+
+// The same, however many pairs there are.
+#[inline(never)]
+fn many_next(alloc: Global, position: &Position<'_>, entry: u16) -> Result<State, AllocError>
+    requires within { entry < length position.now.table.now }
+    requires few { AreCountsUpTo 4194303 position.now.pairs.now }
+    ensures { IfOk result
+        (λ state. state ≡ pairs_next position.now.table.now position.now.pairs.now entry) }
+{
+    let pairs = position.pairs_next(alloc, entry)?;
+    Ok(State {
+        pairs: Held::Many(RcSlice::from_vec(pairs)?),
+    })
+}
+
+// Whether two lists of few pairs are one.
+fn are_same_few(one: &FewPairs, other: &FewPairs) -> bool
+    ensures { IsTrue result ↔ (one.now ≡ other.now) }
+{
+    one.as_slice() == other.as_slice()
+}
+
+// Whether two lists of pairs are one.
+fn are_same(one: &[(u16, u32)], other: &[(u16, u32)]) -> bool
+    ensures { IsTrue result ↔ (one.now ≡ other.now) }
+{
+    one == other
+}
+
+// Whether two lists of pairs are one, whose counts have different widths.
+fn are_alike(few: &[(u16, u16)], many: &[(u16, u32)]) -> bool
+    ensures { IsTrue result ↔ (few.now ≡ many.now) }
+{
+    if few.len() != many.len() {
+        return false;
+    }
+    for (i, pair) in few.iter().enumerate() {
+        if pair.0 != many[i].0 || u32::from(pair.1) != many[i].1 {
+            return false;
+        }
+    }
+    true
+}
+
+// The entry of pairs: the node of the last.
+fn entry_in(pairs: &[(u16, u32)]) -> u16
+    ensures { result ≡ entry_in pairs.now }
+{
+    match pairs.last() {
+        Some(pair) => pair.0,
+        None => 0,
+    }
+}
+
+// The count of a node in pairs; 0 where they lack it.
+fn count_in(pairs: &[(u16, u32)], node: u16) -> u32
+    ensures { result ≡ count_in pairs.now node }
+{
+    for pair in pairs {
+        if pair.0 == node {
+            return pair.1;
+        }
+    }
+    0
 }

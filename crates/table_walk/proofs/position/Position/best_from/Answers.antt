@@ -49,7 +49,7 @@ returns-then-misses-clause-entry c =
     let missing : is_filled (missing_between nodes f c.in-Some.candidate) ≡ true =
     ap (λ (g : ℕ). is_filled (missing_between nodes g c.in-Some.candidate)) (sym c.args.self.now.here) ∙ sym c.misses-misses.ensures ∙ c.if-misses.true in
     best_stop nodes f (has_tag nodes c.args.tag) (rank_in nodes pairs) whole (λ x misses. rank_high (over_in nodes pairs x) (is_filled (missing_between nodes f x)) misses)
-    c.in-Some.candidate c.loop-candidate.candidate-iterator c.next-in-loop-candidate.new.self c.loop-candidate.best c.in-Some.ensures.steps c.loop-candidate.invariant
+    c.in-Some.candidate c.loop-candidate.candidate-iterator c.next.new.self c.loop-candidate.best c.in-Some.ensures.steps c.loop-candidate.invariant
     c.if-best-le2.true missing
 
 pub loop-candidate-preserved-then-has_tag : goal.loop-candidate-preserved-then-has_tag
@@ -58,9 +58,9 @@ loop-candidate-preserved-then-has_tag c =
     let pairs = c.args.self.now.pairs.now in
     let f = entry_in pairs in
     let whole = least_from (rank_in nodes pairs) (Some c.args.first) (filter (has_tag nodes c.args.tag) c.args.others) in
-    subst (IsBest nodes f (has_tag nodes c.args.tag) (rank_in nodes pairs) whole c.next-in-loop-candidate.new.self) (sym c.or-best-then-has_tag.ensures)
+    subst (IsBest nodes f (has_tag nodes c.args.tag) (rank_in nodes pairs) whole c.next.new.self) (sym c.or-best-then-has_tag.ensures)
     (best_meet nodes f (has_tag nodes c.args.tag) (rank_in nodes pairs) whole (λ x. rank_small (over_in nodes pairs x) (is_filled (missing_between nodes f x)))
-    c.in-Some.candidate c.rank-then-has_tag.result c.loop-candidate.candidate-iterator c.next-in-loop-candidate.new.self c.loop-candidate.best c.in-Some.ensures.steps
+    c.in-Some.candidate c.rank-then-has_tag.result c.loop-candidate.candidate-iterator c.next.new.self c.loop-candidate.best c.in-Some.ensures.steps
     (sym c.has_tag.ensures ∙ c.if-has_tag.true) c.rank-then-has_tag.ensures c.loop-candidate.invariant)
 
 pub loop-candidate-preserved : goal.loop-candidate-preserved
@@ -70,7 +70,7 @@ loop-candidate-preserved c =
     let f = entry_in pairs in
     let whole = least_from (rank_in nodes pairs) (Some c.args.first) (filter (has_tag nodes c.args.tag) c.args.others) in
     best_skip nodes f (has_tag nodes c.args.tag) (rank_in nodes pairs) whole
-    c.in-Some.candidate c.loop-candidate.candidate-iterator c.next-in-loop-candidate.new.self c.loop-candidate.best c.in-Some.ensures.steps
+    c.in-Some.candidate c.loop-candidate.candidate-iterator c.next.new.self c.loop-candidate.best c.in-Some.ensures.steps
     (sym c.has_tag.ensures ∙ c.if-has_tag.false) c.loop-candidate.invariant
 
 pub returns-clause-rank : goal.returns-clause-rank

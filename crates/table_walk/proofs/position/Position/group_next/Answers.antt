@@ -7,4 +7,4 @@ pub overflow_add-group : goal.overflow_add-group
 overflow_add-group c = omega (arith, c.requires.within, (table_laws c.args.self.now.table.now c.args.self.now.lawful).small)
 
 pub overflow_add-result : goal.overflow_add-result
-overflow_add-result c = omega (arith, c.count_in-count.ensures, count_up_to 4194303 c.args.self.now.pairs.now c.args.group c.requires.few)
+overflow_add-result c = omega (arith, c.count_of-count.ensures, count_up_to 4194303 c.args.self.now.pairs.now c.args.group c.requires.few)

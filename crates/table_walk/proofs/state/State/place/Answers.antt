@@ -30,7 +30,7 @@ pub returns-in_ok-missing_by-in-Some-clause-nowhere : goal.returns-in_ok-missing
 returns-in_ok-missing_by-in-Some-clause-nowhere g c =
     let found : Some c.in-Some.entry ≡ member_in c.args.table.now c.args.self.now c.args.tag =
     sym c.in-Some.is ∙ c.member-best.ensures.entry ∙ ap (λ (t : List Node). member_in t c.of-position.result.pairs.now c.args.tag) c.of-position.ensures.table
-    ∙ ap (λ (ps : List (ℕ × ℕ)). member_in c.args.table.now ps c.args.tag) (c.of-position.ensures.pairs ∙ c.pairs.ensures) in
+    ∙ ap (λ (ps : List (ℕ × ℕ)). member_in c.args.table.now ps c.args.tag) c.of-position.ensures.pairs in
     nowhere c.args.table.now c.args.self.now c.args.tag (Some c.in-Some.entry) found
 
 pub returns-in_ok-missing_by-in-Some-clause-shaped : goal.returns-in_ok-missing_by-in-Some-clause-shaped
@@ -45,12 +45,12 @@ returns-in_ok-missing_by-in-Some-clause-counts g c most few =
     let at = c.of-position.result in
     let after : c.in_ok-state_next-in-Some.field-0 ≡ pairs_after at.table.now at.pairs.now (Some c.in-Some.entry) = c.in_ok-state_next-in-Some.ensures in
     subst (AreCountsUpTo (most + 1)) (sym after)
-    (counts_after at.table.now at.pairs.now (Some c.in-Some.entry) most (subst (AreCountsUpTo most) (sym (c.of-position.ensures.pairs ∙ c.pairs.ensures)) few))
+    (counts_after at.table.now at.pairs.now (Some c.in-Some.entry) most (subst (AreCountsUpTo most) (sym c.of-position.ensures.pairs) few))
 
 pub returns-in_ok-missing_by-in-Some-clause-reading : goal.returns-in_ok-missing_by-in-Some-clause-reading
 returns-in_ok-missing_by-in-Some-clause-reading g c tags before =
     let at = c.of-position.result in
-    let pairs_same = c.of-position.ensures.pairs ∙ c.pairs.ensures in
+    let pairs_same = c.of-position.ensures.pairs in
     let next : Placed = record { state = c.in_ok-state_next-in-Some.field-0; entry = Some c.in-Some.entry; over = c.is_over_by.result; missing = c.in_ok-missing_by-in-Some.field-0 } in
     subst (λ (t : List Node). IsReading t tags before → pairs_of t before ≡ c.args.self.now → GoesOn t tags before c.args.tag next)
     c.of-position.ensures.table
@@ -64,13 +64,13 @@ pub returns-in_ok-share-in-None-clause-nowhere : goal.returns-in_ok-share-in-Non
 returns-in_ok-share-in-None-clause-nowhere g c =
     let found : None ≡ member_in c.args.table.now c.args.self.now c.args.tag =
     sym c.in-None.is ∙ c.member-best.ensures.entry ∙ ap (λ (t : List Node). member_in t c.of-position.result.pairs.now c.args.tag) c.of-position.ensures.table
-    ∙ ap (λ (ps : List (ℕ × ℕ)). member_in c.args.table.now ps c.args.tag) (c.of-position.ensures.pairs ∙ c.pairs.ensures) in
+    ∙ ap (λ (ps : List (ℕ × ℕ)). member_in c.args.table.now ps c.args.tag) c.of-position.ensures.pairs in
     nowhere c.args.table.now c.args.self.now c.args.tag None found
 
 pub returns-in_ok-share-in-None-clause-reading : goal.returns-in_ok-share-in-None-clause-reading
 returns-in_ok-share-in-None-clause-reading g c tags before =
     let at = c.of-position.result in
-    let pairs_same = c.of-position.ensures.pairs ∙ c.pairs.ensures in
+    let pairs_same = c.of-position.ensures.pairs in
     let next : Placed = record { state = c.in_ok-share-in-None.field-0; entry = None; over = false; missing = c.new.result } in
     subst (λ (t : List Node). IsReading t tags before → pairs_of t before ≡ c.args.self.now → GoesOn t tags before c.args.tag next)
     c.of-position.ensures.table
@@ -83,4 +83,4 @@ returns-in_ok-missing_by-in-Some-clause-over g c =
     c.is_over_by.ensures (over_in at.table.now at.pairs.now c.in-Some.entry) (is_filled (missing_between at.table.now (entry_in at.pairs.now) c.in-Some.entry))
     (c.member-best.ensures.rank ∙ ap (bound_of (rank_in at.table.now at.pairs.now)) c.in-Some.is)
     ∙ ap (λ (t : List Node). over_in t at.pairs.now c.in-Some.entry) c.of-position.ensures.table
-    ∙ ap (λ (ps : List (ℕ × ℕ)). over_in c.args.table.now ps c.in-Some.entry) (c.of-position.ensures.pairs ∙ c.pairs.ensures)
+    ∙ ap (λ (ps : List (ℕ × ℕ)). over_in c.args.table.now ps c.in-Some.entry) c.of-position.ensures.pairs

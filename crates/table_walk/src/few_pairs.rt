@@ -1,0 +1,110 @@
+//! A few pairs of a walk, in little room.
+ghost use Rattle.std.specs.Prelude.{◌≡◌, ◌∷◌, [], IfSome};
+ghost use Rattle.edi_tables.specs.Pairs.{count_in, entry_in};
+
+use std::marker::Model;
+
+/// The most pairs. Most entries have at most three groups round them.
+const MOST_PAIRS: usize = 5;
+
+/// A few pairs: the number of a node, and its count. They are seen as their list.
+///
+/// They lie at the end of the array, since one is put in front of the others.
+#[derive(Debug, Drop)]
+pub struct FewPairs {
+    first: u8,
+    pairs: [(u16, u16); MOST_PAIRS],
+}
+
+impl Model for FewPairs {
+    ghost use Rattle.std.specs.Prelude.{◌≤◌, ℕ, List, drop};
+
+    ghost Value = { List (ℕ × ℕ) };
+
+    ghost view = { λ few. drop few.first few.pairs };
+
+    ghost invariant = { λ few. few.first ≤ 5 };
+}
+
+impl FewPairs {
+    /// No pair.
+    #[inline(always)]
+    pub fn none() -> FewPairs
+        ensures { result ≡ [] }
+    {
+        FewPairs {
+            first: MOST_PAIRS as u8,
+            pairs: [(0, 0); MOST_PAIRS],
+        }
+    }
+
+    /// One pair.
+    pub fn one(node: u16, count: u16) -> FewPairs
+        ensures { result ≡ (node, count) ∷ [] }
+    {
+        let mut pairs = [(0, 0); MOST_PAIRS];
+        pairs[MOST_PAIRS - 1] = (node, count);
+        FewPairs {
+            first: MOST_PAIRS as u8 - 1,
+            pairs,
+        }
+    }
+
+    /// Puts a pair in front of the others, if there is room for it and its count isn't too great.
+    #[inline(always)]
+    pub fn put(&mut self, node: u16, count: u32) -> Option<()>
+        ensures { IfSome result (λ _. self.new ≡ (node, count) ∷ self.old) }
+    {
+        if self.first == 0 || count > u32::from(u16::MAX) {
+            return None;
+        }
+        self.first -= 1;
+        self.pairs[usize::from(self.first)] = (node, count as u16);
+        Some(())
+    }
+
+    /// The same pairs once more.
+    #[inline(always)]
+    pub fn copy(&self) -> FewPairs
+        ensures { result ≡ self.now }
+    {
+        FewPairs {
+            first: self.first,
+            pairs: self.pairs,
+        }
+    }
+
+    /// The pairs.
+    #[inline(always)]
+    pub fn as_slice(&self) -> &[(u16, u16)]
+        ensures { result.now ≡ self.now }
+    {
+        &self.pairs[usize::from(self.first)..]
+    }
+
+    /// The node of the last pair; 0 where there is none.
+    #[inline(always)]
+    pub fn entry(&self) -> u16
+        ensures { result ≡ entry_in self.now }
+    {
+        let pairs = self.as_slice();
+        match pairs.last() {
+            Some(pair) => pair.0,
+            None => 0,
+        }
+    }
+
+    /// The count of a node; 0 where they lack it.
+    #[inline(always)]
+    pub fn count_of(&self, node: u16) -> u32
+        ensures { result ≡ count_in self.now node }
+    {
+        let pairs = self.as_slice();
+        for pair in pairs {
+            if pair.0 == node {
+                return u32::from(pair.1);
+            }
+        }
+        0
+    }
+}

@@ -164,10 +164,13 @@ segment-first x y after = elim (cases_lt y.segment x.segment) [
   | inr least ↦ least
 ]
 
+pub errors-rise : (es : List ErrorLine) → IsAscending es → IsNonDecreasingBy (λ (e : ErrorLine). e.segment) es
+errors-rise es up =
+    IsNonDecreasingBy-from_all_adjacent (λ (e : ErrorLine). e.segment) es (λ k d below. segment-first (get_or es k d) (get_or es (k + 1) d) (up k d (omega arith) below))
+
 pub segments-rise : (groups : List GroupHead) (messages : List MessageHead) (es : List ErrorLine) → IsAscending es → IsNonDecreasingBy segment_of (map (with_level groups messages) es)
 segments-rise groups messages es up =
-    order-map (λ (e : ErrorLine). e.segment) (with_level groups messages) (λ e. refl) es
-    (IsNonDecreasingBy-from_all_adjacent (λ (e : ErrorLine). e.segment) es (λ k d below. segment-first (get_or es k d) (get_or es (k + 1) d) (up k d (omega arith) below)))
+    order-map (λ (e : ErrorLine). e.segment) (with_level groups messages) (λ e. refl) es (errors-rise es up)
 
 -- the same of errors in order
 pub levelled-rise : (groups : List GroupHead) (messages : List MessageHead) (es : List ErrorLine) (xs : List Levelled) → xs ≡ map (with_level groups messages) (in_order es) → IsNonDecreasingBy segment_of xs

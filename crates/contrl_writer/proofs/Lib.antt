@@ -1,11 +1,12 @@
 mod BlockLemmas
 mod ChangeLemmas
 mod GroupLemmas
-mod LevelLemmas
+pub mod LevelLemmas
 mod LowerLemmas
 mod MemberLemmas
 mod MessageLemmas
-mod RangeLemmas
+pub mod NeededLemmas
+pub mod RangeLemmas
 mod ReportLemmas
 pub mod TaggedLemmas
 mod Worked

@@ -6,3 +6,4 @@ pub mod Range
 pub mod Raising
 pub mod Lower
 pub mod Members
+pub mod Needed

@@ -84,7 +84,8 @@ impl Kept {
         ensures kept { IsKept self.new }
         ensures handed { buffer.new ≡ take (length buffer.old) (kept_octets self.old) }
         ensures left { kept_octets self.new ≡ drop (length buffer.old) (kept_octets self.old) }
-        ensures fewer { self.new.to - self.new.from ≡ (self.old.to - self.old.from) - length buffer.old }
+        ensures fewer { self.new.to - self.new.from
+            ≡ (self.old.to - self.old.from) - length buffer.old }
     {
         let from = self.from;
         self.from += buffer.len();

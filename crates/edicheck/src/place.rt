@@ -23,7 +23,7 @@ pub enum Place {
     Size(Option<usize>),
     /// In what a `replace` puts: so many octets are due, with the LF after it.
     Put(usize),
-    /// In the line of another command, or in octets of no command: so many octets are due at least, and an LF ends them.
+    /// In another command's line, or in octets of no command: at least so many are due, and an LF ends them.
     Line(usize),
     /// In no script: more was asked for than a command must have.
     Unknown,

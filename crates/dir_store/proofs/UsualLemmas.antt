@@ -1,6 +1,6 @@
 -- A row whose words are read one after another is read.
-use Rattle.std.proofs.Common.{◌≡◌, ℕ, ◌+◌, ◌-◌, ◌*◌, ◌^◌, ◌<◌, ◌≤◌, Bool, true, false, not, ◌&&◌, eqb, leb, ltb, List, [], ◌∷◌, ◌++◌, length, get_or, take, drop, Option, Some, None, Ok, refl, sym, ap, ◌∙◌, append_assoc, arith, le-leb, add-one, suc}
-use Rattle.std.specs.Prelude.{option_and_then, slice_index, codes}
+use Rattle.std.proofs.Common.{◌≡◌, ℕ, ◌+◌, ◌-◌, ◌*◌, ◌^◌, ◌<◌, ◌≤◌, Bool, true, false, not, ◌&&◌, eqb, leb, ltb, List, [], ◌∷◌, ◌++◌, length, get_or, take, drop, Option, Some, None, Ok, refl, sym, ap, ◌∙◌, append_assoc, arith, le-leb, add-one, suc, subst}
+use Rattle.std.specs.Prelude.{if◌then◌else◌, option_and_then, slice_index, codes}
 use Rattle.std.specs.Char.{is_ascii_digit}
 use Rattle.std.specs.List.{join_with_byte, list_all}
 use Rattle.std.specs.Option.{option_map}
@@ -27,7 +27,7 @@ use Rattle.dir_store.specs.Store.{row_at}
 use Rattle.dir_store.specs.Usual.{IsFirstWord}
 use Rattle.dir_store.proofs.EntryLemmas.{tag-plain}
 use Rattle.dir_store.proofs.KindLemmas.{mapped-takes, passed-takes}
-use Rattle.dir_store.proofs.LineLemmas.{and-both, four-again, joined-line, lined-again}
+use Rattle.dir_store.proofs.LineLemmas.{some-is, and-both, four-again, joined-line, lined-again}
 use Rattle.dir_store.proofs.NumberLemmas.{digits-plain}
 use Rattle.dir_store.proofs.SeveralLemmas.{kept-again}
 
@@ -120,3 +120,24 @@ tag-word segments tag (a ∷ b ∷ c ∷ d ∷ rest) long space is = record {
   plain = tag-plain (a ∷ b ∷ c ∷ []) (tag-gives segments a b c tag (sym is));
   gives = sym is;
 }
+
+-- three octets before a space that are the tag of a segment of the store
+pub known-word : (segments : List SegmentDef) (tag : Tag) (octets : List ℕ) → 4 ≤ length octets → get_or octets 3 0 ≡ 32
+    → Some tag ≡ (if is_tag_of (take 3 octets) then Some (record { octets = take 3 octets }) else None) → is_some (named_in segment_name segments tag.octets) ≡ true
+    → IsFirstWord (called segments) 32 octets (Some tag) (drop 4 octets)
+known-word segments tag octets long space is known =
+    let word : List ℕ = take 3 octets in
+    let one : Tag = record { octets = word } in
+    let passed = passed-takes (is_tag_of word) (Some one) tag (sym is) in
+    let same : one ≡ tag = some-is one tag passed.1 in
+    let found : is_some (named_in segment_name segments word) ≡ true = subst (λ (t : Tag). is_some (named_in segment_name segments t.octets) ≡ true) (sym same) known in
+    let given : called segments word ≡ Some (Some one) = called-tag segments octets long passed.0 found in
+    tag-word segments (Some tag) octets long space (ap (λ (t : Tag). Some (Some t)) (sym same) ∙ sym given)
+  where
+    called-tag : (segments : List SegmentDef) (xs : List ℕ) → 4 ≤ length xs → is_tag_of (take 3 xs) ≡ true → is_some (named_in segment_name segments (take 3 xs)) ≡ true → called segments (take 3 xs) ≡ Some (Some (record { octets = take 3 xs }))
+    called-tag segments [] long formed found = absurd (omega arith)
+    called-tag segments (a ∷ []) long formed found = absurd (omega arith)
+    called-tag segments (a ∷ b ∷ []) long formed found = absurd (omega arith)
+    called-tag segments (a ∷ b ∷ c ∷ rest) long formed found =
+        let other : bytes_eq (a ∷ b ∷ c ∷ []) (codes "-") ≡ false = and_right (eqb a 45) false refl in
+        rw other (rw formed (rw found refl))

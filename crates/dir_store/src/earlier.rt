@@ -87,9 +87,9 @@ impl<'a> EarlierDefinitions<'a> {
         self.hints_at_segment(tag) || self.search_segment(tag)
     }
 
-    // Whether a segment of that tag is at the place that is looked at first.
+    /// Whether a segment of that tag is at the place that is looked at first.
     #[inline]
-    fn hints_at_segment(&self, tag: Tag) -> bool
+    pub fn hints_at_segment(&self, tag: Tag) -> bool
         ensures { result ≡ true
             → is_some (named_in segment_name self.now.segments.now tag.octets) ≡ true }
     {

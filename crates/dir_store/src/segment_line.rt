@@ -115,7 +115,6 @@ fn read_between(low: u64, high: u64, word: &[u8]) -> Option<u64>
 }
 
 /// What a row is called: `-` for a group, or the tag of a segment of the store or a service segment.
-#[inline]
 pub(crate) fn read_row_name(word: &[u8], known: &EarlierDefinitions<'_>) -> Option<Option<Tag>>
     ensures { result ≡ rules.called known.now.segments.now word.now }
 {

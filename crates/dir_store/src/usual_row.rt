@@ -77,7 +77,12 @@ fn name_at<'o>(known: &EarlierDefinitions<'_>, octets: &'o [u8]) -> Option<(Opti
     if octets[3] != b' ' {
         return None;
     }
-    let tag = read_row_name(&octets[..3], known)?;
+    let word = &octets[..3];
+    let tag = Tag::read(word)?;
+    if known.hints_at_segment(tag) {
+        return Some((Some(tag), &octets[4..]));
+    }
+    let tag = read_row_name(word, known)?;
     Some((tag, &octets[4..]))
 }
 

@@ -44,6 +44,7 @@ impl Mode {
 
 // Written by hand so that a drop is one call to its caller's proof, and no case of the mode.
 impl Drop for Mode {
+    #[inline(always)]
     fn drop(self) {
         match self {
             Mode::Outside | Mode::Untabled => {}

@@ -1,16 +1,15 @@
 //! What is kept of one segment.
-ghost use Rattle.std.specs.Prelude.{◌≡◌, ◌+◌, ◌<◌, ◌≤◌, ◌^◌, [], ℕ, length, IfOk};
+ghost use Rattle.std.specs.Prelude.{◌≡◌, ◌+◌, ◌<◌, ◌≤◌, [], ℕ, false, length, IfOk};
 ghost use Rattle.std.specs.Option.{option_map};
 ghost use Rattle.edi_octets.specs.declared.octets.Octets.{Ghosts};
-ghost use Rattle.seg_lexer.specs.Fields.{IsInOrder};
-ghost use Rattle.seg_lexer.specs.Left.{components_left};
+ghost use Rattle.seg_lexer.specs.Fields.{components_at};
 ghost use Rattle.seg_lexer.specs.Service.{IsUsable};
 ghost use Rattle.seg_lexer.specs.Tag.{tag_of};
 ghost use Rattle.element_check.specs.Local.{local_errors_of};
 ghost use Rattle.clean_segments.specs.Clean.{AreClean};
 ghost use Rattle.segment_records.specs.Notable.{is_marked, is_well_placed};
 ghost use Rattle.segment_records.specs.Records.{IsModeOf, kept_of};
-ghost use Rattle.segment_records.specs.RecordView.{local_in, missing_in};
+ghost use Rattle.segment_records.specs.RecordView.{local_in, missing_in, over_in};
 ghost use Rattle.segment_records.specs.Segments.{segment_read};
 ghost use Rattle.segment_records.specs.Steps.{inner_step};
 ghost use Rattle.segment_records.specs.Taken.{read_as};
@@ -24,7 +23,7 @@ use dir_compile::Directory;
 use edi_octets::Octets;
 use edi_tables::Tag;
 use element_check::{LocalError, check_components};
-use seg_lexer::{Context, Fields, fields};
+use seg_lexer::{Context, fields};
 use seq_tree::Measured;
 use smallvec::SmallVec;
 use std::alloc::{AllocError, Global};
@@ -50,17 +49,17 @@ pub struct Record {
     breaks: u32,
     tag: Option<Tag>,
     entry: Option<u16>,
-    over: bool,
     mode: Mode,
     // Few segments have any: they need not lie in each record.
     faults: Option<Box<Faults>>,
 }
 
-// The local errors of a segment, and the nodes that are missing before it.
+// The local errors of a segment, the nodes that are missing before it, and whether it is one too many.
 #[derive(Drop)]
 struct Faults {
     local: SmallVec<LocalError, 4>,
     missing: SmallVec<u16, 4>,
+    over: bool,
 }
 
 impl Model for Record {
@@ -75,13 +74,13 @@ impl Model for Record {
 
 // Written by hand so that a drop is one call to its caller's proof.
 impl Drop for Record {
+    #[inline(always)]
     fn drop(self) {
         let Record {
             octets: _,
             breaks: _,
             tag: _,
             entry: _,
-            over: _,
             mode,
             faults,
         } = self;
@@ -137,20 +136,21 @@ impl Record {
         ensures counted { placed.new ≤ placed.old + 1 }
     {
         let SegmentPlace { from, start, end } = place;
-        let components = fields(text, &context.service, start, end);
         let (tag, faults) = match clean.find(directory, context, text, start, end) {
             Some(tag) => (Some(tag), None),
-            None => check_alone(alloc, directory, context, components)?,
+            None => check_alone(alloc, directory, context, text, start, end)?,
         };
-        let step = take_step(alloc, directory, before, tag, components, placed)?;
+        let service = &context.service;
+        let step = take_step(
+            alloc, directory, before, tag, text, service, start, end, placed,
+        )?;
         Ok(Record {
             octets: (end + 1 - from) as u32,
             breaks: (start - from) as u32,
             tag,
             entry: step.entry,
-            over: step.over,
             mode: step.after,
-            faults: with_missing(alloc, faults, step.missing)?,
+            faults: with_misplacing(alloc, faults, step.missing, step.over)?,
         })
     }
 
@@ -183,9 +183,8 @@ impl Record {
             breaks: self.breaks,
             tag: self.tag,
             entry: again.entry,
-            over: again.over,
             mode: again.after,
-            faults: keep_faults(alloc, local, again.missing)?,
+            faults: keep_faults(alloc, local, again.missing, again.over)?,
         })
     }
 
@@ -221,7 +220,10 @@ impl Record {
     pub fn is_over(&self) -> bool
         ensures { result ≡ self.now.step.over }
     {
-        self.over
+        match &self.faults {
+            Some(faults) => faults.over,
+            None => false,
+        }
     }
 
     /// Whether something is to be said of it by what is kept of it alone: it opens, closes or stops a message, has a local
@@ -238,7 +240,7 @@ impl Record {
     fn is_well_placed(&self) -> bool
         ensures { result ≡ is_well_placed self.now.step }
     {
-        self.entry.is_some() && self.missing().is_empty() && !self.over
+        self.entry.is_some() && self.missing().is_empty() && !self.is_over()
     }
 
     /// Its local errors.
@@ -269,65 +271,78 @@ impl Record {
     }
 }
 
-// The tag of the segment that has these components, and its local errors, if there are any. Most segments are seen to have
-// none: this is kept out of their way.
+// The tag of the segment `start..end` of a text, and its local errors, if there are any. Most segments are seen to have none:
+// this is kept out of their way.
 #[inline(never)]
 fn check_alone<O: Octets>(
     alloc: Global,
     directory: &Directory,
     context: &Context,
-    components: Fields<'_, O>,
+    text: &O,
+    start: usize,
+    end: usize,
 ) -> Result<(Option<Tag>, Option<Box<Faults>>), AllocError>
-    requires in_order { IsInOrder 0 (components_left components) }
-    requires few { length (components_left components) < 2 ^ 31 }
+    requires usable { IsUsable context.now.service (O.octets text.now) }
+    requires short { length (O.octets text.now) ≤ LONGEST_TEXT }
+    requires ordered { start ≤ end }
+    requires within { end ≤ length (O.octets text.now) }
     ensures tag { IfOk result (λ found. option_map (λ t. t.octets) found.0
-        ≡ tag_of (components_left components.entry)) }
+        ≡ tag_of (components_at context.now.service (O.octets text.now) start end)) }
     ensures local { IfOk result (λ found. local_in found.1
-        ≡ local_errors_of directory.now context.now (components_left components.entry)) }
+        ≡ local_errors_of directory.now context.now
+        (components_at context.now.service (O.octets text.now) start end)) }
     ensures missing { IfOk result (λ found. missing_in found.1 ≡ []) }
+    ensures over { IfOk result (λ found. over_in found.1 ≡ false) }
 {
+    let components = fields(text, &context.service, start, end);
     let (tag, local) = check_components(alloc, directory, context, components)?;
-    let faults = keep_faults(alloc, local, SmallVec::new(alloc))?;
+    let faults = keep_faults(alloc, local, SmallVec::new(alloc), false)?;
     Ok((tag, faults))
 }
 
-// What is wrong with a segment, by its local errors and what is missing before it: mostly nothing.
+// What is wrong with a segment, by its local errors, what is missing before it and whether it is one too many: mostly nothing.
 #[inline(always)]
-fn with_missing(
+fn with_misplacing(
     alloc: Global,
     faults: Option<Box<Faults>>,
     missing: SmallVec<u16, 4>,
+    over: bool,
 ) -> Result<Option<Box<Faults>>, AllocError>
-    requires { missing_in faults ≡ [] }
+    requires missing { missing_in faults ≡ [] }
+    requires over { over_in faults ≡ false }
     ensures local { IfOk result (λ found. local_in found ≡ local_in faults) }
     ensures missing { IfOk result (λ found. missing_in found ≡ missing.items) }
+    ensures over { IfOk result (λ found. over_in found ≡ over) }
 {
-    if missing.is_empty() {
+    if missing.is_empty() && !over {
         return Ok(faults);
     }
-    add_missing(alloc, faults, missing)
+    add_misplacing(alloc, faults, missing, over)
 }
 
-// The same where something is missing.
+// The same where something is missing, or it is one too many.
 #[inline(never)]
-fn add_missing(
+fn add_misplacing(
     alloc: Global,
     faults: Option<Box<Faults>>,
     missing: SmallVec<u16, 4>,
+    over: bool,
 ) -> Result<Option<Box<Faults>>, AllocError>
     ensures local { IfOk result (λ found. local_in found ≡ local_in faults) }
     ensures missing { IfOk result (λ found. missing_in found ≡ missing.items) }
+    ensures over { IfOk result (λ found. over_in found ≡ over) }
 {
     match faults {
         Some(known) => {
             let Faults {
                 local,
                 missing: none,
+                over: _,
             } = Box::into_inner(known);
             drop(none);
-            keep_faults(alloc, local, missing)
+            keep_faults(alloc, local, missing, over)
         }
-        None => keep_faults(alloc, SmallVec::new(alloc), missing),
+        None => keep_faults(alloc, SmallVec::new(alloc), missing, over),
     }
 }
 
@@ -337,13 +352,19 @@ fn keep_faults(
     alloc: Global,
     local: SmallVec<LocalError, 4>,
     missing: SmallVec<u16, 4>,
+    over: bool,
 ) -> Result<Option<Box<Faults>>, AllocError>
     ensures local { IfOk result (λ faults. local_in faults ≡ local.items) }
     ensures missing { IfOk result (λ faults. missing_in faults ≡ missing.items) }
+    ensures over { IfOk result (λ faults. over_in faults ≡ over) }
 {
-    if local.is_empty() && missing.is_empty() {
+    if local.is_empty() && missing.is_empty() && !over {
         return Ok(None);
     }
-    let faults = Box::new(alloc, Faults { local, missing })?;
-    Ok(Some(faults))
+    let faults = Faults {
+        local,
+        missing,
+        over,
+    };
+    Ok(Some(Box::new(alloc, faults)?))
 }

@@ -2,7 +2,9 @@
 ghost use Rattle.std.specs.Prelude.{◌≡◌, ◌+◌, ◌<◌, ◌≤◌, [], ℕ, codes, length, IfOk, IfSome, if◌then◌else◌};
 ghost use Rattle.edi_tables.specs.Rows.{has_name};
 ghost use Rattle.dir_compile.specs.Directory.{tables_of};
-ghost use Rattle.seg_lexer.specs.Left.{components_left};
+ghost use Rattle.seg_lexer.specs.Fields.{components_at};
+ghost use Rattle.seg_lexer.specs.Service.{IsUsable};
+ghost use Rattle.edi_octets.specs.declared.octets.TheConstants.{LONGEST_TEXT};
 ghost use Rattle.segment_records.specs.Records.{IsModeOf};
 ghost use Rattle.segment_records.specs.Steps.{inner_step, opening_step, plain_step as step_to, step_of};
 ghost use Rattle.segment_records.specs.Taken.{read_as, taken};
@@ -13,7 +15,7 @@ use crate::values::find_table;
 use dir_compile::Directory;
 use edi_octets::Octets;
 use edi_tables::Tag;
-use seg_lexer::Fields;
+use seg_lexer::{Service, fields};
 use smallvec::SmallVec;
 use std::alloc::{AllocError, Global};
 use std::sync::ledger::Ledger;
@@ -29,25 +31,35 @@ pub(crate) struct Step {
     pub(crate) after: Mode,
 }
 
-/// The step of a segment with this tag and these components, after this mode. At most one call of the walk is counted.
+/// The step of the segment `start..end` of a text, which has this tag, after this mode. At most one call of the walk is counted.
+#[inline(always)]
 pub(crate) fn take_step<O: Octets, L: Ledger>(
     alloc: Global,
     directory: &Directory,
     before: &Mode,
     tag: Option<Tag>,
-    components: Fields<'_, O>,
+    text: &O,
+    service: &Service,
+    start: usize,
+    end: usize,
     placed: &mut Steps<L>,
 ) -> Result<Step, AllocError>
+    requires usable { IsUsable service.now (O.octets text.now) }
+    requires short { length (O.octets text.now) ≤ LONGEST_TEXT }
+    requires ordered { start ≤ end }
+    requires within { end ≤ length (O.octets text.now) }
     requires mode { IsModeOf directory.now 4194303 before.now }
     ensures step { IfOk result
         (λ step. taken step
-        ≡ step_of directory.now before.now (read_as tag (components_left components.entry))) }
+        ≡ step_of directory.now before.now
+        (read_as tag (components_at service.now (O.octets text.now) start end))) }
     ensures mode { (most : ℕ)
         → IsModeOf directory.now most before.now
         → IfOk result (λ step. IsModeOf directory.now (most + 1) step.after) }
     ensures counted { placed.new ≤ placed.old + 1 }
 {
     if is_named(b"UNH", tag) {
+        let components = fields(text, service, start, end);
         let table = find_table(alloc, directory, components)?;
         return open_message(alloc, directory, table);
     }

@@ -1,11 +1,9 @@
-use Rattle.std.proofs.Common.{◌≡◌, refl, sym, ap, ◌∙◌}
+use Rattle.std.proofs.Common.{◌≡◌, refl, sym, ◌∙◌}
 use Rattle.std.specs.Option.{option_map}
 use Rattle.seg_lexer.specs.Tag.{tag_of}
 use Rattle.element_check.specs.Local.{local_errors_of}
 use Rattle.segment_records.specs.RecordView.{local_in}
 use Rattle.segment_records.specs.Segments.{segment_read}
-use Rattle.segment_records.specs.Steps.{step_of}
-use Rattle.segment_records.specs.Taken.{read_as}
 use Rattle.segment_records.proofs.Keeping.{kept_is, tag_back}
 use Rattle.segment_records.proofs.record.Record.read.Goals as goal
 use Rattle.segment_records.proofs.record.Record.read.Goals.{in-Some, in-None+in_ok-tag-in-None}
@@ -18,16 +16,16 @@ returns-clause-kept g c =
     let tag_is : option_map (λ t. t.octets) c.match-find.tag.0 ≡ tag_of segment.components =
     elim c.match-find.branch [
       | in-Some w ↦ rw w.tag-is (sym w.in-Some.ensures.tag)
-      | in-None+in_ok-tag-in-None w ↦ rw w.tag-is (w.in_ok-tag-in-None.ensures.tag ∙ ap tag_of c.fields-components.ensures.components)
+      | in-None+in_ok-tag-in-None w ↦ rw w.tag-is w.in_ok-tag-in-None.ensures.tag
     ] in
     let local_is : local_in c.match-find.tag.1 ≡ local_errors_of dir context segment.components =
     elim c.match-find.branch [
       | in-Some w ↦ rw w.tag-is (sym w.in-Some.ensures.errors)
-      | in-None+in_ok-tag-in-None w ↦ rw w.tag-is (w.in_ok-tag-in-None.ensures.local ∙ ap (local_errors_of dir context) c.fields-components.ensures.components)
+      | in-None+in_ok-tag-in-None w ↦ rw w.tag-is w.in_ok-tag-in-None.ensures.local
     ] in
     kept_is dir context c.args.before.now segment
-    _ _ _ _ _ _ c.in_ok-step.step.missing.items _ _
+    _ _ _ _ _ _ c.in_ok-step.step.missing.items _ c.in_ok-step.step.over _
     refl refl (tag_back c.match-find.tag.0 segment.components tag_is)
-    (c.in_ok-with_missing.ensures.local ∙ local_is)
-    c.in_ok-with_missing.ensures.missing
-    (c.in_ok-step.ensures.step ∙ ap (λ components. step_of dir c.args.before.now (read_as c.match-find.tag.0 components)) c.fields-components.ensures.components)
+    (c.in_ok-with_misplacing.ensures.local ∙ local_is)
+    c.in_ok-with_misplacing.ensures.missing c.in_ok-with_misplacing.ensures.over
+    c.in_ok-step.ensures.step

@@ -133,6 +133,7 @@ fn or_lent<'a>(
 }
 
 // The components of a segment, where it is plain and none was taken yet.
+#[inline(always)]
 fn plain_components<'a, O: Octets>(components: &Fields<'a, O>) -> Option<PlainFields<'a>>
     ensures { IfSome result (λ plain. plain_left plain ≡ components_left components.now) }
 {
@@ -243,12 +244,43 @@ pub fn lend_two<'a, O: Octets>(
     ensures second { IfOk result (λ two. cow_slice_items two.1
         ≡ value_in (components_left components.entry) second.0 second.1) }
 {
-    if let Some(plain) = plain_components(&components) {
-        let (one, other) = find_plain_two(plain, first, second);
-        let one = CowSlice::Borrowed(one.unwrap_or(&[]));
-        let other = CowSlice::Borrowed(other.unwrap_or(&[]));
-        return Ok((one, other));
+    match plain_components(&components) {
+        Some(plain) => Ok(lend_plain_two(plain, first, second)),
+        None => lend_found_two(alloc, components, first, second),
     }
+}
+
+// Those of a plain segment, which lends them.
+#[inline(always)]
+fn lend_plain_two<'a>(
+    components: PlainFields<'a>,
+    first: (u32, u32),
+    second: (u32, u32),
+) -> (CowSlice<'a, u8, Global>, CowSlice<'a, u8, Global>)
+    ensures first { cow_slice_items result.0
+        ≡ value_in (plain_left components.entry) first.0 first.1 }
+    ensures second { cow_slice_items result.1
+        ≡ value_in (plain_left components.entry) second.0 second.1 }
+{
+    let (one, other) = find_plain_two(components, first, second);
+    let one = CowSlice::Borrowed(one.unwrap_or(&[]));
+    let other = CowSlice::Borrowed(other.unwrap_or(&[]));
+    (one, other)
+}
+
+// Those of a segment that isn't plain. Few are so: the others don't pay for what this needs.
+#[inline(never)]
+fn lend_found_two<'a, O: Octets>(
+    alloc: Global,
+    components: Fields<'a, O>,
+    first: (u32, u32),
+    second: (u32, u32),
+) -> Result<(CowSlice<'a, u8, Global>, CowSlice<'a, u8, Global>), AllocError>
+    ensures first { IfOk result (λ two. cow_slice_items two.0
+        ≡ value_in (components_left components.entry) first.0 first.1) }
+    ensures second { IfOk result (λ two. cow_slice_items two.1
+        ≡ value_in (components_left components.entry) second.0 second.1) }
+{
     let (one, other) = find_two(components, first, second);
     let one = lend_found(alloc, one)?;
     let other = lend_found(alloc, other)?;

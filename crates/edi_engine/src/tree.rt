@@ -64,8 +64,11 @@ pub(crate) fn print_tree(kept: &KeptText<'_>, alloc: Global) -> Result<PrintedTr
     let mut lines = 0;
     let mut numeral = Numeral::of(0);
     for seen in kept.segments() {
-        let line = line_of(directory, &numbers, &seen);
-        lines += put_tree_line(&mut text, &mut numeral, &line)?;
+        lines += put_tree_line(
+            &mut text,
+            &mut numeral,
+            &line_of(directory, &numbers, &seen),
+        )?;
     }
     Ok(PrintedTree { lines, text })
 }

@@ -46,7 +46,7 @@ unh name release =
 -- an acknowledgement without UCI and with an unknown segment, a message without a table, and an acknowledgement that the text's end cuts off
 abbrev segments : List Segment
 segments =
-    segment (codes "UNB") [] ∷ unh (codes "CONTRL") (codes "3") ∷ segment (codes "UCM") [] ∷ segment (codes "XXX") []
+    segment (codes "UNB") [] ∷ unh (codes "CONTRL") (codes "3") ∷ segment (codes "UCM") [] ∷ segment (codes "ZZZ") []
     ∷ segment (codes "UCM") [] ∷ segment (codes "UNT") [] ∷ unh (codes "ORDERS") (codes "96A") ∷ segment (codes "BGM") []
     ∷ unh (codes "CONTRL") (codes "3") ∷ segment (codes "UCI") [] ∷ []
 

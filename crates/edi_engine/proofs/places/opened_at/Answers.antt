@@ -10,11 +10,11 @@ bounds-numbers-from c =
     omega (arith, length_numbers c.args.table.now, c.from-2.ensures, c.requires.within)
 
 pub overflow_add-result : goal.overflow_add-result
-overflow_add-result c = omega (arith, c.count_in.ensures, count_up_to 4194303 c.args.state.now (c.args.entry - 1) c.requires.few)
+overflow_add-result c = omega (arith, c.count_of.ensures, count_up_to 4194303 c.args.state.now (c.args.entry - 1) c.requires.few)
 
 pub returns : goal.returns
 returns c =
     let nodes = c.args.table.now in
     let trigger = ap (is_trigger_at nodes) (sym c.from.ensures) ∙ sym c.is_trigger.ensures ∙ c.if-not-is_trigger.false in
-    opens_is nodes c.args.numbers.now c.args.state.now c.args.entry _ c.count_in.result trigger c.requires.within c.requires.numbers
-    (ap (λ (i : ℕ). get_or c.args.numbers.now i 0) c.from-2.ensures) c.count_in.ensures
+    opens_is nodes c.args.numbers.now c.args.state.now c.args.entry _ c.count_of.result trigger c.requires.within c.requires.numbers
+    (ap (λ (i : ℕ). get_or c.args.numbers.now i 0) c.from-2.ensures) c.count_of.ensures

@@ -5,12 +5,13 @@ ghost use Rattle.seg_lexer.specs.Service.{IsUsable};
 ghost use Rattle.segment_records.specs.Heads.{count_in, name_in, reference_in};
 ghost use Rattle.segment_records.specs.Look.{seen_of};
 ghost use Rattle.segment_records.specs.Told.{head_seen};
+ghost use Rattle.edi_engine.specs.Heads.{second_element as second_element_of};
 ghost use Rattle.edi_octets.specs.declared.octets.TheConstants.{LONGEST_TEXT};
 
 use edi_octets::Octets;
 use envelope_check::{Head, HeadKind, HeadValue};
 use seg_lexer::{Fields, Service};
-use segment_records::{WalkedSegment, lend_two, lend_value};
+use segment_records::{WalkedSegment, lend_two};
 use std::alloc::{AllocError, Global};
 
 /// A segment as a head of this kind, with the values that its kind gives. They are read from its text, by the service
@@ -65,38 +66,41 @@ fn copy_given<O: Octets>(
     ensures name { IfOk result (λ given. given.name
         ≡ name_in (components_left components.entry) kind) }
 {
+    let (first, second) = lend_two(alloc, components, (1, 1), (second_element(kind), 1))?;
+    let first = HeadValue::of(alloc, &first)?;
+    let second = HeadValue::of(alloc, &second)?;
+    let none = HeadValue::empty(alloc);
     match kind {
-        HeadKind::Unb => {
-            let reference = lend_value(alloc, components, 5, 1)?;
-            Ok(Given {
-                reference: HeadValue::of(alloc, &reference)?,
-                count: HeadValue::empty(alloc),
-                name: HeadValue::empty(alloc),
-            })
-        },
-        HeadKind::Ung => {
-            let (name, reference) = lend_two(alloc, components, (1, 1), (5, 1))?;
-            Ok(Given {
-                reference: HeadValue::of(alloc, &reference)?,
-                count: HeadValue::empty(alloc),
-                name: HeadValue::of(alloc, &name)?,
-            })
-        },
-        HeadKind::Unh => {
-            let (reference, name) = lend_two(alloc, components, (1, 1), (2, 1))?;
-            Ok(Given {
-                reference: HeadValue::of(alloc, &reference)?,
-                count: HeadValue::empty(alloc),
-                name: HeadValue::of(alloc, &name)?,
-            })
-        },
-        HeadKind::Unt | HeadKind::Une | HeadKind::Unz => {
-            let (count, reference) = lend_two(alloc, components, (1, 1), (2, 1))?;
-            Ok(Given {
-                reference: HeadValue::of(alloc, &reference)?,
-                count: HeadValue::of(alloc, &count)?,
-                name: HeadValue::empty(alloc),
-            })
-        },
+        HeadKind::Unb => Ok(Given {
+            reference: second,
+            count: none,
+            name: HeadValue::empty(alloc),
+        }),
+        HeadKind::Ung => Ok(Given {
+            reference: second,
+            count: none,
+            name: first,
+        }),
+        HeadKind::Unh => Ok(Given {
+            reference: first,
+            count: none,
+            name: second,
+        }),
+        HeadKind::Unt | HeadKind::Une | HeadKind::Unz => Ok(Given {
+            reference: second,
+            count: first,
+            name: none,
+        }),
+    }
+}
+
+// The element of the second of the two values that are read of a head: 0020 of UNB, 0048 of UNG, 0065 of UNH, and of the others
+// the reference. The first value is in element 1.
+fn second_element(kind: HeadKind) -> u32
+    ensures { result ≡ second_element_of kind }
+{
+    match kind {
+        HeadKind::Unb | HeadKind::Ung => 5,
+        HeadKind::Unh | HeadKind::Unt | HeadKind::Une | HeadKind::Unz => 2,
     }
 }

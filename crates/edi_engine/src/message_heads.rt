@@ -1,10 +1,16 @@
 //! The messages of a text: which segments open them, and which stop them.
-ghost use Rattle.std.specs.Prelude.{◌≡◌, ◌+◌, ◌++◌, ◌<◌, ◌≤◌, IfOk, None, OnOk, Some, codes, if◌then◌else◌, length};
+ghost use Rattle.std.specs.Prelude.{◌≡◌, ◌+◌, ◌++◌, ◌<◌, ◌≤◌, IfOk, None, OnOk, Some, codes, filter, is_some, length};
+ghost use Rattle.std.specs.List.{list_any};
+ghost use Rattle.std.specs.Option.{ForSome, option_copied, option_map};
+ghost use Rattle.contrl_writer.specs.Levels.{is_among};
 ghost use Rattle.edi_tables.specs.Rows.{has_name};
+ghost use Rattle.error_ledger.specs.Order.{IsAscending};
 ghost use Rattle.seg_lexer.specs.Service.{IsUsable};
 ghost use Rattle.segment_records.specs.Look.{seen_of};
 ghost use Rattle.segment_records.specs.Spans.{begun_by as begun_by_of, ended_by, group_by as group_by_of, message_ended, message_seen};
 ghost use Rattle.segment_records.specs.Segments.{segments_of_text};
+ghost use Rattle.segment_records.specs.WalkedSegments.{LiesIn};
+ghost use Rattle.contrl_writer.specs.Needed.{is_asked as is_asked_of, is_asked_at};
 ghost use Rattle.text_reading.specs.Summary.{messages_in};
 ghost use Rattle.edi_octets.specs.declared.octets.TheConstants.{LONGEST_TEXT};
 
@@ -12,47 +18,83 @@ use crate::group_heads::{last_by, stops_group};
 use contrl_segments::MessageHead;
 use edi_octets::Octets;
 use edi_tables::Tag;
+use error_ledger::ErrorLine;
 use kept_text::KeptText;
 use seg_lexer::Service;
 use segment_records::{WalkedSegment, copy_value, is_named, stops_message};
 use std::alloc::{AllocError, Global};
 
-/// Puts the message that is open, if there is one, with its last segment, by its number from 1. Only want of memory is an error.
-pub(crate) fn put_message(
-    current: Option<MessageHead>,
-    last: u32,
-    messages: &mut Vec<MessageHead>,
-) -> Result<(), AllocError>
-    ensures { OnOk result (messages.new.items
-        ≡ messages.old.items ++ ended_by message_ended current last) }
-{
-    if let Some(mut head) = current {
-        head.last = last;
-        messages.push(head)?;
-    }
-    Ok(())
+// A message that is open: its UNH, and the place of its functional group, from 0.
+#[derive(Clone, Copy)]
+struct Opened<'e> {
+    unh: WalkedSegment<'e>,
+    group: Option<u32>,
 }
 
-/// The message that a segment opens in a functional group, by the group's place from 0, if it is a UNH; its last segment isn't
-/// known yet. Its values are read from its text, by the service characters of the text. Only want of memory is an error.
-pub(crate) fn open_message<O: Octets>(
+// Puts the message that is open, if there is one, with its last segment, by its number from 1, if it is asked for: each one is,
+// or if errors are given, each one that has one of them. Its values are read from its text, by the service characters of the
+// text. Only want of memory is an error.
+fn put_message<O: Octets>(
     alloc: Global,
     text: &O,
     service: &Service,
-    seen: &WalkedSegment<'_>,
-    group: Option<u32>,
-) -> Result<Option<MessageHead>, AllocError>
+    errors: Option<&[ErrorLine]>,
+    current: Option<Opened<'_>>,
+    last: u32,
+    messages: &mut Vec<MessageHead>,
+) -> Result<(), AllocError>
     requires usable { IsUsable service.now (O.octets text.now) }
     requires short { length (O.octets text.now) ≤ LONGEST_TEXT }
-    requires within { seen.now.from + seen.now.record.now.octets ≤ length (O.octets text.now) }
-    ensures { IfOk result (λ opened. opened ≡ (if has_name (codes "UNH") seen.now.record.now.tag
-        then Some (message_seen service.now (O.octets text.now) group (seen_of seen.now))
-        else None)) }
+    requires within { ForSome current (λ opened. LiesIn (O.octets text.now) (seen_of opened.unh)) }
+    requires ascending { ForSome errors (λ list. IsAscending list.now) }
+    ensures { OnOk result (messages.new.items ≡ messages.old.items
+        ++ filter (is_asked_of (option_copied errors.entry)) (ended_by message_ended
+        (option_map (λ opened. message_seen service.now (O.octets text.now)
+        opened.group (seen_of opened.unh)) current.entry) last)) }
+{
+    let Some(opened) = current else {
+        return Ok(());
+    };
+    if !is_asked(errors, opened.unh.number, last) {
+        return Ok(());
+    }
+    let mut head = read_message(alloc, text, service, &opened.unh, opened.group)?;
+    head.last = last;
+    messages.push(head)?;
+    Ok(())
+}
+
+// Whether a message with these segments is asked for.
+fn is_asked(errors: Option<&[ErrorLine]>, first: u32, last: u32) -> bool
+    requires { ForSome errors (λ list. IsAscending list.now) }
+    ensures { result ≡ is_asked_at (option_copied errors.entry) first last }
+{
+    match errors {
+        None => true,
+        Some(errors) => has_error(errors, first, last),
+    }
+}
+
+// Whether one of these errors is at one of the segments `first..=last`.
+fn has_error(errors: &[ErrorLine], first: u32, last: u32) -> bool
+    requires { IsAscending errors.now }
+    ensures { result ≡ list_any (λ e. is_among first last e.segment) errors.now }
+{
+    let from = errors.partition_point(|e| e.segment < first);
+    let to = errors.partition_point(|e| e.segment <= last);
+    from < to
+}
+
+// The message that a segment opens in a functional group, by the group's place from 0, if it is a UNH.
+fn open_message<'e>(seen: &WalkedSegment<'e>, group: Option<u32>) -> Option<Opened<'e>>
+    ensures opens { is_some result ≡ has_name (codes "UNH") seen.now.record.now.tag }
+    ensures here { ForSome result
+        (λ opened. (opened.group ≡ group) × (seen_of opened.unh ≡ seen_of seen.now)) }
 {
     if is_named(b"UNH", seen.record.tag()) {
-        Ok(Some(read_message(alloc, text, service, seen, group)?))
+        Some(Opened { unh: *seen, group })
     } else {
-        Ok(None)
+        None
     }
 }
 
@@ -116,14 +158,29 @@ pub(crate) fn group_by(tag: Option<Tag>, begun: u32, group: Option<u32>) -> Opti
     }
 }
 
-// Its messages, in order, each with its functional group. Their values are read from the text. Only notable segments open or
-// stop one.
-pub(crate) fn messages_of(
+/// All messages of a text, in order, each with its functional group. Their values are read from the text. Only want of memory is
+/// an error.
+pub(crate) fn all_messages(
     kept: &KeptText<'_>,
     alloc: Global,
 ) -> Result<Vec<MessageHead>, AllocError>
     ensures { IfOk result (λ messages. messages.items
         ≡ messages_in (segments_of_text kept.now.text)) }
+{
+    messages_of(kept, alloc, None)
+}
+
+/// The messages of a text, in order, each with its functional group: all of them, or if errors are given, those that have one of
+/// them. Their values are read from the text. Only want of memory is an error.
+pub(crate) fn messages_of(
+    kept: &KeptText<'_>,
+    alloc: Global,
+    errors: Option<&[ErrorLine]>,
+) -> Result<Vec<MessageHead>, AllocError>
+    requires { ForSome errors (λ list. IsAscending list.now) }
+    ensures { IfOk result (λ messages. messages.items
+        ≡ filter (is_asked_of (option_copied errors.entry))
+        (messages_in (segments_of_text kept.now.text))) }
 {
     let text = kept.whole();
     let service = kept.service();
@@ -133,16 +190,17 @@ pub(crate) fn messages_of(
     // How many groups have begun, and the place of the one that is open.
     let mut begun = 0;
     let mut group = None;
+    // Only notable segments open or stop one.
     for seen in kept.notable_segments() {
         let tag = seen.record.tag();
         group = group_by(tag, begun, group);
         begun = begun_by(tag, begun);
         if stops_message(tag) {
             let last = last_by(is_named(b"UNT", tag), seen.number);
-            put_message(current, last, &mut messages)?;
-            current = open_message(alloc, &text, service, &seen, group)?;
+            put_message(alloc, &text, service, errors, current, last, &mut messages)?;
+            current = open_message(&seen, group);
         }
     }
-    put_message(current, count, &mut messages)?;
+    put_message(alloc, &text, service, errors, current, count, &mut messages)?;
     Ok(messages)
 }

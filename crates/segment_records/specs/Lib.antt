@@ -14,6 +14,7 @@ pub mod Places
 pub mod RecordView
 pub mod Records
 pub mod Segments
+pub mod Sites
 pub mod Spans
 pub mod Steps
 pub mod Taken

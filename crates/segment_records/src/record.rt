@@ -1,5 +1,5 @@
 //! What is kept of one segment.
-ghost use Rattle.std.specs.Prelude.{◌≡◌, ◌+◌, ◌<◌, ◌≤◌, [], ℕ, false, length, IfOk};
+ghost use Rattle.std.specs.Prelude.{◌≡◌, ◌+◌, ◌<◌, ◌≤◌, [], ℕ, length, IfOk};
 ghost use Rattle.std.specs.Option.{option_map};
 ghost use Rattle.edi_octets.specs.declared.octets.Octets.{Ghosts};
 ghost use Rattle.seg_lexer.specs.Fields.{components_at};
@@ -9,14 +9,14 @@ ghost use Rattle.element_check.specs.Local.{local_errors_of};
 ghost use Rattle.clean_segments.specs.Clean.{AreClean};
 ghost use Rattle.segment_records.specs.Notable.{is_marked, is_well_placed};
 ghost use Rattle.segment_records.specs.Records.{IsModeOf, kept_of};
-ghost use Rattle.segment_records.specs.RecordView.{local_in, missing_in, over_in};
+ghost use Rattle.segment_records.specs.RecordView.{local_in, missing_in};
 ghost use Rattle.segment_records.specs.Segments.{segment_read};
 ghost use Rattle.segment_records.specs.Steps.{inner_step};
 ghost use Rattle.segment_records.specs.Taken.{read_as};
 ghost use Rattle.edi_octets.specs.declared.octets.TheConstants.{LONGEST_TEXT};
 
 use crate::mode::Mode;
-use crate::step::{take_inner_step, take_step};
+use crate::step::{Site, take_inner_step, take_step};
 use crate::tags::stops_message;
 use clean_segments::CleanSegments;
 use dir_compile::Directory;
@@ -48,18 +48,17 @@ pub struct Record {
     octets: u32,
     breaks: u32,
     tag: Option<Tag>,
-    entry: Option<u16>,
+    site: Site,
     mode: Mode,
     // Few segments have any: they need not lie in each record.
     faults: Option<Box<Faults>>,
 }
 
-// The local errors of a segment, the nodes that are missing before it, and whether it is one too many.
+// The local errors of a segment, and the nodes that are missing before it.
 #[derive(Drop)]
 struct Faults {
     local: SmallVec<LocalError, 4>,
     missing: SmallVec<u16, 4>,
-    over: bool,
 }
 
 impl Model for Record {
@@ -80,7 +79,7 @@ impl Drop for Record {
             octets: _,
             breaks: _,
             tag: _,
-            entry: _,
+            site: _,
             mode,
             faults,
         } = self;
@@ -148,9 +147,9 @@ impl Record {
             octets: (end + 1 - from) as u32,
             breaks: (start - from) as u32,
             tag,
-            entry: step.entry,
+            site: step.site,
             mode: step.after,
-            faults: with_misplacing(alloc, faults, step.missing, step.over)?,
+            faults: with_missing(alloc, faults, step.missing)?,
         })
     }
 
@@ -182,9 +181,9 @@ impl Record {
             octets: self.octets,
             breaks: self.breaks,
             tag: self.tag,
-            entry: again.entry,
+            site: again.site,
             mode: again.after,
-            faults: keep_faults(alloc, local, again.missing, again.over)?,
+            faults: keep_faults(alloc, local, again.missing)?,
         })
     }
 
@@ -213,17 +212,17 @@ impl Record {
     pub fn entry(&self) -> Option<u16>
         ensures { result ≡ self.now.step.entry }
     {
-        self.entry
+        match self.site {
+            Site::Nowhere => None,
+            Site::At(entry) | Site::Over(entry) => Some(entry),
+        }
     }
 
     /// Whether it is one too many there.
     pub fn is_over(&self) -> bool
         ensures { result ≡ self.now.step.over }
     {
-        match &self.faults {
-            Some(faults) => faults.over,
-            None => false,
-        }
+        matches!(self.site, Site::Over(_))
     }
 
     /// Whether something is to be said of it by what is kept of it alone: it opens, closes or stops a message, has a local
@@ -240,7 +239,7 @@ impl Record {
     fn is_well_placed(&self) -> bool
         ensures { result ≡ is_well_placed self.now.step }
     {
-        self.entry.is_some() && self.missing().is_empty() && !self.is_over()
+        self.entry().is_some() && self.missing().is_empty() && !self.is_over()
     }
 
     /// Its local errors.
@@ -292,57 +291,50 @@ fn check_alone<O: Octets>(
         ≡ local_errors_of directory.now context.now
         (components_at context.now.service (O.octets text.now) start end)) }
     ensures missing { IfOk result (λ found. missing_in found.1 ≡ []) }
-    ensures over { IfOk result (λ found. over_in found.1 ≡ false) }
 {
     let components = fields(text, &context.service, start, end);
     let (tag, local) = check_components(alloc, directory, context, components)?;
-    let faults = keep_faults(alloc, local, SmallVec::new(alloc), false)?;
+    let faults = keep_faults(alloc, local, SmallVec::new(alloc))?;
     Ok((tag, faults))
 }
 
-// What is wrong with a segment, by its local errors, what is missing before it and whether it is one too many: mostly nothing.
+// What is wrong with a segment, by its local errors and what is missing before it: mostly nothing.
 #[inline(always)]
-fn with_misplacing(
+fn with_missing(
     alloc: Global,
     faults: Option<Box<Faults>>,
     missing: SmallVec<u16, 4>,
-    over: bool,
 ) -> Result<Option<Box<Faults>>, AllocError>
-    requires missing { missing_in faults ≡ [] }
-    requires over { over_in faults ≡ false }
+    requires { missing_in faults ≡ [] }
     ensures local { IfOk result (λ found. local_in found ≡ local_in faults) }
     ensures missing { IfOk result (λ found. missing_in found ≡ missing.items) }
-    ensures over { IfOk result (λ found. over_in found ≡ over) }
 {
-    if missing.is_empty() && !over {
+    if missing.is_empty() {
         return Ok(faults);
     }
-    add_misplacing(alloc, faults, missing, over)
+    add_missing(alloc, faults, missing)
 }
 
-// The same where something is missing, or it is one too many.
+// The same where something is missing.
 #[inline(never)]
-fn add_misplacing(
+fn add_missing(
     alloc: Global,
     faults: Option<Box<Faults>>,
     missing: SmallVec<u16, 4>,
-    over: bool,
 ) -> Result<Option<Box<Faults>>, AllocError>
     ensures local { IfOk result (λ found. local_in found ≡ local_in faults) }
     ensures missing { IfOk result (λ found. missing_in found ≡ missing.items) }
-    ensures over { IfOk result (λ found. over_in found ≡ over) }
 {
     match faults {
         Some(known) => {
             let Faults {
                 local,
                 missing: none,
-                over: _,
             } = Box::into_inner(known);
             drop(none);
-            keep_faults(alloc, local, missing, over)
+            keep_faults(alloc, local, missing)
         }
-        None => keep_faults(alloc, SmallVec::new(alloc), missing, over),
+        None => keep_faults(alloc, SmallVec::new(alloc), missing),
     }
 }
 
@@ -352,19 +344,13 @@ fn keep_faults(
     alloc: Global,
     local: SmallVec<LocalError, 4>,
     missing: SmallVec<u16, 4>,
-    over: bool,
 ) -> Result<Option<Box<Faults>>, AllocError>
     ensures local { IfOk result (λ faults. local_in faults ≡ local.items) }
     ensures missing { IfOk result (λ faults. missing_in faults ≡ missing.items) }
-    ensures over { IfOk result (λ faults. over_in faults ≡ over) }
 {
-    if local.is_empty() && missing.is_empty() && !over {
+    if local.is_empty() && missing.is_empty() {
         return Ok(None);
     }
-    let faults = Faults {
-        local,
-        missing,
-        over,
-    };
-    Ok(Some(Box::new(alloc, faults)?))
+    let faults = Box::new(alloc, Faults { local, missing })?;
+    Ok(Some(faults))
 }

@@ -1,5 +1,5 @@
 //! One segment after another: where a segment is by the mode before it, and the mode after it.
-ghost use Rattle.std.specs.Prelude.{◌≡◌, ◌+◌, ◌<◌, ◌≤◌, [], ℕ, codes, length, IfOk, IfSome, if◌then◌else◌};
+ghost use Rattle.std.specs.Prelude.{◌≡◌, ◌+◌, ◌<◌, ◌≤◌, [], ℕ, None, false, codes, length, IfOk, IfSome, if◌then◌else◌};
 ghost use Rattle.edi_tables.specs.Rows.{has_name};
 ghost use Rattle.dir_compile.specs.Directory.{tables_of};
 ghost use Rattle.seg_lexer.specs.Fields.{components_at};
@@ -7,6 +7,7 @@ ghost use Rattle.seg_lexer.specs.Service.{IsUsable};
 ghost use Rattle.edi_octets.specs.declared.octets.TheConstants.{LONGEST_TEXT};
 ghost use Rattle.segment_records.specs.Records.{IsModeOf};
 ghost use Rattle.segment_records.specs.Steps.{inner_step, opening_step, plain_step as step_to, step_of};
+ghost use Rattle.segment_records.specs.Sites.{entry_at, is_over_at};
 ghost use Rattle.segment_records.specs.Taken.{read_as, taken};
 
 use crate::mode::Mode;
@@ -22,13 +23,39 @@ use std::sync::ledger::Ledger;
 use step_counter::Steps;
 use table_walk::{State, start};
 
-/// Where a segment is, what is missing before it, whether it is one too many, and the mode after it.
+/// Where a segment is: at no entry, at one, or at one where it is one too many.
+#[derive(Clone, Copy, Debug)]
+pub(crate) enum Site {
+    Nowhere,
+    At(u16),
+    Over(u16),
+}
+
+/// Where a segment is, what is missing before it, and the mode after it.
 #[derive(Debug, Drop)]
 pub(crate) struct Step {
-    pub(crate) entry: Option<u16>,
+    pub(crate) site: Site,
     pub(crate) missing: SmallVec<u16, 4>,
-    pub(crate) over: bool,
     pub(crate) after: Mode,
+}
+
+// The site of a segment at this entry, if it is at one, where it is one too many or isn't.
+#[inline(always)]
+fn site_of(entry: Option<u16>, over: bool) -> Site
+    requires { entry ≡ None → over ≡ false }
+    ensures entry { entry_at result ≡ entry }
+    ensures over { is_over_at result ≡ over }
+{
+    match entry {
+        None => Site::Nowhere,
+        Some(entry) => {
+            if over {
+                Site::Over(entry)
+            } else {
+                Site::At(entry)
+            }
+        }
+    }
 }
 
 /// The step of the segment `start..end` of a text, which has this tag, after this mode. At most one call of the walk is counted.
@@ -109,9 +136,8 @@ fn open_message(
     };
     let state = start(alloc, directory.table(table as usize))?;
     Ok(Step {
-        entry: Some(0),
+        site: Site::At(0),
         missing: SmallVec::new(alloc),
-        over: false,
         after: Mode::Within { table, state },
     })
 }
@@ -137,9 +163,8 @@ fn go_on<L: Ledger>(
 {
     let next = state.place(alloc, directory.table(table as usize), tag, placed)?;
     Ok(Step {
-        entry: next.entry,
+        site: site_of(next.entry, next.over),
         missing: next.missing,
-        over: next.over,
         after: unless_closed(
             tag,
             Mode::Within {
@@ -155,9 +180,8 @@ fn plain_step(alloc: Global, after: Mode) -> Step
     ensures { taken result ≡ step_to after }
 {
     Step {
-        entry: None,
+        site: Site::Nowhere,
         missing: SmallVec::new(alloc),
-        over: false,
         after,
     }
 }

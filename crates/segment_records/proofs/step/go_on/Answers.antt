@@ -1,8 +1,8 @@
-use Rattle.std.proofs.Common.{List, sym, subst, ◌+◌}
+use Rattle.std.proofs.Common.{List, sym, ap, subst, ◌+◌, ◌∙◌}
 use Rattle.std.proofs.lemmas.Option.{get_or_from_slice_get}
 use Rattle.edi_tables.specs.declared.table.Node.{Node}
 use Rattle.dir_compile.specs.Directory.{tables_of}
-use Rattle.table_walk.specs.Steps.{IsShaped}
+use Rattle.table_walk.specs.Steps.{IsShaped, is_over_in}
 use Rattle.edi_tables.specs.Rows.{has_name}
 use Rattle.std.specs.Prelude.{codes, []}
 use Rattle.segment_records.proofs.Taking.{mode_unless}
@@ -15,3 +15,6 @@ returns-clause-mode g c most mode =
     mode.0
     (subst (λ (ns : List Node). IsShaped ns c.in_ok-next.next.state) (sym nodes) c.in_ok-next.ensures.shaped)
     (c.in_ok-next.ensures.counts most mode.2)
+
+pub site_of-requires : goal.site_of-requires
+site_of-requires g c none = c.in_ok-next.ensures.over ∙ ap (is_over_in c.table.result.now c.args.state.now) none

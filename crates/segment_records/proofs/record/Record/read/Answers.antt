@@ -24,8 +24,8 @@ returns-clause-kept g c =
       | in-None+in_ok-tag-in-None w ↦ rw w.tag-is w.in_ok-tag-in-None.ensures.local
     ] in
     kept_is dir context c.args.before.now segment
-    _ _ _ _ _ _ c.in_ok-step.step.missing.items _ c.in_ok-step.step.over _
+    _ _ _ _ _ _ c.in_ok-step.step.missing.items _ _
     refl refl (tag_back c.match-find.tag.0 segment.components tag_is)
-    (c.in_ok-with_misplacing.ensures.local ∙ local_is)
-    c.in_ok-with_misplacing.ensures.missing c.in_ok-with_misplacing.ensures.over
+    (c.in_ok-with_missing.ensures.local ∙ local_is)
+    c.in_ok-with_missing.ensures.missing
     c.in_ok-step.ensures.step

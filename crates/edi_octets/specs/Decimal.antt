@@ -15,8 +15,8 @@ decimal_in part =
 abbrev pub count_line : Octets → ℕ → Octets
 count_line word n = word ++ codes " " ++ decimal n ++ 10 ∷ []
 
--- For a numeral: these ten octets are spaces and then the digits of the number, and this is the greatest multiple of 1000
--- that isn't above the number.
+-- For a numeral: these ten octets are spaces and then the digits of the number, and this is the greatest multiple of
+-- 1000 that isn't above the number.
 pub record IsWritten (number thousands : ℕ) (digits : Octets) (spaces : ℕ) : Type 0 where
   pub small : number < 2 ^ 32
   pub multiple : thousands ≡ number / 1000 * 1000

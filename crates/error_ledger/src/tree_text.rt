@@ -126,7 +126,8 @@ fn put_marked(
     out.add(&room[at..])
 }
 
-// The line of a segment at its entry, after that of the group that the entry opens, if it opens one. Both are put in one piece.
+// The line of a segment at its entry, after that of the group that the entry opens, if it opens one. Both are put in
+// one piece.
 #[inline(always)]
 fn put_placed(
     out: &mut Chunk,
@@ -230,7 +231,8 @@ fn lay_entry(room: &mut [u8; MOST_OCTETS], numeral: &Numeral, tag: Option<Tag>, 
     requires { room.old ≡ replicate MOST_OCTETS 32 }
     ensures short { 100 ≤ result }
     ensures within { result ≤ MOST_OCTETS }
-    ensures line { drop result room.new ≡ codes "= " ++ numbered numeral.now tag ++ codes " " ++ decimal entry ++ 10 ∷ [] }
+    ensures line { drop result room.new
+        ≡ codes "= " ++ numbered numeral.now tag ++ codes " " ++ decimal entry ++ 10 ∷ [] }
     ensures before { take result room.new ≡ replicate result 32 }
 {
     let at = put(room, MOST_OCTETS, b"\n");
@@ -255,7 +257,8 @@ fn lay_opening(
     requires fits { 60 ≤ at }
     requires before { take at room.old ≡ replicate at 32 }
     ensures within { result ≤ MOST_OCTETS }
-    ensures line { drop result room.new ≡ ended_lines (opening_lines depth opens) ++ drop at room.old }
+    ensures line { drop result room.new
+        ≡ ended_lines (opening_lines depth opens) ++ drop at room.old }
 {
     match opens {
         Some(mark) => {
@@ -274,7 +277,9 @@ fn lay_group(room: &mut [u8; MOST_OCTETS], at: usize, mark: GroupMark) -> usize
     requires before { take at room.old ≡ replicate at 32 }
     ensures short { at ≤ result + 28 }
     ensures within { result ≤ MOST_OCTETS }
-    ensures line { drop result room.new ≡ (codes "group " ++ decimal mark.number ++ codes " " ++ decimal mark.count ++ 10 ∷ []) ++ drop at room.old }
+    ensures line { drop result room.new
+        ≡ (codes "group " ++ decimal mark.number ++ codes " " ++ decimal mark.count ++ 10 ∷ [])
+        ++ drop at room.old }
     ensures before { take result room.new ≡ replicate result 32 }
 {
     let at = put(room, at, b"\n");

@@ -16,7 +16,10 @@ fn read_drill<'d>(alloc: Global, directory: &'d Directory) -> Result<Engine<'d>,
 fn is_at_first_quantity(mode: &Mode) -> bool {
     match mode {
         Mode::Within { table, state } => {
-            *table == 1 && state.count_of(6) == 1 && state.count_of(8) == 1
+            *table == 1
+                && state.pair(0) == Some((6, 1))
+                && state.pair(1) == Some((8, 1))
+                && state.pair(2) == None
         }
         _ => false,
     }

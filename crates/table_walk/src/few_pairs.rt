@@ -1,5 +1,5 @@
 //! A few pairs of a walk, in little room.
-ghost use Rattle.std.specs.Prelude.{◌≡◌, ◌∷◌, [], IfSome};
+ghost use Rattle.std.specs.Prelude.{◌≡◌, ◌∷◌, [], slice_get, IfSome};
 ghost use Rattle.edi_tables.specs.Pairs.{count_in, entry_in};
 
 use std::marker::Model;
@@ -80,6 +80,17 @@ impl FewPairs {
         ensures { result.now ≡ self.now }
     {
         &self.pairs[usize::from(self.first)..]
+    }
+
+    /// The pair of this number, from 0, if there is one.
+    pub fn pair(&self, number: usize) -> Option<(u16, u32)>
+        ensures { result ≡ slice_get self.now number }
+    {
+        let pairs = self.as_slice();
+        match pairs.get(number) {
+            Some(pair) => Some((pair.0, u32::from(pair.1))),
+            None => None,
+        }
     }
 
     /// The node of the last pair; 0 where there is none.

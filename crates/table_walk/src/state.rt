@@ -1,5 +1,5 @@
 //! The state of a walk: what one segment leaves to the next.
-ghost use Rattle.std.specs.Prelude.{◌≡◌, ◌+◌, ◌<◌, ◌↔◌, ℕ, List, [], ◌∷◌, Option, Some, None, length, IsTrue, IfOk};
+ghost use Rattle.std.specs.Prelude.{◌≡◌, ◌+◌, ◌<◌, ◌↔◌, ℕ, List, [], ◌∷◌, Option, Some, None, length, slice_get, IsTrue, IfOk};
 ghost use Rattle.edi_tables.specs.declared.tag.Tag.{Tag};
 ghost use Rattle.edi_tables.specs.declared.table.Node.{Node};
 ghost use Rattle.edi_tables.specs.Rows.{IsTable};
@@ -74,6 +74,17 @@ impl State {
         match &self.pairs {
             Held::Few(pairs) => pairs.count_of(node),
             Held::Many(pairs) => count_in(pairs.as_slice(), node),
+        }
+    }
+
+    /// The pair of this number, from 0, outermost first: a node, and its count. There is none after that of the entry
+    /// placed last.
+    pub fn pair(&self, number: usize) -> Option<(u16, u32)>
+        ensures { result ≡ slice_get self.now number }
+    {
+        match &self.pairs {
+            Held::Few(pairs) => pairs.pair(number),
+            Held::Many(pairs) => pairs.as_slice().get(number).copied(),
         }
     }
 

@@ -10,7 +10,7 @@ ghost use Rattle.collision_check.specs.Listed.{IsAmbiguous, collision_seen, coll
 ghost use Rattle.collision_check.specs.Marks.{IsClear, IsFresh, goes_on, numbers_of};
 
 use crate::marks::Mark;
-use crate::numbers::numbers;
+use crate::numbers::{all_differ, numbers};
 use crate::ranks::Ranks;
 use crate::suspect::may_share;
 use crate::{follow, front};
@@ -49,6 +49,9 @@ pub fn list_collisions(alloc: Global, table: &Table) -> Result<Vec<Collision>, A
         return Ok(collisions);
     }
     let numbers = numbers(alloc, table.nodes())?;
+    if all_differ(&numbers) {
+        return Ok(collisions);
+    }
     let mut marks = unmarked(alloc, count)?;
     let marks = marks.as_mut_slice();
     let mut is_clear = false;

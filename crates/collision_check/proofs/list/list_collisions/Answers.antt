@@ -1,5 +1,5 @@
 use Rattle.std.proofs.Common.{◌≡◌, ℕ, List, map, length, ◌+◌, Option, None, refl, sym, ap, ◌∙◌, zero, suc, arith}
-use Rattle.std.specs.List.{flat_map, range_with_len}
+use Rattle.std.specs.List.{flat_map, list_all, enumerate_from, range_with_len}
 use Rattle.std.proofs.lemmas.Bool.{false≢true}
 use Rattle.std.proofs.lemmas.List.{length-map}
 use Rattle.std.proofs.lemmas.List.FromFn.{length-range_with_len}
@@ -7,7 +7,8 @@ use Rattle.std.proofs.lemmas.List.Elements.{All-same}
 use Rattle.edi_tables.specs.Collisions.{collisions_of}
 use Rattle.collision_check.specs.declared.marks.Mark.{Mark}
 use Rattle.collision_check.specs.Listed.{IsAmbiguous, collision_seen, collisions_at}
-use Rattle.collision_check.specs.Marks.{met_in, mark_at}
+use Rattle.collision_check.specs.Marks.{is_own, numbers_of, met_in, mark_at}
+use Rattle.collision_check.proofs.AllDiffer.{no_collisions}
 use Rattle.collision_check.proofs.Made.{made_step}
 use Rattle.collision_check.proofs.Ambiguous.{All-unmap, collisions_ambiguous}
 use Rattle.collision_check.proofs.Single.{at_most_one}
@@ -43,6 +44,20 @@ returns-then-has_none c =
     let nodes = c.args.table.now in
     let listed : map collision_seen c.new-collisions.result.items ≡ collisions_of nodes =
     ap (map collision_seen) c.new-collisions.ensures.items ∙ sym (c.has_none.ensures c.if-has_none.true) in
+    record {
+      listed = listed;
+      ambiguous = All-unmap (IsAmbiguous nodes) collision_seen c.new-collisions.result.items
+          (All-same (IsAmbiguous nodes) (map collision_seen c.new-collisions.result.items) (collisions_of nodes) listed (collisions_ambiguous nodes c.nodes.ensures.lawful));
+      only = at_most_one nodes c.nodes.ensures.lawful;
+    }
+
+pub returns-then-all_differ : goal.returns-then-all_differ
+returns-then-all_differ c =
+    let nodes = c.args.table.now in
+    let numbered = c.in_ok-numbers.ensures ∙ ap numbers_of c.nodes-2.ensures.value in
+    let all = ap (λ (numbers : List (Option ℕ)). list_all (λ p. is_own p.0 p.1) (enumerate_from 0 numbers)) (sym c.deref.ensures.value) ∙ sym c.all_differ.ensures ∙ c.if-all_differ.true in
+    let listed : map collision_seen c.new-collisions.result.items ≡ collisions_of nodes =
+    ap (map collision_seen) c.new-collisions.ensures.items ∙ sym (no_collisions nodes c.nodes.ensures.lawful c.in_ok-numbers.numbers.items numbered all) in
     record {
       listed = listed;
       ambiguous = All-unmap (IsAmbiguous nodes) collision_seen c.new-collisions.result.items

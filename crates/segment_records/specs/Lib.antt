@@ -14,8 +14,8 @@ pub mod Places
 pub mod RecordView
 pub mod Records
 pub mod Segments
-pub mod Sites
 pub mod Spans
+pub mod Standings
 pub mod Steps
 pub mod Taken
 pub mod Told

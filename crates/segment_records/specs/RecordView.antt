@@ -3,7 +3,7 @@ use Rattle.std.specs.Prelude.{ℕ, List, [], Option, Some, None}
 use Rattle.std.specs.declared.boxed.Box.{Box}
 use Rattle.element_check.specs.declared.error.LocalError.{LocalError}
 use Rattle.segment_records.specs.Records.{Kept}
-use Rattle.segment_records.specs.Sites.{entry_at, is_over_at}
+use Rattle.segment_records.specs.Standings.{entry_at, is_over_at}
 use Rattle.segment_records.specs.declared.record.Faults.{Faults}
 use Rattle.segment_records.specs.declared.record.Record.TheInside.{Inside}
 
@@ -24,5 +24,5 @@ seen r = record {
   breaks = r.breaks;
   tag = r.tag;
   local = local_in r.faults;
-  step = record { entry = entry_at r.site; missing = missing_in r.faults; over = is_over_at r.site; after = r.mode };
+  step = record { entry = entry_at r.standing; missing = missing_in r.faults; over = is_over_at r.standing; after = r.mode };
 }

@@ -16,7 +16,7 @@ ghost use Rattle.segment_records.specs.Taken.{read_as};
 ghost use Rattle.edi_octets.specs.declared.octets.TheConstants.{LONGEST_TEXT};
 
 use crate::mode::Mode;
-use crate::step::{Site, take_inner_step, take_step};
+use crate::step::{Standing, take_inner_step, take_step};
 use crate::tags::stops_message;
 use clean_segments::CleanSegments;
 use dir_compile::Directory;
@@ -48,7 +48,7 @@ pub struct Record {
     octets: u32,
     breaks: u32,
     tag: Option<Tag>,
-    site: Site,
+    standing: Standing,
     mode: Mode,
     // Few segments have any: they need not lie in each record.
     faults: Option<Box<Faults>>,
@@ -79,7 +79,7 @@ impl Drop for Record {
             octets: _,
             breaks: _,
             tag: _,
-            site: _,
+            standing: _,
             mode,
             faults,
         } = self;
@@ -147,7 +147,7 @@ impl Record {
             octets: (end + 1 - from) as u32,
             breaks: (start - from) as u32,
             tag,
-            site: step.site,
+            standing: step.standing,
             mode: step.after,
             faults: with_missing(alloc, faults, step.missing)?,
         })
@@ -181,7 +181,7 @@ impl Record {
             octets: self.octets,
             breaks: self.breaks,
             tag: self.tag,
-            site: again.site,
+            standing: again.standing,
             mode: again.after,
             faults: keep_faults(alloc, local, again.missing)?,
         })
@@ -212,9 +212,9 @@ impl Record {
     pub fn entry(&self) -> Option<u16>
         ensures { result ≡ self.now.step.entry }
     {
-        match self.site {
-            Site::Nowhere => None,
-            Site::At(entry) | Site::Over(entry) => Some(entry),
+        match self.standing {
+            Standing::Nowhere => None,
+            Standing::At(entry) | Standing::Over(entry) => Some(entry),
         }
     }
 
@@ -222,7 +222,7 @@ impl Record {
     pub fn is_over(&self) -> bool
         ensures { result ≡ self.now.step.over }
     {
-        matches!(self.site, Site::Over(_))
+        matches!(self.standing, Standing::Over(_))
     }
 
     /// Whether something is to be said of it by what is kept of it alone: it opens, closes or stops a message, has a local

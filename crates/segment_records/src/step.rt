@@ -7,7 +7,7 @@ ghost use Rattle.seg_lexer.specs.Service.{IsUsable};
 ghost use Rattle.edi_octets.specs.declared.octets.TheConstants.{LONGEST_TEXT};
 ghost use Rattle.segment_records.specs.Records.{IsModeOf};
 ghost use Rattle.segment_records.specs.Steps.{inner_step, opening_step, plain_step as step_to, step_of};
-ghost use Rattle.segment_records.specs.Sites.{entry_at, is_over_at};
+ghost use Rattle.segment_records.specs.Standings.{entry_at, is_over_at};
 ghost use Rattle.segment_records.specs.Taken.{read_as, taken};
 
 use crate::mode::Mode;
@@ -25,7 +25,7 @@ use table_walk::{State, start};
 
 /// Where a segment is: at no entry, at one, or at one where it is one too many.
 #[derive(Clone, Copy, Debug)]
-pub(crate) enum Site {
+pub(crate) enum Standing {
     Nowhere,
     At(u16),
     Over(u16),
@@ -34,25 +34,25 @@ pub(crate) enum Site {
 /// Where a segment is, what is missing before it, and the mode after it.
 #[derive(Debug, Drop)]
 pub(crate) struct Step {
-    pub(crate) site: Site,
+    pub(crate) standing: Standing,
     pub(crate) missing: SmallVec<u16, 4>,
     pub(crate) after: Mode,
 }
 
-// The site of a segment at this entry, if it is at one, where it is one too many or isn't.
+// The standing of a segment at this entry, if it is at one, where it is one too many or isn't.
 #[inline(always)]
-fn site_of(entry: Option<u16>, over: bool) -> Site
+fn standing_of(entry: Option<u16>, over: bool) -> Standing
     requires { entry ≡ None → over ≡ false }
     ensures entry { entry_at result ≡ entry }
     ensures over { is_over_at result ≡ over }
 {
     match entry {
-        None => Site::Nowhere,
+        None => Standing::Nowhere,
         Some(entry) => {
             if over {
-                Site::Over(entry)
+                Standing::Over(entry)
             } else {
-                Site::At(entry)
+                Standing::At(entry)
             }
         }
     }
@@ -136,7 +136,7 @@ fn open_message(
     };
     let state = start(alloc, directory.table(table as usize))?;
     Ok(Step {
-        site: Site::At(0),
+        standing: Standing::At(0),
         missing: SmallVec::new(alloc),
         after: Mode::Within { table, state },
     })
@@ -163,7 +163,7 @@ fn go_on<L: Ledger>(
 {
     let next = state.place(alloc, directory.table(table as usize), tag, placed)?;
     Ok(Step {
-        site: site_of(next.entry, next.over),
+        standing: standing_of(next.entry, next.over),
         missing: next.missing,
         after: unless_closed(
             tag,
@@ -180,7 +180,7 @@ fn plain_step(alloc: Global, after: Mode) -> Step
     ensures { taken result ≡ step_to after }
 {
     Step {
-        site: Site::Nowhere,
+        standing: Standing::Nowhere,
         missing: SmallVec::new(alloc),
         after,
     }

@@ -16,5 +16,5 @@ returns-clause-mode g c most mode =
     (subst (λ (ns : List Node). IsShaped ns c.in_ok-next.next.state) (sym nodes) c.in_ok-next.ensures.shaped)
     (c.in_ok-next.ensures.counts most mode.2)
 
-pub site_of-requires : goal.site_of-requires
-site_of-requires g c none = c.in_ok-next.ensures.over ∙ ap (is_over_in c.table.result.now c.args.state.now) none
+pub standing_of-requires : goal.standing_of-requires
+standing_of-requires g c none = c.in_ok-next.ensures.over ∙ ap (is_over_in c.table.result.now c.args.state.now) none

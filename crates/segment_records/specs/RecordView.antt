@@ -24,5 +24,10 @@ seen r = record {
   breaks = r.breaks;
   tag = r.tag;
   local = local_in r.faults;
-  step = record { entry = entry_at r.standing; missing = missing_in r.faults; over = is_over_at r.standing; after = r.mode };
+  step = record {
+    entry = entry_at r.standing;
+    missing = missing_in r.faults;
+    over = is_over_at r.standing;
+    after = r.mode;
+  };
 }

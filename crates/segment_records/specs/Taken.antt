@@ -10,7 +10,12 @@ use Rattle.segment_records.specs.Steps.{Step}
 -- a step as it was taken: the entry, what is missing, whether it is one too many, and the mode after it
 abbrev pub taken : TakenStep → Step
 taken step =
-    record { entry = entry_at step.standing; missing = step.missing.items; over = is_over_at step.standing; after = step.after }
+    record {
+      entry = entry_at step.standing;
+      missing = step.missing.items;
+      over = is_over_at step.standing;
+      after = step.after;
+    }
 
 -- a segment with this tag and these components: a step doesn't look at its places
 abbrev pub read_as : Option Tag → List Component → Segment

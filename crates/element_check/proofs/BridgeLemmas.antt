@@ -17,7 +17,7 @@ use Rattle.seg_lexer.specs.Tag.{past_tag_field, tag_of}
 use Rattle.seg_lexer.specs.declared.context.Context.{Context}
 use Rattle.dir_compile.specs.declared.parts.Parts.{Parts}
 use Rattle.element_check.specs.Rules.{SegmentRules, rules_of}
-use Rattle.element_check.specs.Streams.{after_front, errors_past, errors_ruled, front_values, is_filled, is_repeatable, item_errors, items_errors, repeated_errors, surplus_elements}
+use Rattle.element_check.specs.Streams.{after_front, errors_past, errors_ruled, front_values, is_filled_component, is_repeatable, item_errors, items_errors, repeated_errors, surplus_elements}
 use Rattle.element_check.specs.declared.error.LocalError.{LocalError}
 use Rattle.element_check.proofs.StreamLemmas.{after-few}
 use Rattle.element_check.proofs.ElementLemmas.{HoldsFrom, holds-here, holds-later, holds-none}
@@ -51,7 +51,7 @@ after-last element (x ∷ xs) =
 surplus-none : (n : ℕ) (xs : List Component) → last_written xs ≤ n → surplus_elements n xs ≡ []
 surplus-none n [] le = refl
 surplus-none n (x ∷ xs) le =
-    ap (λ b. cond (b && is_filled x) (error_at x.element 0 TooManyElements ∷ surplus_elements x.element xs) (surplus_elements n xs)) (is-false n x.element (omega arith))
+    ap (λ b. cond (b && is_filled_component x) (error_at x.element 0 TooManyElements ∷ surplus_elements x.element xs) (surplus_elements n xs)) (is-false n x.element (omega arith))
     ∙ surplus-none n xs (omega arith)
 
 -- the first component that is left, by tests of its element
@@ -67,9 +67,9 @@ filled-none low element [] order less = refl
 filled-none low element (x ∷ xs) order less =
     let first = order.0 in
     let later : element < x.element = omega arith in
-    ap (λ b. (b && is_filled x) || any_filled element xs) (eq-above x.element element later) ∙ filled-none x.element element xs order.1 later
+    ap (λ b. (b && is_filled_component x) || any_filled element xs) (eq-above x.element element later) ∙ filled-none x.element element xs order.1 later
 
-skip : (b : Bool) (n : ℕ) (x : Component) (xs : List Component) → is_filled x ≡ false → told_by n ((b && is_filled x) || any_filled n xs) ≡ told_by n (any_filled n xs)
+skip : (b : Bool) (n : ℕ) (x : Component) (xs : List Component) → is_filled_component x ≡ false → told_by n ((b && is_filled_component x) || any_filled n xs) ≡ told_by n (any_filled n xs)
 skip true n x xs empty = ap (λ f. told_by n (f || any_filled n xs)) empty
 skip false n x xs empty = refl
 
@@ -80,29 +80,29 @@ never false n x xs = refl
 -- the next element is reported, or it isn't
 surplus-step : (low n : ℕ) (xs : List Component) → IsInOrder low xs → told_by (n + 1) (any_filled (n + 1) xs) ++ surplus_elements (n + 1) xs ≡ surplus_elements n xs
 surplus-step low n [] order = refl
-surplus-step low n (x ∷ xs) order = elim (cases_Bool (is_filled x)) [
+surplus-step low n (x ∷ xs) order = elim (cases_Bool (is_filled_component x)) [
   | inl filled ↦ elim (cases_Bool (eqb x.element (n + 1))) [
     | inl same ↦
         let is : x.element ≡ n + 1 = eq-is x.element (n + 1) same in
-        ap (λ b. told_by (n + 1) ((b && is_filled x) || any_filled (n + 1) xs) ++ surplus_elements (n + 1) (x ∷ xs)) same
+        ap (λ b. told_by (n + 1) ((b && is_filled_component x) || any_filled (n + 1) xs) ++ surplus_elements (n + 1) (x ∷ xs)) same
         ∙ ap (λ b. told_by (n + 1) (b || any_filled (n + 1) xs) ++ surplus_elements (n + 1) (x ∷ xs)) filled
-        ∙ ap (λ b. error_at (n + 1) 0 TooManyElements ∷ surplus_by b (is_filled x) (n + 1) x xs) (is-false (n + 1) x.element (omega arith))
+        ∙ ap (λ b. error_at (n + 1) 0 TooManyElements ∷ surplus_by b (is_filled_component x) (n + 1) x xs) (is-false (n + 1) x.element (omega arith))
         ∙ ap (λ (e : ℕ). error_at e 0 TooManyElements ∷ surplus_elements e xs) (sym is)
-        ∙ sym (ap (λ b. surplus_by b (is_filled x) n x xs) (is-true n x.element (omega arith)) ∙ ap (λ b. surplus_by true b n x xs) filled)
+        ∙ sym (ap (λ b. surplus_by b (is_filled_component x) n x xs) (is-true n x.element (omega arith)) ∙ ap (λ b. surplus_by true b n x xs) filled)
     | inr differs ↦ elim (cases_Bool (ltb n x.element)) [
       | inl later ↦
           let above : n + 1 < x.element = grind (arith, nat_tests) in
-          ap (λ b. told_by (n + 1) ((b && is_filled x) || any_filled (n + 1) xs) ++ surplus_elements (n + 1) (x ∷ xs)) differs
+          ap (λ b. told_by (n + 1) ((b && is_filled_component x) || any_filled (n + 1) xs) ++ surplus_elements (n + 1) (x ∷ xs)) differs
           ∙ ap (λ b. told_by (n + 1) b ++ surplus_elements (n + 1) (x ∷ xs)) (filled-none x.element (n + 1) xs order.1 above)
-          ∙ ap (λ b. surplus_by b (is_filled x) (n + 1) x xs) (is-true (n + 1) x.element above)
+          ∙ ap (λ b. surplus_by b (is_filled_component x) (n + 1) x xs) (is-true (n + 1) x.element above)
           ∙ ap (λ b. surplus_by true b (n + 1) x xs) filled
-          ∙ sym (ap (λ b. surplus_by b (is_filled x) n x xs) later ∙ ap (λ b. surplus_by true b n x xs) filled)
+          ∙ sym (ap (λ b. surplus_by b (is_filled_component x) n x xs) later ∙ ap (λ b. surplus_by true b n x xs) filled)
       | inr before ↦
           let below : x.element < n + 1 = grind (arith, nat_tests) in
-          ap (λ b. told_by (n + 1) ((b && is_filled x) || any_filled (n + 1) xs) ++ surplus_elements (n + 1) (x ∷ xs)) differs
-          ∙ ap (λ b. told_by (n + 1) (any_filled (n + 1) xs) ++ surplus_by b (is_filled x) (n + 1) x xs) (is-false (n + 1) x.element (omega arith))
+          ap (λ b. told_by (n + 1) ((b && is_filled_component x) || any_filled (n + 1) xs) ++ surplus_elements (n + 1) (x ∷ xs)) differs
+          ∙ ap (λ b. told_by (n + 1) (any_filled (n + 1) xs) ++ surplus_by b (is_filled_component x) (n + 1) x xs) (is-false (n + 1) x.element (omega arith))
           ∙ surplus-step x.element n xs order.1
-          ∙ sym (ap (λ b. surplus_by b (is_filled x) n x xs) before)
+          ∙ sym (ap (λ b. surplus_by b (is_filled_component x) n x xs) before)
     ]
   ]
   | inr empty ↦

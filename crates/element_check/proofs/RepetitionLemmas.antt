@@ -6,7 +6,7 @@ use Rattle.std.specs.List.{list_all, list_any, range_with_len}
 use Rattle.seg_lexer.specs.Fields.{Component, IsInOrder, are_single}
 use Rattle.seg_lexer.proofs.OrderLemmas.{IsInOrder-lower}
 use Rattle.element_check.specs.Local.{has_octet, is_used, last_repetition, repetitions_of, values_in}
-use Rattle.element_check.specs.Streams.{after_front, front_values, is_filled, is_of}
+use Rattle.element_check.specs.Streams.{after_front, front_values, is_filled_component, is_of}
 
 -- the tests of two numbers
 pub is-true : (a b : ℕ) → a < b → ltb a b ≡ true
@@ -215,7 +215,7 @@ any-map f g first (suc len) = ap (λ b. f (g first) || b) (any-map f g (first + 
 
 -- a component of an element is filled
 abbrev pub any_filled : ℕ → List Component → Bool
-any_filled element xs = list_any (λ x. eqb x.element element && is_filled x) xs
+any_filled element xs = list_any (λ x. eqb x.element element && is_filled_component x) xs
 
 module _ (x : Component) (xs : List Component) (element : ℕ) where
   used-here : (r : ℕ) → is_of element r x ≡ true → is_used (values_in (x ∷ xs) element r) ≡ (has_octet x.octets || is_used (values_in xs element r))
@@ -271,17 +271,17 @@ used-within element n (x ∷ xs) le = elim (cases_Bool (eqb x.element element)) 
             let least : 0 < x.repetition = grind (arith, nat_tests) in
             used-put x xs element here 1 n (omega arith) (omega arith)
             ∙ ap (λ b. has_octet x.octets || b) later
-            ∙ sym (ap (λ b. (b && is_filled x) || any_filled element xs) here ∙ ap (λ b. (b && has_octet x.octets) || any_filled element xs) numbered)
+            ∙ sym (ap (λ b. (b && is_filled_component x) || any_filled element xs) here ∙ ap (λ b. (b && has_octet x.octets) || any_filled element xs) numbered)
         | inr unnumbered ↦
             let none : x.repetition < 1 = grind (arith, nat_tests) in
             used-skip x xs element here 1 n none ∙ later
-            ∙ sym (ap (λ b. (b && is_filled x) || any_filled element xs) here ∙ ap (λ b. (b && has_octet x.octets) || any_filled element xs) unnumbered)
+            ∙ sym (ap (λ b. (b && is_filled_component x) || any_filled element xs) here ∙ ap (λ b. (b && has_octet x.octets) || any_filled element xs) unnumbered)
       ]
   | inr other ↦
       let most : last_repetition (x ∷ xs) element ≡ last_repetition xs element = last-other x xs element other in
       any-same (λ r. is_used (values_in (x ∷ xs) element r)) (λ r. is_used (values_in xs element r)) 1 n (λ k le. ap is_used (values-other x xs element k (of-other x xs element k other)))
       ∙ used-within element n xs (omega arith)
-      ∙ sym (ap (λ b. (b && is_filled x) || any_filled element xs) other)
+      ∙ sym (ap (λ b. (b && is_filled_component x) || any_filled element xs) other)
 ]
 
 pub used-any : (element : ℕ) (xs : List Component) → list_any is_used (repetitions_of xs element) ≡ any_filled element xs

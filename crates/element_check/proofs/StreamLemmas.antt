@@ -18,7 +18,7 @@ use Rattle.seg_lexer.specs.Fields.{Component}
 use Rattle.seg_lexer.specs.declared.context.Context.{Context}
 use Rattle.element_check.specs.Local.{element_errors, error_at, has_octet, is_list_named, names_list, repetitions_of}
 use Rattle.element_check.specs.Rules.{SegmentRules, list_of}
-use Rattle.element_check.specs.Streams.{after_front, after_run, alone_errors, first_value, front_run, front_values, is_of, item_errors, items_errors, later_values, part_errors, part_rules, parts_errors, is_filled, repeated_errors, surplus_components, surplus_elements, told_errors}
+use Rattle.element_check.specs.Streams.{after_front, after_run, alone_errors, first_value, front_run, front_values, is_of, item_errors, items_errors, later_values, part_errors, part_rules, parts_errors, is_filled_component, repeated_errors, surplus_components, surplus_elements, told_errors}
 use Rattle.element_check.specs.Value.{test_results}
 use Rattle.element_check.specs.declared.error.LocalError.{LocalError}
 use Rattle.element_check.proofs.ErrorsLemmas.{full_step}
@@ -59,7 +59,7 @@ surplus_elements-first : (n : ℕ) (x : Component) (xs : List Component) (empty 
 surplus_elements-first n x xs empty past numbered empty_is filled =
     let later : ltb n x.element ≡ true = grind (arith, nat_tests) in
     let from_one : ltb 0 x.repetition ≡ true = grind (arith, nat_tests) in
-    ap (λ (b : Bool). cond (b && is_filled x) (error_at x.element 0 TooManyElements ∷ surplus_elements x.element xs) (surplus_elements n xs)) later
+    ap (λ (b : Bool). cond (b && is_filled_component x) (error_at x.element 0 TooManyElements ∷ surplus_elements x.element xs) (surplus_elements n xs)) later
     ∙ ap (λ (b : Bool). cond (b && not (eqb (length x.octets) 0)) (error_at x.element 0 TooManyElements ∷ surplus_elements x.element xs) (surplus_elements n xs)) from_one
     ∙ ap (λ (b : Bool). cond (not b) (error_at x.element 0 TooManyElements ∷ surplus_elements x.element xs) (surplus_elements n xs)) (sym empty_is ∙ filled)
 

@@ -157,14 +157,14 @@ item_errors rules element (Composite code must reps) values =
     composite_errors rules element must (parts_of rules code.octets) values
 
 -- a component is filled, and belongs to a repetition: they are numbered from 1
-abbrev pub is_filled : Component → Bool
-is_filled x = nat_lt 0 x.repetition && has_octet x.octets
+abbrev pub is_filled_component : Component → Bool
+is_filled_component x = nat_lt 0 x.repetition && has_octet x.octets
 
 -- the errors of the elements past the one of this number
 abbrev pub surplus_elements : ℕ → List Component → List LocalError
 surplus_elements n [] = []
 surplus_elements n (x ∷ xs) =
-    if nat_lt n x.element && is_filled x
+    if nat_lt n x.element && is_filled_component x
     then error_at x.element 0 TooManyElements ∷ surplus_elements x.element xs
     else surplus_elements n xs
 

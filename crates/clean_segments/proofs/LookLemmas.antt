@@ -70,11 +70,11 @@ module _ (sp : Separators) (xs : List ℕ) (element n : ℕ) (other : eqb elemen
       → front_values n (map unplaced (repetitions_after sp xs element c (enumerate_from r (stretches a cuts b)) ++ rest)) ≡ []
   unfolding stretches
   first-repetition r c a b [] rest =
-      ap (λ (fs : List PlacedComponent). front_values n (map unplaced fs)) (append_assoc (components_in sp xs element r c (record { from = a; to = b })) [] rest)
+      ap (λ (fs : List PlacedComponent). front_values n (map unplaced fs)) (append_assoc (components_in sp xs element r (c, record { from = a; to = b })) [] rest)
       ∙ first-of r c a b (places_that (is_cut sp.release xs sp.component) a b) rest
   first-repetition r c a b (k ∷ cuts) rest =
       let later : List PlacedComponent = flat_map (repetition_in sp xs element) (enumerate_from (r + 1) (stretches (k + 1) cuts b)) in
-      ap (λ (fs : List PlacedComponent). front_values n (map unplaced fs)) (append_assoc (components_in sp xs element r c (record { from = a; to = k })) later rest)
+      ap (λ (fs : List PlacedComponent). front_values n (map unplaced fs)) (append_assoc (components_in sp xs element r (c, record { from = a; to = k })) later rest)
       ∙ first-of r c a k (places_that (is_cut sp.release xs sp.component) a k) (later ++ rest)
 
   first-from : (r c a b : ℕ) (cuts : List ℕ) → front_values n (map unplaced (fields_after sp xs r c (enumerate_from element (stretches a cuts b)))) ≡ []

@@ -9,7 +9,7 @@ use Rattle.std.proofs.lemmas.List.Folds.{list_any-append, list_any_at}
 use Rattle.memchr.specs.Find.{NoneBefore, Nowhere}
 use Rattle.seg_lexer.specs.Fields.{Component, components_of, is_cut, is_repeat, is_separator, unplaced}
 use Rattle.seg_lexer.specs.Released.{is_release, is_released, value_of}
-use Rattle.seg_lexer.specs.Place.{fields_from}
+use Rattle.seg_lexer.specs.Place.{fields_from, place_by}
 use Rattle.seg_lexer.specs.declared.service.Separators.{Separators}
 use Rattle.seg_lexer.proofs.FieldsLemmas.{fields_from-component, fields_from-element, fields_from-last, fields_of-from}
 use Rattle.seg_lexer.proofs.ForwardLemmas.{value_of-all}
@@ -91,7 +91,7 @@ module _ (sp : Separators) (xs : List ℕ) (plain : list_any (is_release sp.rele
         let high = before.high in
         let within : j ≤ length xs = omega arith in
         ap (map unplaced) (fields_from-element sp xs s.element 1 s.component s.at j before.low before.high no-element (none-repeats s.element s.at j within) no-component (a-cut sp.element j before.high is))
-        ∙ ap (λ (ys : List ℕ). record { element = s.element; repetition = 1; component = s.component; octets = ys } ∷ map unplaced (fields_from sp xs (s.element + 1) 1 1 (j + 1))) (kept s.at j before.low)
+        ∙ ap (λ (ys : List ℕ). record { element = s.element; repetition = 1; component = s.component; octets = ys } ∷ map unplaced (fields_from sp xs (place_by (s.element + 1) 1 1 (j + 1)))) (kept s.at j before.low)
         ∙ sym (ap (λ (q : Start). component s j ∷ plain_rest sp xs (Some q)) p_is)
 
     -- a component before another one of its element
@@ -107,7 +107,7 @@ module _ (sp : Separators) (xs : List ℕ) (plain : list_any (is_release sp.rele
           | inr less ↦ before.before k low less (inl same)
         ] in
         ap (map unplaced) (fields_from-component sp xs s.element 1 s.component s.at j low high (no-cut sp.element s.at (j + 1) none) (none-repeats s.element s.at (j + 1) (omega arith)) no-component (a-cut sp.component j high here))
-        ∙ ap (λ (ys : List ℕ). record { element = s.element; repetition = 1; component = s.component; octets = ys } ∷ map unplaced (fields_from sp xs s.element 1 (s.component + 1) (j + 1))) (kept s.at j low)
+        ∙ ap (λ (ys : List ℕ). record { element = s.element; repetition = 1; component = s.component; octets = ys } ∷ map unplaced (fields_from sp xs (place_by s.element 1 (s.component + 1) (j + 1)))) (kept s.at j low)
         ∙ sym (ap (λ (q : Start). component s j ∷ plain_rest sp xs (Some q)) p_is)
 
     -- a component before another one, by the separator that ends it

@@ -3,7 +3,7 @@
 use Rattle.std.specs.Prelude.{ℕ, ◌+◌, ◌≤◌, ◌≡◌, ◌⊎◌, List, [], length, map, slice_index, Option, Some, None}
 use Rattle.edi_tables.specs.Octets.{Octets}
 use Rattle.seg_lexer.specs.Fields.{Component, unplaced}
-use Rattle.seg_lexer.specs.Place.{fields_from}
+use Rattle.seg_lexer.specs.Place.{fields_from, place_by}
 use Rattle.seg_lexer.specs.declared.service.Separators.{Separators}
 use Rattle.clean_segments.specs.declared.fields.Start.{Start}
 
@@ -20,4 +20,4 @@ IsSeparator sp xs i = (slice_index xs i ≡ sp.element) ⊎ (slice_index xs i �
 -- the components of a segment from there on
 abbrev pub plain_rest : Separators → Octets → Option Start → List Component
 plain_rest sp xs None = []
-plain_rest sp xs (Some s) = map unplaced (fields_from sp xs s.element 1 s.component s.at)
+plain_rest sp xs (Some s) = map unplaced (fields_from sp xs (place_by s.element 1 s.component s.at))

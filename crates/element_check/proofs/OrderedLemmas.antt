@@ -6,7 +6,7 @@ use Rattle.std.proofs.lemmas.List.{append_assoc}
 use Rattle.edi_octets.specs.declared.octets.Octets.{Ghosts}
 use Rattle.seg_lexer.specs.Fields.{Component, PlacedComponent, component_in, components_in, cut, element_in, placed, repetition_in, repetitions_in, unplaced}
 use Rattle.seg_lexer.specs.Left.{components_left, fields_left}
-use Rattle.seg_lexer.specs.Place.{fields_after, fields_from, repetitions_after, rest_of}
+use Rattle.seg_lexer.specs.Place.{fields_after, fields_from, place_by, repetitions_after, rest_of}
 use Rattle.seg_lexer.specs.Stretch.{Stretch}
 use Rattle.seg_lexer.specs.Tag.{past_tag_field}
 use Rattle.seg_lexer.specs.declared.components.Fields.{Fields}
@@ -51,7 +51,7 @@ module _ (sp : Separators) (xs : List ℕ) where
   ordered-rest element r c [] later h = later-ordered element r (map unplaced later) h
   ordered-rest element r c (s ∷ ss) later h =
       let others : List PlacedComponent = flat_map (repetition_in sp xs element) (enumerate_from (r + 1) ss) in
-      subst (λ (fs : List PlacedComponent). AreOrdered element r (map unplaced fs)) (sym (append_assoc (components_in sp xs element r c s) others later))
+      subst (λ (fs : List PlacedComponent). AreOrdered element r (map unplaced fs)) (sym (append_assoc (components_in sp xs element r (c, s)) others later))
       (ordered-components element r (enumerate_from c (cut sp.release xs sp.component s.from s.to)) (others ++ later)
       (ordered-more element (r + 1) r (map unplaced (others ++ later)) (omega arith) (ordered-repetitions element (r + 1) ss later h)))
 
@@ -59,7 +59,7 @@ module _ (sp : Separators) (xs : List ℕ) where
   ordered-after_place element r c [] = tt
   ordered-after_place element r c (s ∷ ss) = ordered-rest element r c (repetitions_in sp xs element s) _ (ordered-elements (element + 1) ss)
 
-  ordered-from : (element r c a : ℕ) → AreOrdered element r (map unplaced (fields_from sp xs element r c a))
+  ordered-from : (element r c a : ℕ) → AreOrdered element r (map unplaced (fields_from sp xs (place_by element r c a)))
   unfolding fields_from
   ordered-from element r c a = ordered-after_place element r c (cut sp.release xs sp.element a (length xs))
 
@@ -72,7 +72,7 @@ module _ (sp : Separators) (xs : List ℕ) (start : ℕ) where
   rest-ordered : (q : Option ComponentPlace) → AreOrdered 0 0 (map unplaced (map (placed start) (rest_of sp xs q)))
   rest-ordered None = tt
   rest-ordered (Some p) =
-      subst (AreOrdered 0 0) (sym (map-unplaced-placed start (fields_from sp xs p.element p.repetition p.component p.at)))
+      subst (AreOrdered 0 0) (sym (map-unplaced-placed start (fields_from sp xs (place_by p.element p.repetition p.component p.at))))
       (ordered-zero p.element p.repetition _ (ordered-from sp xs p.element p.repetition p.component p.at))
 
 components_left-ordered : {O : Type 0} {o : Ghosts O} (f : Fields O o) → AreOrdered 0 0 (components_left f)

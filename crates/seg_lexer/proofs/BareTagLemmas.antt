@@ -7,7 +7,7 @@ use Rattle.std.proofs.lemmas.List.{take-append-drop, take_all}
 use Rattle.memchr.specs.Find.{Nowhere}
 use Rattle.edi_tables.specs.Tag.{is_tag_of}
 use Rattle.seg_lexer.specs.Fields.{Component, PlacedComponent, components_of, fields_of, is_cut, is_repeat, unplaced}
-use Rattle.seg_lexer.specs.Place.{fields_from}
+use Rattle.seg_lexer.specs.Place.{fields_from, place_by}
 use Rattle.seg_lexer.specs.Released.{is_release, is_released, value_of}
 use Rattle.seg_lexer.specs.Tag.{IsBare, tag_field, tag_of}
 use Rattle.seg_lexer.specs.declared.service.Separators.{Separators}
@@ -66,7 +66,7 @@ module _ (sp : Separators) (a b c : ℕ) (bare_a : IsBare sp a) (bare_b : IsBare
       let ys : List ℕ = sp.element ∷ more in
       let xs : List ℕ = a ∷ b ∷ c ∷ ys in
       let here : is_cut sp.release xs sp.element 3 ≡ true = and_from _ _ (eq-eqb sp.element sp.element refl) (ap not (free ys)) in
-      let later : List PlacedComponent = fields_from sp xs 1 1 1 4 in
+      let later : List PlacedComponent = fields_from sp xs (place_by 1 1 1 4) in
       let fields : fields_of sp xs ≡ _ = sym (fields_of-from sp xs) ∙ fields_from-element sp xs 0 1 1 0 3 (omega arith) (omega arith) (no-element ys) (no-repeat ys) (no-component ys) here in
       let past : tag_field (map unplaced later) ≡ [] = tag_field-past 1 (map unplaced later) (omega arith) (IsInOrder-from sp xs 1 1 1 4) in
       tag-by ys (components_of sp xs) _ (map unplaced later) (ap (map unplaced) fields) refl (own-value ys) past tag

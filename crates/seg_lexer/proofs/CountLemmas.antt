@@ -50,10 +50,10 @@ module _ (f : ℕ × Stretch → List PlacedComponent) (few : (n a b : ℕ) → 
   length-cut m a b low = length-all m a a (b - a) b (omega arith) (omega arith)
 
 module _ (sp : Separators) (xs : List ℕ) where
-  length-components_in : (element r c a b : ℕ) → length (components_in sp xs element r c (record { from = a; to = b })) ≤ (b - a) + 1
+  length-components_in : (element r c a b : ℕ) → length (components_in sp xs element r (c, record { from = a; to = b })) ≤ (b - a) + 1
   length-components_in element r c a b =
       let cuts : List ℕ = places_that (is_cut sp.release xs sp.component) a b in
-      let all : length (components_in sp xs element r c (record { from = a; to = b })) ≡ length (enumerate_from c (stretches a cuts b)) = length-map (enumerate_from c (stretches a cuts b)) (component_in sp.release xs element r) in
+      let all : length (components_in sp xs element r (c, record { from = a; to = b })) ≡ length (enumerate_from c (stretches a cuts b)) = length-map (enumerate_from c (stretches a cuts b)) (component_in sp.release xs element r) in
       let numbered : length (enumerate_from c (stretches a cuts b)) ≡ length (stretches a cuts b) = length-enumerate_from c (stretches a cuts b) in
       let parts : length (stretches a cuts b) ≡ length cuts + 1 = length-stretches a cuts b in
       let few : length cuts ≤ b - a = length-places_that (is_cut sp.release xs sp.component) a b in

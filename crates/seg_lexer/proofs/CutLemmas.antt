@@ -6,7 +6,7 @@ use Rattle.std.proofs.lemmas.Bool.{and_from, and_left, and_parts, both_ways, eq-
 use Rattle.std.proofs.lemmas.List.Edits.{length-between, get_or-between}
 use Rattle.memchr.specs.Find.{NoneBefore, Nowhere}
 use Rattle.seg_lexer.specs.Fields.{component_in, is_cut, is_repeat, is_repeating, is_separator}
-use Rattle.seg_lexer.specs.Place.{AreApart, IsPlace, fields_from, rest_of}
+use Rattle.seg_lexer.specs.Place.{AreApart, IsPlace, fields_from, place_by, rest_of}
 use Rattle.seg_lexer.specs.Released.{is_release, is_released}
 use Rattle.seg_lexer.specs.Scan.{IsFree, is_sought, sought_for}
 use Rattle.seg_lexer.specs.declared.components.ComponentPlace.{ComponentPlace}
@@ -132,7 +132,7 @@ place at element repetition component = record { at = at; element = element; rep
 -- what a search shows, in the words of the segment
 module _ (sp : Separators) (text : List ℕ) (start end a : ℕ) (s : Stands sp.release text start end a) (element : ℕ) (sought : Sought) (ending : (x : ℕ) → is_sought sought x ≡ is_ending sp element x) (r c : ℕ) where
   pub rest-last : Nowhere (IsFree sp.release sought text (start + a)) (start + a) end
-      → fields_from sp (between start end text) element r c a ≡ component_in sp.release (between start end text) element r (c, record { from = a; to = end - start }) ∷ []
+      → fields_from sp (between start end text) (place_by element r c a) ≡ component_in sp.release (between start end text) element r (c, record { from = a; to = end - start }) ∷ []
   rest-last none =
       let len : length (between start end text) ≡ end - start = length-between text start end s.within in
       let inside = s.inside in let ordered = s.ordered in
@@ -163,7 +163,7 @@ module _ (sp : Separators) (text : List ℕ) (start end a : ℕ) (s : Stands sp.
     -- the component that ends there, and those that come next
     abbrev IsRest : ComponentPlace → Type 0
     IsRest p =
-        fields_from sp (between start end text) element r c a
+        fields_from sp (between start end text) (place_by element r c a)
         ≡ component_in sp.release (between start end text) element r (c, record { from = a; to = found - start }) ∷ rest_of sp (between start end text) (Some p)
 
     none-element : Nowhere (λ i. is_cut sp.release (between start end text) sp.element i ≡ true) a (found - start)

@@ -5,7 +5,7 @@ use Rattle.std.specs.List.{enumerate_from, flat_map, slice_get}
 use Rattle.memchr.specs.Find.{Nowhere}
 use Rattle.seg_lexer.specs.Fields.{PlacedComponent, component_in, components_in, cut, cut_where, element_in, fields_of, is_cut, is_repeat, repetition_in, repetitions_in, stretches}
 use Rattle.seg_lexer.specs.Stretch.{Stretch, places_that}
-use Rattle.seg_lexer.specs.Place.{element_from, fields_after, fields_from, repetitions_after}
+use Rattle.seg_lexer.specs.Place.{element_from, fields_after, fields_from, place_by, repetitions_after}
 use Rattle.seg_lexer.specs.declared.service.Separators.{Separators}
 use Rattle.seg_lexer.proofs.PlacesLemmas.{places_that-first, places_that-later, places_that-none, places_that-within}
 
@@ -30,7 +30,7 @@ fields_after-whole sp xs (p ∷ ps) =
     ap (λ fs. fs ++ flat_map (element_in sp xs) ps) (repetitions_after-whole sp xs p.0 (enumerate_from 1 (repetitions_in sp xs p.0 p.1)))
 
 -- all components of a segment are those from its first octet on
-pub fields_of-from : (sp : Separators) (xs : List ℕ) → fields_from sp xs 0 1 1 0 ≡ fields_of sp xs
+pub fields_of-from : (sp : Separators) (xs : List ℕ) → fields_from sp xs (place_by 0 1 1 0) ≡ fields_of sp xs
 unfolding fields_from fields_of
 fields_of-from sp xs = fields_after-whole sp xs (enumerate_from 0 (cut sp.release xs sp.element 0 (length xs)))
 
@@ -48,17 +48,17 @@ module _ (sp : Separators) (xs : List ℕ) (element r c a : ℕ) where
   abbrev here-to : ℕ → PlacedComponent
   here-to j = component_in sp.release xs element r (c, record { from = a; to = j })
 
-  one-component : (b : ℕ) → NoComponent b → components_in sp xs element r c (record { from = a; to = b }) ≡ here-to b ∷ []
+  one-component : (b : ℕ) → NoComponent b → components_in sp xs element r (c, record { from = a; to = b }) ≡ here-to b ∷ []
   one-component b none = ap (λ ss. map (component_in sp.release xs element r) (enumerate_from c ss)) (cut-none (is_cut sp.release xs sp.component) a b none)
 
   -- the last component of an element
-  one-left : (b : ℕ) → NoRepeat b → NoComponent b → element_from sp xs element r c (record { from = a; to = b }) ≡ here-to b ∷ []
+  one-left : (b : ℕ) → NoRepeat b → NoComponent b → element_from sp xs r c (element, record { from = a; to = b }) ≡ here-to b ∷ []
   one-left b no_repeat no_component =
       ap (λ ss. repetitions_after sp xs element c (enumerate_from r ss)) (cut-none (is_repeat sp xs element) a b no_repeat)
       ∙ ap (λ fs. fs ++ []) (one-component b no_component)
 
   -- the last component
-  pub fields_from-last : NoElement (length xs) → NoRepeat (length xs) → NoComponent (length xs) → fields_from sp xs element r c a ≡ here-to (length xs) ∷ []
+  pub fields_from-last : NoElement (length xs) → NoRepeat (length xs) → NoComponent (length xs) → fields_from sp xs (place_by element r c a) ≡ here-to (length xs) ∷ []
   unfolding fields_from
   fields_from-last no_element no_repeat no_component =
       ap (λ ss. fields_after sp xs r c (enumerate_from element ss)) (cut-none (is_cut sp.release xs sp.element) a (length xs) no_element)
@@ -66,7 +66,7 @@ module _ (sp : Separators) (xs : List ℕ) (element r c a : ℕ) where
 
   -- the last component of an element, before another element
   pub fields_from-element : (j : ℕ) → a ≤ j → j < length xs → NoElement j → NoRepeat j → NoComponent j → is_cut sp.release xs sp.element j ≡ true
-      → fields_from sp xs element r c a ≡ here-to j ∷ fields_from sp xs (element + 1) 1 1 (j + 1)
+      → fields_from sp xs (place_by element r c a) ≡ here-to j ∷ fields_from sp xs (place_by (element + 1) 1 1 (j + 1))
   unfolding fields_from
   fields_from-element j low high no_element no_repeat no_component here =
       let later : List (ℕ × Stretch) = enumerate_from (element + 1) (cut sp.release xs sp.element (j + 1) (length xs)) in
@@ -77,7 +77,7 @@ module _ (sp : Separators) (xs : List ℕ) (element r c a : ℕ) where
   -- place j ends the first component, and component c' of repetition r' comes next, wherever the stretch ends
   abbrev IsStep : ℕ → ℕ → ℕ → Type 0
   IsStep j r' c' =
-      (b : ℕ) → j < b → element_from sp xs element r c (record { from = a; to = b }) ≡ here-to j ∷ element_from sp xs element r' c' (record { from = j + 1; to = b })
+      (b : ℕ) → j < b → element_from sp xs r c (element, record { from = a; to = b }) ≡ here-to j ∷ element_from sp xs r' c' (element, record { from = j + 1; to = b })
 
   -- where the next element begins makes no difference to the first component
   by-elements : (j r' c' end : ℕ) → j < end → IsStep j r' c' → (cuts : List ℕ) → ((k : ℕ) → slice_get cuts 0 ≡ Some k → j < k)
@@ -87,7 +87,7 @@ module _ (sp : Separators) (xs : List ℕ) (element r c a : ℕ) where
   by-elements j r' c' end high step (k ∷ cuts) after =
       ap (λ fs. fs ++ flat_map (element_in sp xs) (enumerate_from (element + 1) (stretches (k + 1) cuts end))) (step k (after k refl))
 
-  within-element : (j r' c' : ℕ) → a ≤ j → j < length xs → NoElement (j + 1) → IsStep j r' c' → fields_from sp xs element r c a ≡ here-to j ∷ fields_from sp xs element r' c' (j + 1)
+  within-element : (j r' c' : ℕ) → a ≤ j → j < length xs → NoElement (j + 1) → IsStep j r' c' → fields_from sp xs (place_by element r c a) ≡ here-to j ∷ fields_from sp xs (place_by element r' c' (j + 1))
   unfolding fields_from
   within-element j r' c' low high no_element step =
       let cuts : List ℕ = places_that (is_cut sp.release xs sp.element) (j + 1) (length xs) in
@@ -103,12 +103,12 @@ module _ (sp : Separators) (xs : List ℕ) (element r c a : ℕ) where
 
   -- the last component of a repetition, before another one of its element
   pub fields_from-repetition : (j : ℕ) → a ≤ j → j < length xs → NoElement (j + 1) → NoRepeat j → NoComponent j → is_repeat sp xs element j ≡ true
-      → fields_from sp xs element r c a ≡ here-to j ∷ fields_from sp xs element (r + 1) 1 (j + 1)
+      → fields_from sp xs (place_by element r c a) ≡ here-to j ∷ fields_from sp xs (place_by element (r + 1) 1 (j + 1))
   fields_from-repetition j low high no_element no_repeat no_component here =
       within-element j (r + 1) 1 low high no_element (repeat-step j low no_repeat no_component here)
 
   component-first : (j b : ℕ) → a ≤ j → j < b → NoComponent j → is_cut sp.release xs sp.component j ≡ true
-      → components_in sp xs element r c (record { from = a; to = b }) ≡ here-to j ∷ components_in sp xs element r (c + 1) (record { from = j + 1; to = b })
+      → components_in sp xs element r (c, record { from = a; to = b }) ≡ here-to j ∷ components_in sp xs element r (c + 1, record { from = j + 1; to = b })
   component-first j b low high none here =
       ap (λ ss. map (component_in sp.release xs element r) (enumerate_from c ss)) (cut-first (is_cut sp.release xs sp.component) a j b low high none here)
 
@@ -128,6 +128,6 @@ module _ (sp : Separators) (xs : List ℕ) (element r c a : ℕ) where
 
   -- a component before another one of its repetition
   pub fields_from-component : (j : ℕ) → a ≤ j → j < length xs → NoElement (j + 1) → NoRepeat (j + 1) → NoComponent j → is_cut sp.release xs sp.component j ≡ true
-      → fields_from sp xs element r c a ≡ here-to j ∷ fields_from sp xs element r (c + 1) (j + 1)
+      → fields_from sp xs (place_by element r c a) ≡ here-to j ∷ fields_from sp xs (place_by element r (c + 1) (j + 1))
   fields_from-component j low high no_element no_repeat no_component here =
       within-element j r (c + 1) low high no_element (component-step j low no_repeat no_component here)

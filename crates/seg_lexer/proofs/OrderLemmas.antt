@@ -8,7 +8,7 @@ use Rattle.std.proofs.lemmas.List.{append_assoc}
 use Rattle.edi_octets.specs.declared.octets.Octets.{Ghosts}
 use Rattle.seg_lexer.specs.Fields.{Component, IsInOrder, PlacedComponent, component_in, components_in, components_of, cut, element_in, fields_of, octets_at, placed, repetition_in, repetitions_in, unplaced}
 use Rattle.seg_lexer.specs.Left.{components_left, fields_left}
-use Rattle.seg_lexer.specs.Place.{fields_after, fields_from, repetitions_after, rest_of}
+use Rattle.seg_lexer.specs.Place.{fields_after, fields_from, place_by, repetitions_after, rest_of}
 use Rattle.seg_lexer.specs.Stretch.{Stretch}
 use Rattle.seg_lexer.specs.declared.components.Fields.{Fields}
 use Rattle.seg_lexer.specs.declared.components.ComponentPlace.{ComponentPlace}
@@ -44,7 +44,7 @@ module _ (sp : Separators) (xs : List ℕ) where
   IsInOrder-rest element r c [] later h = h
   IsInOrder-rest element r c (s ∷ ss) later h =
       let others : List PlacedComponent = flat_map (repetition_in sp xs element) (enumerate_from (r + 1) ss) in
-      subst (λ (fs : List PlacedComponent). IsInOrder element (map unplaced fs)) (sym (append_assoc (components_in sp xs element r c s) others later))
+      subst (λ (fs : List PlacedComponent). IsInOrder element (map unplaced fs)) (sym (append_assoc (components_in sp xs element r (c, s)) others later))
       (IsInOrder-components element r (enumerate_from c (cut sp.release xs sp.component s.from s.to)) (others ++ later) (IsInOrder-repetitions element (r + 1) ss later h))
 
   IsInOrder-after : (element r c : ℕ) (ss : List Stretch) → IsInOrder element (map unplaced (fields_after sp xs r c (enumerate_from element ss)))
@@ -53,7 +53,7 @@ module _ (sp : Separators) (xs : List ℕ) where
       IsInOrder-rest element r c (repetitions_in sp xs element s) _ (IsInOrder-lower element (element + 1) _ (omega arith) (IsInOrder-elements (element + 1) ss))
 
   -- from a component of an element on
-  pub IsInOrder-from : (element r c a : ℕ) → IsInOrder element (map unplaced (fields_from sp xs element r c a))
+  pub IsInOrder-from : (element r c a : ℕ) → IsInOrder element (map unplaced (fields_from sp xs (place_by element r c a)))
   unfolding fields_from
   IsInOrder-from element r c a = IsInOrder-after element r c (cut sp.release xs sp.element a (length xs))
 
@@ -63,14 +63,14 @@ unfolding fields_left
 components_left-from {o = o} f p is =
     let xs : List ℕ = between f.start f.end (o.octets f.text.now) in
     subst (λ q. IsInOrder p.element (map unplaced (map (placed f.start) (rest_of f.separators xs q)))) (sym is)
-    (subst (IsInOrder p.element) (sym (map-unplaced-placed f.start (fields_from f.separators xs p.element p.repetition p.component p.at)))
+    (subst (IsInOrder p.element) (sym (map-unplaced-placed f.start (fields_from f.separators xs (place_by p.element p.repetition p.component p.at))))
     (IsInOrder-from f.separators xs p.element p.repetition p.component p.at))
 
 module _ (sp : Separators) (xs : List ℕ) (start : ℕ) where
   rest-in_order : (q : Option ComponentPlace) → IsInOrder 0 (map unplaced (map (placed start) (rest_of sp xs q)))
   rest-in_order None = tt
   rest-in_order (Some p) =
-      subst (IsInOrder 0) (sym (map-unplaced-placed start (fields_from sp xs p.element p.repetition p.component p.at)))
+      subst (IsInOrder 0) (sym (map-unplaced-placed start (fields_from sp xs (place_by p.element p.repetition p.component p.at))))
       (IsInOrder-lower 0 p.element _ (omega arith) (IsInOrder-from sp xs p.element p.repetition p.component p.at))
 
 pub components_left-in_order : {O : Type 0} {o : Ghosts O} (f : Fields O o) → IsInOrder 0 (components_left f)

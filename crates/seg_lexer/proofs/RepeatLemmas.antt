@@ -42,12 +42,12 @@ module _ (sp : Separators) (xs : List ℕ) (element : ℕ) where
   never-repeats single i = not-there i (ap (λ (o : Option ℕ). is_separator o (get_or xs i 0)) single)
 
   -- the element is one repetition
-  whole : (p : Stretch) → Nowhere (λ i. is_repeat sp xs element i ≡ true) p.from p.to → element_in sp xs (element, p) ≡ components_in sp xs element 1 1 p
+  whole : (p : Stretch) → Nowhere (λ i. is_repeat sp xs element i ≡ true) p.from p.to → element_in sp xs (element, p) ≡ components_in sp xs element 1 (1, p)
   whole p none =
       ap (λ ss. flat_map (repetition_in sp xs element) (enumerate_from 1 ss)) (cut-none (is_repeat sp xs element) p.from p.to none)
-      ∙ append-nil (components_in sp xs element 1 1 p)
+      ∙ append-nil (components_in sp xs element 1 (1, p))
 
-  pub one-repetition : sp.repetition ≡ None → (p : Stretch) → element_in sp xs (element, p) ≡ components_in sp xs element 1 1 p
+  pub one-repetition : sp.repetition ≡ None → (p : Stretch) → element_in sp xs (element, p) ≡ components_in sp xs element 1 (1, p)
   one-repetition single p = whole p (λ i low high is. both_ways _ (never-repeats single i) is)
 
 single-both : (fs gs : List PlacedComponent) → are_single (map unplaced fs) ≡ true → are_single (map unplaced gs) ≡ true → are_single (map unplaced (fs ++ gs)) ≡ true

@@ -77,14 +77,15 @@ component_in release xs element repetition p = record {
   octets = value_of release (octets_in xs p.1);
 }
 
--- the components of a stretch, which belongs to a repetition of an element, numbered from c
-abbrev pub components_in : Separators → Octets → ℕ → ℕ → ℕ → Stretch → List PlacedComponent
-components_in sp xs element repetition c p =
-    map (component_in sp.release xs element repetition) (enumerate_from c (cut sp.release xs sp.component p.from p.to))
+-- the components of a stretch, which belongs to a repetition of an element, by the number of the first
+abbrev pub components_in : Separators → Octets → ℕ → ℕ → ℕ × Stretch → List PlacedComponent
+components_in sp xs element repetition p =
+    map (component_in sp.release xs element repetition)
+    (enumerate_from p.0 (cut sp.release xs sp.component p.1.from p.1.to))
 
 -- all components of a repetition of an element that is this stretch of the segment, by its number
 abbrev pub repetition_in : Separators → Octets → ℕ → ℕ × Stretch → List PlacedComponent
-repetition_in sp xs element p = components_in sp xs element p.0 1 p.1
+repetition_in sp xs element p = components_in sp xs element p.0 (1, p.1)
 
 -- the repetitions of an element that is this stretch of the segment: without a separator it is one
 abbrev pub repetitions_in : Separators → Octets → ℕ → Stretch → List Stretch

@@ -18,22 +18,27 @@ AreApart sp = ForSome sp.release (λ r. (sp.element ≢ r) × (sp.component ≢ 
 abbrev pub repetitions_after : Separators → Octets → ℕ → ℕ → List (ℕ × Stretch) → List PlacedComponent
 repetitions_after sp xs element c [] = []
 repetitions_after sp xs element c (p ∷ ps) =
-    components_in sp xs element p.0 c p.1 ++ flat_map (repetition_in sp xs element) ps
+    components_in sp xs element p.0 (c, p.1) ++ flat_map (repetition_in sp xs element) ps
 
--- the components of a stretch, which belongs to an element, from component c of its repetition r on
-abbrev pub element_from : Separators → Octets → ℕ → ℕ → ℕ → Stretch → List PlacedComponent
-element_from sp xs element r c p = repetitions_after sp xs element c (enumerate_from r (repetitions_in sp xs element p))
+-- the components of a stretch, which is an element by its number, from component c of its repetition r on
+abbrev pub element_from : Separators → Octets → ℕ → ℕ → ℕ × Stretch → List PlacedComponent
+element_from sp xs r c p = repetitions_after sp xs p.0 c (enumerate_from r (repetitions_in sp xs p.0 p.1))
 
 -- from component c of repetition r of an element on: the components of the first of these stretches, which belongs to
 -- that element, and those of the later elements
 abbrev pub fields_after : Separators → Octets → ℕ → ℕ → List (ℕ × Stretch) → List PlacedComponent
 fields_after sp xs r c [] = []
-fields_after sp xs r c (p ∷ ps) = element_from sp xs p.0 r c p.1 ++ flat_map (element_in sp xs) ps
+fields_after sp xs r c (p ∷ ps) = element_from sp xs r c p ++ flat_map (element_in sp xs) ps
 
--- the components of a segment from component c of repetition r of an element on, which begins at place a
-unfoldable pub fields_from : Separators → Octets → ℕ → ℕ → ℕ → ℕ → List PlacedComponent
-fields_from sp xs element r c a =
-    fields_after sp xs r c (enumerate_from element (cut sp.release xs sp.element a (length xs)))
+-- where component c of repetition r of an element begins: at octet a
+abbrev pub place_by : ℕ → ℕ → ℕ → ℕ → ComponentPlace
+place_by element r c a = record { at = a; element = element; repetition = r; component = c }
+
+-- the components of a segment from the one on that begins at a place
+unfoldable pub fields_from : Separators → Octets → ComponentPlace → List PlacedComponent
+fields_from sp xs p =
+    fields_after sp xs p.repetition p.component
+    (enumerate_from p.element (cut sp.release xs sp.element p.at (length xs)))
 
 -- a component may begin there: no octet of the segment releases the one there,
 -- and its numbers are no greater than its place allows
@@ -47,7 +52,7 @@ pub record IsPlace (release : Option ℕ) (xs : Octets) (p : ComponentPlace) : T
 -- the components of a segment from there on
 abbrev pub rest_of : Separators → Octets → Option ComponentPlace → List PlacedComponent
 rest_of sp xs None = []
-rest_of sp xs (Some p) = fields_from sp xs p.element p.repetition p.component p.at
+rest_of sp xs (Some p) = fields_from sp xs p
 
 -- the component that begins at a place and ends before place `stop` of the segment
 abbrev pub component_to : Option ℕ → Octets → ComponentPlace → ℕ → PlacedComponent

@@ -47,7 +47,7 @@ told_words kind kind' manifest name manifest' name' asked files begun P read wor
 
 -- memory was refused before a script, and that is reported
 pub refused_in_room : (kind : ScriptKind) (room : ℕ → Type 0) (directory : Parts) (text : List ℕ) (before : Option (List ℕ)) (made : Outcome) (status : Status)
-    → made ≡ memory_refused → ((n : ℕ) → room n → length made.output ≤ n → status ≡ made.status) → IsAnsweredInRoom kind directory text before room status
+    → made ≡ memory_refused → ((n : ℕ) → room n → length made.output ≤ n → status ≡ made.status) → IsAnsweredInRoom kind (record { directory = directory; text = text }) before room status
 refused_in_room Edits room directory text before made status is told = λ cs more same lawful ended short has.
     let memory = edit_room_for_memory room directory text cs lawful has in
     let fits : length made.output ≤ memory.0 = subst (λ (o : Outcome). length o.output ≤ memory.0) (sym is) memory.2 in
@@ -65,16 +65,16 @@ what_files_give manifest name files begun made opening told =
 
 pub opened_in_room : (kind : ScriptKind) (manifest name : List ℕ) (files : Option (List ShelfFile)) (opened begun : Opened) (before : Option (List ℕ)) (room : ℕ → Type 0) (status : Status)
     → IsOpening manifest name files (Ok opened) → IsToldOpening manifest name files begun
-    → IsAnsweredInRoom kind opened.directory opened.text before room status → IsAnsweredInRoom kind begun.directory begun.text before room status
+    → IsAnsweredInRoom kind opened before room status → IsAnsweredInRoom kind begun before room status
 opened_in_room kind manifest name files opened begun before room status opening told answered =
     let both : Ok opened ≡ Ok begun = what_files_give manifest name files begun (Ok opened) opening told in
     let same : opened ≡ begun = cc in
-    subst (λ (o : Opened). IsAnsweredInRoom kind o.directory o.text before room status) same answered
+    subst (λ (o : Opened). IsAnsweredInRoom kind o before room status) same answered
 
 -- where the files give a directory and a text, and the shelf doesn't fail, only memory is refused in their place
 pub unopened_in_room : (kind : ScriptKind) (manifest name : List ℕ) (files : Option (List ShelfFile)) (begun : Opened) (Failed : Type 0) (due : Outcome) (before : Option (List ℕ)) (room : ℕ → Type 0) (status : Status)
     → IsUnopened manifest name files Failed due → IsToldOpening manifest name files begun → (due ≡ read_failed → Failed → ⊥)
-    → ((n : ℕ) → room n → length due.output ≤ n → status ≡ due.status) → IsAnsweredInRoom kind begun.directory begun.text before room status
+    → ((n : ℕ) → room n → length due.output ≤ n → status ≡ due.status) → IsAnsweredInRoom kind begun before room status
 unopened_in_room kind manifest name files begun Failed due before room status (inl opening) told unfailed finish =
     let both : Err due ≡ Ok begun = what_files_give manifest name files begun (Err due) opening told in absurd (cc)
 unopened_in_room kind manifest name files begun Failed due before room status (inr (inl failed)) told unfailed finish =

@@ -2,6 +2,7 @@
 use Rattle.std.specs.Prelude.{ℕ, Option}
 use Rattle.dir_compile.specs.Directory.{Directory}
 use Rattle.edi_tables.specs.Octets.{Octets}
+use Rattle.run_outcome.specs.Opening.{Opened}
 use Rattle.run_outcome.specs.declared.status.Status.{Status}
 use Rattle.script_answers.specs.Edit as edit
 use Rattle.script_answers.specs.Ran.{Ran}
@@ -21,6 +22,8 @@ IsAnsweredWhole Sessions before InputFailed SinkFailed status =
     session.IsAnsweredWhole before InputFailed SinkFailed status
 
 -- and where the sink has room for whatever replies its commands may get
-abbrev pub IsAnsweredInRoom : ScriptKind → Directory → Octets → Option Octets → (ℕ → Type 0) → Status → Type 0
-IsAnsweredInRoom Edits dir text before has_room status = edit.IsAnsweredInRoom dir text before has_room status
-IsAnsweredInRoom Sessions dir text before has_room status = session.IsAnsweredInRoom dir text before has_room status
+abbrev pub IsAnsweredInRoom : ScriptKind → Opened → Option Octets → (ℕ → Type 0) → Status → Type 0
+IsAnsweredInRoom Edits opened before has_room status =
+    edit.IsAnsweredInRoom opened.directory opened.text before has_room status
+IsAnsweredInRoom Sessions opened before has_room status =
+    session.IsAnsweredInRoom opened.directory opened.text before has_room status

@@ -70,7 +70,7 @@ pub(crate) fn answer_text<S: Shelf, I: Source, O: Sink>(
         ⊎ (HasFailed (Some (Script kind manifest.now text.now))
         (inputs_of S.Shelf shelf.old I.Source input.old)
         (inputs_of S.Shelf shelf.new I.Source input.new) → ⊥)
-        → IsAnsweredInRoom kind begun.directory begun.text
+        → IsAnsweredInRoom kind begun
         (I.rest input.old) (O.has_room out.old) result }
 {
     match open_both(alloc, manifest, text, shelf) {
@@ -101,7 +101,7 @@ fn answer_opened<I: Source, O: Sink>(
         (HasRisen (I.faults input.old) (I.faults input.new))
         (HasRisen (O.faults out.old) (O.faults out.new)) result }
     ensures room { I.is_steady input.old ⊎ (HasRisen (I.faults input.old) (I.faults input.new) → ⊥)
-        → IsAnsweredInRoom kind directory.now octets.now
+        → IsAnsweredInRoom kind (record { directory = directory.now; text = octets.now })
         (I.rest input.old) (O.has_room out.old) result }
 {
     match kind {
@@ -155,7 +155,7 @@ fn edit_counted<L: Ledger, M: Ledger, I: Source, O: Sink>(
         (HasRisen (I.faults input.old) (I.faults input.new))
         (HasRisen (O.faults out.old) (O.faults out.new)) result }
     ensures room { I.is_steady input.old ⊎ (HasRisen (I.faults input.old) (I.faults input.new) → ⊥)
-        → IsAnsweredInRoom Edits directory.now octets.now
+        → IsAnsweredInRoom Edits (record { directory = directory.now; text = octets.now })
         (I.rest input.old) (O.has_room out.old) result }
 {
     let mut lexed = Steps::<L>::start(lexing);
@@ -200,7 +200,7 @@ fn session_counted<L: Ledger, M: Ledger, I: Source, O: Sink>(
         (HasRisen (I.faults input.old) (I.faults input.new))
         (HasRisen (O.faults out.old) (O.faults out.new)) result }
     ensures room { I.is_steady input.old ⊎ (HasRisen (I.faults input.old) (I.faults input.new) → ⊥)
-        → IsAnsweredInRoom Sessions directory.now octets.now
+        → IsAnsweredInRoom Sessions (record { directory = directory.now; text = octets.now })
         (I.rest input.old) (O.has_room out.old) result }
 {
     let lexed = Steps::<L>::start(lexing);

@@ -16,13 +16,13 @@ use Rattle.script_answers.specs.Script.{HasRoomFor}
 use Rattle.script_answers.proofs.RoomLemmas.{room_for_memory}
 
 -- a script was answered by an editor of an engine that was opened with these
-pub edit_answered : (engine editor : Reading) (dir : Directory) (text : List ℕ) (ran : Ran) → engine ≡ record { directory = dir; text = text } → editor ≡ engine → script.IsScriptAnswered Edit IsEditStep editor ran → IsScriptAnswered dir text ran
+pub edit_answered : (engine editor : Reading) (dir : Directory) (text : List ℕ) (ran : Ran) → engine ≡ record { directory = dir; text = text } → editor ≡ engine → script.IsScriptAnswered (script.course_of Edit IsEditStep editor) ran → IsScriptAnswered dir text ran
 edit_answered engine editor dir text ran is same answered =
-    subst (λ (r : Reading). script.IsScriptAnswered Edit IsEditStep r ran) (same ∙ is) answered
+    subst (λ (r : Reading). script.IsScriptAnswered (script.course_of Edit IsEditStep r) ran) (same ∙ is) answered
 
-pub edit_in_room : (engine editor : Reading) (dir : Directory) (text : List ℕ) (before : Option (List ℕ)) (room : ℕ → Type 0) (status : Status) → engine ≡ record { directory = dir; text = text } → editor ≡ engine → script.IsAnsweredInRoom Edit IsEditStep editor before room status → IsAnsweredInRoom dir text before room status
+pub edit_in_room : (engine editor : Reading) (dir : Directory) (text : List ℕ) (before : Option (List ℕ)) (room : ℕ → Type 0) (status : Status) → engine ≡ record { directory = dir; text = text } → editor ≡ engine → script.IsAnsweredInRoom (script.course_of Edit IsEditStep editor) before room status → IsAnsweredInRoom dir text before room status
 edit_in_room engine editor dir text before room status is same answered =
-    subst (λ (r : Reading). script.IsAnsweredInRoom Edit IsEditStep r before room status) (same ∙ is) answered
+    subst (λ (r : Reading). script.IsAnsweredInRoom (script.course_of Edit IsEditStep r) before room status) (same ∙ is) answered
 
 -- where there is room for the replies to commands of an edit, there is room for the line of want of memory
 pub edit_room_for_memory : (has_room : ℕ → Type 0) (dir : Directory) (text : List ℕ) (cs : List Command) → AreCommands Edit cs → HasRoomFor has_room IsEditStep (record { directory = dir; text = text }) cs → (n : ℕ) × has_room n × (length memory_refused.output ≤ n)

@@ -18,7 +18,7 @@ use Rattle.run_outcome.specs.declared.status.Status.{Status}
 use Rattle.run_outcome.specs.declared.status.Status.TheVariants.{Done, WriteFault}
 use Rattle.run_outcome.specs.Finish.{Grew, IsFinish}
 use Rattle.script_answers.specs.Answers.{IsAnswered, Step, TakesAll}
-use Rattle.script_answers.specs.Script.{Account, IsOpen, IsRest, IsRow, IsStopped, longest_script, stopped_by}
+use Rattle.script_answers.specs.Script.{Account, IsOpen, IsRest, IsRow, IsStopped, course_of, longest_script, stopped_by}
 use Rattle.run_outcome.specs.Held.{Held}
 use Rattle.run_outcome.specs.Put.{IsPutOut}
 use Rattle.script_answers.proofs.AnsweredLemmas.{AnswersTo, answers_cut, answers_forget, answers_more, ended_more, open_more, open_or_ended}
@@ -62,7 +62,7 @@ abbrev pub IsRun : {S : Type 0} → Grammar → Step S → S → Type 0 → Stat
 IsRun {S} g IsStep state Failed status before now held held' =
     IfSome before (λ whole. IfSome held (λ octets.
     (account : Account) × (whole ≡ account.script ++ account.left) × (length account.script ≤ longest_script)
-    × (now ≡ Some account.left) × (held' ≡ Some (octets ++ account.put)) × IsRow g IsStep state Failed status account))
+    × (now ≡ Some account.left) × (held' ≡ Some (octets ++ account.put)) × IsRow (course_of g IsStep state) Failed status account))
 
 -- a reply was put after what was put
 put_whole : (octets out reply : List ℕ) (held held' : Option (List ℕ)) → held ≡ Some (octets ++ out) → IsPutOut held held' reply true → held' ≡ Some (octets ++ (out ++ reply))
@@ -154,7 +154,7 @@ run_cut {S} g IsStep state end next Failed reader after (Some whole) mid now (So
     )
 
 -- what was taken before a stop is its rest
-rest_of : (g : Grammar) (why : ScriptStop) (commands script taken left : List ℕ) (count : ℕ) (mid now : Option (List ℕ)) (reader : Reader) → mid ≡ Some commands → now ≡ Some left → reader.number ≡ count + 1 → reader.left + length script ≡ longest_script → IsAnswer (in_grammar g reader) taken (IsAtEnd mid now) (Err why) → IsRest g why count taken (length script + length taken) left
+rest_of : (g : Grammar) (why : ScriptStop) (commands script taken left : List ℕ) (count : ℕ) (mid now : Option (List ℕ)) (reader : Reader) → mid ≡ Some commands → now ≡ Some left → reader.number ≡ count + 1 → reader.left + length script ≡ longest_script → IsAnswer (in_grammar g reader) taken (IsAtEnd mid now) (Err why) → IsRest g why count taken ((length script + length taken), left)
 rest_of g (stop.BadLine number) commands script taken left count mid now reader same is numbered allowed answer = (answer.0 ∙ numbered, answer.1)
 rest_of g (stop.CutShort number) commands script taken left count mid now reader same is numbered allowed answer =
     let none : now ≡ Some [] = subst (λ (o : Option (List ℕ)). IsAtEnd o now) same answer.3 in
@@ -165,11 +165,11 @@ rest_of g stop.Fault commands script taken left count mid now reader same is num
 rest_of g stop.Memory commands script taken left count mid now reader same is numbered allowed answer = inl answer
 
 -- the row of a stop whose line was put whole
-stopped_row : {S : Type 0} (g : Grammar) (IsStep : Step S) (state : S) (Failed : Type 0) (why : ScriptStop) (status : Status) (account : Account) → status ≡ (stopped_by why).status → IsStopped g IsStep state why (stopped_by why).output account → IsRow g IsStep state Failed status account
+stopped_row : {S : Type 0} (g : Grammar) (IsStep : Step S) (state : S) (Failed : Type 0) (why : ScriptStop) (status : Status) (account : Account) → status ≡ (stopped_by why).status → IsStopped (course_of g IsStep state) why (stopped_by why).output account → IsRow (course_of g IsStep state) Failed status account
 stopped_row {S} g IsStep state Failed why status account is stopped =
-    subst (λ (s : Status). IsRow g IsStep state Failed s account) (sym is) (row_of why stopped)
+    subst (λ (s : Status). IsRow (course_of g IsStep state) Failed s account) (sym is) (row_of why stopped)
   where
-    row_of : (why : ScriptStop) → IsStopped g IsStep state why (stopped_by why).output account → IsRow g IsStep state Failed (stopped_by why).status account
+    row_of : (why : ScriptStop) → IsStopped (course_of g IsStep state) why (stopped_by why).output account → IsRow (course_of g IsStep state) Failed (stopped_by why).status account
     row_of (stop.BadLine number) stopped = (stop.BadLine number, refl, stopped)
     row_of (stop.CutShort number) stopped = (stop.CutShort number, refl, stopped)
     row_of stop.TooLong stopped = (stop.TooLong, refl, stopped)
@@ -183,14 +183,14 @@ run_stopped {S} g IsStep state end Failed reader after (Some whole) mid now None
 run_stopped {S} g IsStep state end Failed reader after (Some whole) mid now (Some octets) put held' why status p next failed finish =
     let took = took_of p.left mid now (in_grammar g reader) after p.now_is next in
     let script : List ℕ = script_text p.commands ++ next.taken in
-    let stopped : (line : List ℕ) → IsStopped g IsStep state why line (record { script = script; left = took.0; put = p.out ++ line }) = λ line. (
+    let stopped : (line : List ℕ) → IsStopped (course_of g IsStep state) why line (record { script = script; left = took.0; put = p.out ++ line }) = λ line. (
       p.commands,
       next.taken,
       p.out,
       p.lawful,
       p.are_open,
       refl,
-      subst (λ (n : ℕ). IsRest g why (length p.commands) next.taken n took.0) (sym (length-append (script_text p.commands) next.taken))
+      subst (λ (n : ℕ). IsRest g why (length p.commands) next.taken (n, took.0)) (sym (length-append (script_text p.commands) next.taken))
           (rest_of g why p.left (script_text p.commands) next.taken took.0 (length p.commands) mid now reader p.now_is took.1.now_is p.numbered p.allowed next.answer),
       answers_forget IsStep state p.commands p.out end p.answers,
       refl,
@@ -204,7 +204,7 @@ run_stopped {S} g IsStep state end Failed reader after (Some whole) mid now (Som
     (λ (put_cut : (status ≡ WriteFault) × HasRisen put.faults held'.faults × IsCut put.octets held'.octets (stopped_by why).output).
     let cut = put_part octets p.out (stopped_by why).output put.octets held'.octets p.held_is put_cut.2 in
     let account : Account = record { script = script; left = took.0; put = p.out ++ take cut.0 (stopped_by why).output } in
-    (account, whole_is, short, took.1.now_is, cut.2, subst (λ (s : Status). IsRow g IsStep state Failed s account) (sym put_cut.0) (inr (why, cut.0, failed, cut.1, stopped (take cut.0 (stopped_by why).output)))))
+    (account, whole_is, short, took.1.now_is, cut.2, subst (λ (s : Status). IsRow (course_of g IsStep state) Failed s account) (sym put_cut.0) (inr (why, cut.0, failed, cut.1, stopped (take cut.0 (stopped_by why).output)))))
     finish
 
 -- an answer of which one thing more is known

@@ -27,13 +27,13 @@ pub session_directory : (session : PastReading) (dir : Directory) (text : List �
 session_directory session dir text is = ap (λ (r : PastReading). r.directory) is
 
 -- a script was answered by a session that was opened with these
-pub session_answered : (session : PastReading) (dir : Directory) (text : List ℕ) (ran : Ran) → session ≡ record { directory = dir; past = begun text } → script.IsScriptAnswered Session IsSessionStep session ran → IsScriptAnswered dir text ran
+pub session_answered : (session : PastReading) (dir : Directory) (text : List ℕ) (ran : Ran) → session ≡ record { directory = dir; past = begun text } → script.IsScriptAnswered (script.course_of Session IsSessionStep session) ran → IsScriptAnswered dir text ran
 session_answered session dir text ran is answered =
-    subst (λ (r : PastReading). script.IsScriptAnswered Session IsSessionStep r ran) is answered
+    subst (λ (r : PastReading). script.IsScriptAnswered (script.course_of Session IsSessionStep r) ran) is answered
 
-pub session_in_room : (session : PastReading) (dir : Directory) (text : List ℕ) (before : Option (List ℕ)) (room : ℕ → Type 0) (status : Status) → session ≡ record { directory = dir; past = begun text } → script.IsAnsweredInRoom Session IsSessionStep session before room status → IsAnsweredInRoom dir text before room status
+pub session_in_room : (session : PastReading) (dir : Directory) (text : List ℕ) (before : Option (List ℕ)) (room : ℕ → Type 0) (status : Status) → session ≡ record { directory = dir; past = begun text } → script.IsAnsweredInRoom (script.course_of Session IsSessionStep session) before room status → IsAnsweredInRoom dir text before room status
 session_in_room session dir text before room status is answered =
-    subst (λ (r : PastReading). script.IsAnsweredInRoom Session IsSessionStep r before room status) is answered
+    subst (λ (r : PastReading). script.IsAnsweredInRoom (script.course_of Session IsSessionStep r) before room status) is answered
 
 -- where there is room for the replies to commands of a session, there is room for the line of want of memory
 pub session_room_for_memory : (has_room : ℕ → Type 0) (dir : Directory) (text : List ℕ) (cs : List Command) → AreCommands Session cs → HasRoomFor has_room IsSessionStep (record { directory = dir; past = begun text }) cs → (n : ℕ) × has_room n × (length memory_refused.output ≤ n)

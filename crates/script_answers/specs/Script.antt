@@ -37,16 +37,16 @@ stopped_by stop.TooLong = too_large (codes "-")
 stopped_by stop.Fault = read_failed
 stopped_by stop.Memory = memory_refused
 
--- what was taken after so many commands, where the script has so many octets with it, and what is left on the input:
+-- what was taken after so many commands, where the script has so many octets with it, and these are left on the input:
 -- a bad line, as far as it tells itself; a part of a command, at the input's end; one after which no octet may be
 -- taken; one at a fault; for want of memory, a part of a command or a whole one
-abbrev pub IsRest : Grammar → ScriptStop → ℕ → Octets → ℕ → Octets → Type 0
-IsRest g (stop.BadLine number) commands rest taken left = (number ≡ commands + 1) × IsBadLine g rest
-IsRest g (stop.CutShort number) commands rest taken left =
-    (number ≡ commands + 1) × IsPart g rest × (taken < longest_script) × (left ≡ [])
-IsRest g stop.TooLong commands rest taken left = IsPart g rest × (taken ≡ longest_script)
-IsRest g stop.Fault commands rest taken left = IsPart g rest × (taken < longest_script)
-IsRest g stop.Memory commands rest taken left = IsPart g rest ⊎ IsCommandText g rest
+abbrev pub IsRest : Grammar → ScriptStop → ℕ → Octets → ℕ × Octets → Type 0
+IsRest g (stop.BadLine number) commands rest taken = (number ≡ commands + 1) × IsBadLine g rest
+IsRest g (stop.CutShort number) commands rest taken =
+    (number ≡ commands + 1) × IsPart g rest × (taken.0 < longest_script) × (taken.1 ≡ [])
+IsRest g stop.TooLong commands rest taken = IsPart g rest × (taken.0 ≡ longest_script)
+IsRest g stop.Fault commands rest taken = IsPart g rest × (taken.0 < longest_script)
+IsRest g stop.Memory commands rest taken = IsPart g rest ⊎ IsCommandText g rest
 
 -- what a run did: the octets that it took of a script, those that it left on the input, and those that it put
 pub record Account : Type 0 where
@@ -54,33 +54,43 @@ pub record Account : Type 0 where
   pub left : Octets
   pub put : Octets
 
+-- how a script is answered: the grammar of its commands, what each of them does, and the state that the first finds
+pub record Course (S : Type 0) : Type 1 where
+  pub grammar : Grammar
+  pub IsStep : Step S
+  pub state : S
+
+-- the course of a grammar, a step and a state
+abbrev pub course_of : {S : Type 0} → Grammar → Step S → S → Course S
+course_of g IsStep state = record { grammar = g; IsStep = IsStep; state = state }
+
 -- a script was stopped: what was taken of it is commands without `end`, which are answered, and what made it stop; and
 -- these octets were put after the replies
-abbrev pub IsStopped : {S : Type 0} → Grammar → Step S → S → ScriptStop → Octets → Account → Type 0
-IsStopped g IsStep state why line account =
-    (cs : List Command) × (rest : Octets) × (out : Octets) × AreCommands g cs × IsOpen cs
+abbrev pub IsStopped : {S : Type 0} → Course S → ScriptStop → Octets → Account → Type 0
+IsStopped course why line account =
+    (cs : List Command) × (rest : Octets) × (out : Octets) × AreCommands course.grammar cs × IsOpen cs
     × (account.script ≡ script_text cs ++ rest)
-    × IsRest g why (length cs) rest (length account.script) account.left
-    × Answers IsStep state cs out × (account.put ≡ out ++ line)
+    × IsRest course.grammar why (length cs) rest (length account.script, account.left)
+    × Answers course.IsStep course.state cs out × (account.put ≡ out ++ line)
 
 -- the sink failed: in the reply to the last command that was taken, or in the line that tells why the script stopped;
 -- that is the line of a read fault only where the input failed
-abbrev pub IsCutOff : {S : Type 0} → Grammar → Step S → S → Type 0 → Account → Type 0
-IsCutOff g IsStep state InputFailed account =
-    ((cs : List Command) × AreCommands g cs × (IsOpen cs ⊎ IsEnded cs) × (account.script ≡ script_text cs)
-    × AnswersCut IsStep state cs account.put)
+abbrev pub IsCutOff : {S : Type 0} → Course S → Type 0 → Account → Type 0
+IsCutOff course InputFailed account =
+    ((cs : List Command) × AreCommands course.grammar cs × (IsOpen cs ⊎ IsEnded cs)
+    × (account.script ≡ script_text cs) × AnswersCut course.IsStep course.state cs account.put)
     ⊎ ((why : ScriptStop) × (n : ℕ) × (why ≡ stop.Fault → InputFailed) × (n < length (stopped_by why).output)
-    × IsStopped g IsStep state why (take n (stopped_by why).output) account)
+    × IsStopped course why (take n (stopped_by why).output) account)
 
 -- what a run did, by its status
-abbrev pub IsRow : {S : Type 0} → Grammar → Step S → S → Type 0 → Status → Account → Type 0
-IsRow g IsStep state InputFailed Done account =
-    (cs : List Command) × AreCommands g cs × IsEnded cs × (account.script ≡ script_text cs)
-    × Answers IsStep state cs account.put
-IsRow g IsStep state InputFailed WriteFault account = IsCutOff g IsStep state InputFailed account
-IsRow g IsStep state InputFailed status account =
+abbrev pub IsRow : {S : Type 0} → Course S → Type 0 → Status → Account → Type 0
+IsRow course InputFailed Done account =
+    (cs : List Command) × AreCommands course.grammar cs × IsEnded cs × (account.script ≡ script_text cs)
+    × Answers course.IsStep course.state cs account.put
+IsRow course InputFailed WriteFault account = IsCutOff course InputFailed account
+IsRow course InputFailed status account =
     (why : ScriptStop) × (status ≡ (stopped_by why).status)
-    × IsStopped g IsStep state why (stopped_by why).output account
+    × IsStopped course why (stopped_by why).output account
 
 -- a read fault comes only where the input failed, a write fault only where the sink failed
 abbrev pub IsCaused : Type 0 → Type 0 → Status → Type 0
@@ -89,13 +99,13 @@ IsCaused InputFailed SinkFailed WriteFault = SinkFailed
 IsCaused InputFailed SinkFailed status = ⊤
 
 -- a script was read from an input, no more of it than a script may have, and answered as its row says
-abbrev pub IsScriptAnswered : {S : Type 0} → Grammar → Step S → S → Ran → Type 0
-IsScriptAnswered g IsStep state ran =
+abbrev pub IsScriptAnswered : {S : Type 0} → Course S → Ran → Type 0
+IsScriptAnswered course ran =
     IsCaused (HasInputFailed ran) (HasSinkFailed ran) ran.status
     × IfSome ran.input_before.octets (λ whole. IfSome ran.sink_before.octets (λ held.
     (account : Account) × (whole ≡ account.script ++ account.left) × (length account.script ≤ longest_script)
     × (ran.input_after.octets ≡ Some account.left) × (ran.sink_after.octets ≡ Some (held ++ account.put))
-    × IsRow g IsStep state (HasInputFailed ran) ran.status account))
+    × IsRow course (HasInputFailed ran) ran.status account))
 
 -- a script that ends with `end` is answered whole where neither the input nor the sink failed: only memory can be
 -- refused
@@ -112,8 +122,8 @@ HasRoomFor has_room IsStep state cs =
     × ((out : Octets) → Answers IsStep state cs out → length out + length memory_refused.output ≤ n)
 
 -- a script that ends with `end` is answered whole where the sink has room for that: only memory can be refused
-abbrev pub IsAnsweredInRoom : {S : Type 0} → Grammar → Step S → S → Option Octets → (ℕ → Type 0) → Status → Type 0
-IsAnsweredInRoom g IsStep state before has_room status =
+abbrev pub IsAnsweredInRoom : {S : Type 0} → Course S → Option Octets → (ℕ → Type 0) → Status → Type 0
+IsAnsweredInRoom course before has_room status =
     (cs : List Command) (more : Octets) → before ≡ Some (script_text cs ++ more)
-    → AreCommands g cs → IsEnded cs → length (script_text cs) ≤ longest_script
-    → HasRoomFor has_room IsStep state cs → (status ≡ Done) ⊎ (status ≡ Memory)
+    → AreCommands course.grammar cs → IsEnded cs → length (script_text cs) ≤ longest_script
+    → HasRoomFor has_room course.IsStep course.state cs → (status ≡ Done) ⊎ (status ≡ Memory)

@@ -4,7 +4,7 @@ ghost use Rattle.std.specs.Bool.{OnFalse};
 ghost use Rattle.edi_ports.specs.Faults.{HasRisen};
 ghost use Rattle.run_outcome.specs.Finish.{IsFinish};
 ghost use Rattle.script_answers.specs.Ran.{left_of_input};
-ghost use Rattle.script_answers.specs.Script.{IsAnsweredInRoom, IsAnsweredWhole, IsScriptAnswered, longest_script, stopped_by};
+ghost use Rattle.script_answers.specs.Script.{IsAnsweredInRoom, IsAnsweredWhole, IsScriptAnswered, course_of, longest_script, stopped_by};
 ghost use Rattle.run_outcome.specs.Held.{held_of};
 ghost use Rattle.run_outcome.specs.Put.{IsPutOut};
 
@@ -26,7 +26,7 @@ pub fn answer_script<A: Answering, I: Source, O: Sink>(
     input: &mut I,
     out: &mut O,
 ) -> Status
-    ensures run { IsScriptAnswered A.grammar A.IsStep (A.state answering.old) (record {
+    ensures run { IsScriptAnswered (course_of A.grammar A.IsStep (A.state answering.old)) (record {
       input_before = left_of_input I.Source input.old;
       input_after = left_of_input I.Source input.new;
       sink_before = held_of O.Sink out.old;
@@ -40,7 +40,7 @@ pub fn answer_script<A: Answering, I: Source, O: Sink>(
 
     // A script that ends with `end` is answered whole where its input doesn't fail, or didn't, and the sink has room.
     ensures room { I.is_steady input.old ⊎ (HasRisen (I.faults input.old) (I.faults input.new) → ⊥)
-        → IsAnsweredInRoom A.grammar A.IsStep (A.state answering.old)
+        → IsAnsweredInRoom (course_of A.grammar A.IsStep (A.state answering.old))
         (I.rest input.old) (O.has_room out.old) result }
 {
     let mut reader = reader_of(answering.grammar());

@@ -23,7 +23,7 @@ returns-in-Some-Script-clause-room g c = λ manifest name begun asked told.
     let now = inputs_of g.S.Shelf c.answer_text.new.shelf g.I.Source c.answer_text.new.input in
     told_words c.in-Some-Script.kind Edits c.in-Some-Script.manifest.now c.in-Some-Script.text.now manifest name (form_of c.args.words.now) (g.S.Shelf.files c.args.shelf.now) begun
     (λ (kind : ScriptKind) (asked : Option Asked). (g.I.Source.is_steady c.args.input.now × g.S.Shelf.is_steady c.args.shelf.now) ⊎ (HasFailed asked before now → ⊥)
-    → IsAnsweredInRoom kind begun.directory begun.text (g.I.Source.rest c.args.input.now) (g.O.Sink.has_room c.args.out.now) c.answer_text.result)
+    → IsAnsweredInRoom kind begun (g.I.Source.rest c.args.input.now) (g.O.Sink.has_room c.args.out.now) c.answer_text.result)
     (rw c.in-Some-Script.field-0-is at c.in-Some-Script.ensures.form) asked told (λ told. c.answer_text.ensures.room begun told)
 
 pub returns-in-Some-Script-clause-session_script : goal.returns-in-Some-Script-clause-session_script
@@ -40,5 +40,5 @@ returns-in-Some-Script-clause-session_room g c = λ manifest name begun asked to
     let now = inputs_of g.S.Shelf c.answer_text.new.shelf g.I.Source c.answer_text.new.input in
     told_words c.in-Some-Script.kind Sessions c.in-Some-Script.manifest.now c.in-Some-Script.text.now manifest name (form_of c.args.words.now) (g.S.Shelf.files c.args.shelf.now) begun
     (λ (kind : ScriptKind) (asked : Option Asked). (g.I.Source.is_steady c.args.input.now × g.S.Shelf.is_steady c.args.shelf.now) ⊎ (HasFailed asked before now → ⊥)
-    → IsAnsweredInRoom kind begun.directory begun.text (g.I.Source.rest c.args.input.now) (g.O.Sink.has_room c.args.out.now) c.answer_text.result)
+    → IsAnsweredInRoom kind begun (g.I.Source.rest c.args.input.now) (g.O.Sink.has_room c.args.out.now) c.answer_text.result)
     (rw c.in-Some-Script.field-0-is at c.in-Some-Script.ensures.form) asked told (λ told. c.answer_text.ensures.room begun told)

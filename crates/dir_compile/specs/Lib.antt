@@ -5,6 +5,7 @@ pub mod Forms
 pub mod InOrder
 pub mod Indexed
 pub mod Judges
+pub mod Known
 pub mod Names
 pub mod Ordered
 pub mod Stop

@@ -7,7 +7,7 @@ use Rattle.dir_compile.specs.Compile.{element_name, list_name, composite_name, s
 -- each name is at the place of its definition
 pub record IsNamesOf (names : Names) (parts : Parts) : Type 0 where
   pub elements : names.elements.keys ≡ map element_name parts.elements
-  pub lists : names.lists.keys ≡ map list_name parts.lists
-  pub composites : names.composites.keys ≡ map composite_name parts.composites
-  pub segments : names.segments.keys ≡ map segment_name parts.segments
+  pub lists : names.lists ≡ map list_name parts.lists
+  pub composites : names.composites ≡ map composite_name parts.composites
+  pub segments : names.segments ≡ map segment_name parts.segments
   pub messages : names.messages.keys ≡ map message_name parts.messages

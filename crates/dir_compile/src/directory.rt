@@ -154,26 +154,29 @@ impl Directory {
     }
 
     /// The segment of that tag, if it defines one.
+    #[inline(always)]
     pub fn segment(&self, tag: Tag) -> Option<&SegmentDef>
         ensures { option_copied result ≡ named_in segment_name self.now.segments tag.octets }
     {
-        let place = self.names.segments.get_index_of(&tag.octets)?;
+        let place = self.names.segments.place_of(&tag.octets)?;
         self.parts.segments.items().get(place)
     }
 
     /// The composite of that code, if it defines one.
+    #[inline(always)]
     pub fn composite(&self, code: Code) -> Option<&CompositeDef>
         ensures { option_copied result ≡ named_in composite_name self.now.composites code.octets }
     {
-        let place = self.names.composites.get_index_of(&code.octets)?;
+        let place = self.names.composites.place_of(&code.octets)?;
         self.parts.composites.items().get(place)
     }
 
     /// The code list of that data element, if it has one.
+    #[inline(always)]
     pub fn list(&self, element: Code) -> Option<&CodeList>
         ensures { option_copied result ≡ named_in list_name self.now.lists element.octets }
     {
-        let place = self.names.lists.get_index_of(&element.octets)?;
+        let place = self.names.lists.place_of(&element.octets)?;
         self.parts.lists.items().get(place)
     }
 }

@@ -4,6 +4,7 @@
 mod build;
 mod directory;
 mod judge;
+mod known;
 mod names;
 mod order;
 mod parts;

@@ -1,5 +1,5 @@
 //! The names of definitions: none comes twice, and each is found at its place.
-ghost use Rattle.std.specs.Prelude.{◌≡◌, List, [], ℕ, All, IfOk, length, map};
+ghost use Rattle.std.specs.Prelude.{◌≡◌, ◌≤◌, List, [], ℕ, All, IfOk, length, map};
 ghost use Rattle.std.specs.List.{flat_map};
 ghost use Rattle.dir_compile.specs.Forms.{HasForms};
 ghost use Rattle.dir_compile.specs.Judges.{Judges};
@@ -14,6 +14,7 @@ ghost use Rattle.dir_compile.specs.Compile.{
   message_name,
 };
 
+use crate::known::KnownNames;
 use crate::parts::Parts;
 use crate::stop::{CompileKind, CompileStop, fault};
 use edi_octets::EarlierNames;
@@ -94,6 +95,21 @@ fn index<T: Named, const N: usize>(
     Ok(set)
 }
 
+/// The same. It is remembered where those that are asked for are among them.
+fn index_known<T: Named, U: Named, const N: usize>(
+    alloc: Global,
+    items: &[T],
+    asked: &[U],
+) -> Result<KnownNames<N>, AllocError>
+    requires short { N ≤ 6 }
+    requires long { All (λ x. length (T.name_of x) ≡ N) items.now }
+    requires apart { twice_in T.name_of items.now ≡ [] }
+    requires asked { All (λ x. length (U.name_of x) ≡ N) asked.now }
+    ensures { IfOk result (λ known. known ≡ map T.name_of items.now) }
+{
+    KnownNames::of(alloc, index(alloc, items)?, asked)
+}
+
 /// These octets, of which there are as many as the array holds.
 pub(crate) fn octets_of<const N: usize>(name: &[u8]) -> [u8; N]
     requires { length name.now ≡ N }
@@ -123,9 +139,9 @@ fn judge_names<T: Named>(alloc: Global, items: &[T]) -> Result<(), CompileStop>
 #[derive(Drop)]
 pub(crate) struct Names {
     pub elements: IndexSet<[u8; 4]>,
-    pub lists: IndexSet<[u8; 4]>,
-    pub composites: IndexSet<[u8; 4]>,
-    pub segments: IndexSet<[u8; 3]>,
+    pub lists: KnownNames<4>,
+    pub composites: KnownNames<4>,
+    pub segments: KnownNames<3>,
     pub messages: IndexSet<[u8; 6]>,
 }
 
@@ -139,9 +155,10 @@ impl Names {
         ensures { IfOk result (λ names. IsNamesOf names parts.now) }
     {
         let elements = index(alloc, parts.elements.items())?;
-        let lists = index(alloc, parts.lists.items())?;
-        let composites = index(alloc, parts.composites.items())?;
-        let segments = index(alloc, parts.segments.items())?;
+        // Each value asks for the list of its element, and most elements have none.
+        let lists = index_known(alloc, parts.lists.items(), parts.elements.items())?;
+        let composites = index_known(alloc, parts.composites.items(), parts.composites.items())?;
+        let segments = index_known(alloc, parts.segments.items(), parts.segments.items())?;
         let messages = index(alloc, parts.messages.items())?;
         Ok(Names {
             elements,

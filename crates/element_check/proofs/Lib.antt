@@ -9,6 +9,7 @@ mod MergeLemmas
 mod NumberLemmas
 pub mod OneLemmas
 mod OrderedLemmas
+mod PassLemmas
 mod PlaceLemmas
 mod RepeatedLemmas
 pub mod RepetitionLemmas
@@ -16,5 +17,6 @@ pub mod RulesLemmas
 pub mod RunLemmas
 pub mod StreamLemmas
 mod TallyLemmas
+mod TypedLemmas
 mod WorkedElements
 mod WorkedValues

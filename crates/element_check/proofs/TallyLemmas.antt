@@ -53,14 +53,14 @@ module _ (context : Context) (class : Class) where
   refused-over t [] = or_false t.refused
   refused-over t (x ∷ xs) = refused-over (tally_after context.level context.service class t x) xs ∙ or_assoc t.refused (is_refused x) (list_any is_refused xs)
 
-  foreign-over : (t : Tally) (xs : List ℕ) → (tally_over context class t xs).foreign ≡ (t.foreign || has_foreign context.service class xs)
+  pub foreign-over : (t : Tally) (xs : List ℕ) → (tally_over context class t xs).foreign ≡ (t.foreign || has_foreign context.service class xs)
   foreign-over t [] = or_false t.foreign
   foreign-over t (x ∷ xs) =
       foreign-over (tally_after context.level context.service class t x) xs
       ∙ ap (λ (f : Bool). f || has_foreign context.service class xs) (foreign-typed context.service class t x)
       ∙ or_assoc t.foreign (is_foreign context.service class x) (has_foreign context.service class xs)
 
-  counted-over : (t : Tally) (xs : List ℕ) → (tally_over context class t xs).counted ≡ t.counted + counted_length context.service class xs
+  pub counted-over : (t : Tally) (xs : List ℕ) → (tally_over context class t xs).counted ≡ t.counted + counted_length context.service class xs
   counted-over t [] = omega arith
   counted-over t (x ∷ xs) =
       counted-over (tally_after context.level context.service class t x) xs
@@ -72,7 +72,7 @@ form-over : (context : Context) (t : Tally) (xs : List ℕ) → (tally_over cont
 form-over context t [] = refl
 form-over context t (x ∷ xs) = form-over context (tally_after context.level context.service N t x) xs
 
-number-over : (context : Context) (class : Class) (foreign : Bool) (xs : List ℕ)
+pub number-over : (context : Context) (class : Class) (foreign : Bool) (xs : List ℕ)
     → (is_numeric class && not foreign && not (is_number (tally_over context class nothing_found xs).form)) ≡ (is_numeric class && not foreign && not (is_decimal context.service xs))
 number-over context A foreign xs = refl
 number-over context N foreign xs =

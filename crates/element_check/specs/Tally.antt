@@ -1,5 +1,5 @@
 -- For bodies and their invariants: what one scan of a value finds.
-use Rattle.std.specs.Prelude.{ℕ, ◌+◌, Bool, true, false, not, ◌||◌, ◌==◌, [], ◌∷◌, if◌then◌else◌}
+use Rattle.std.specs.Prelude.{ℕ, ◌+◌, Bool, true, false, not, ◌&&◌, ◌||◌, ◌==◌, [], ◌∷◌, Option, Some, None, if◌then◌else◌}
 use Rattle.edi_tables.specs.Octets.{Octets}
 use Rattle.edi_tables.specs.declared.element.Class.{Class}
 use Rattle.edi_tables.specs.declared.element.Class.TheVariants.{A, N, An}
@@ -8,7 +8,7 @@ use Rattle.seg_lexer.specs.declared.context.Context.{Context}
 use Rattle.seg_lexer.specs.declared.context.Level.{Level}
 use Rattle.seg_lexer.specs.declared.service.Service.{Service}
 use Rattle.element_check.specs.Repertoire.{is_admitted}
-use Rattle.element_check.specs.Value.{is_mark}
+use Rattle.element_check.specs.Value.{is_mark, is_numeric}
 use Rattle.element_check.specs.declared.tally.NumberForm.{NumberForm}
 use Rattle.element_check.specs.declared.tally.NumberForm.TheVariants.{Start, Minus, Whole, Mark, Fraction, Broken}
 use Rattle.element_check.specs.declared.tally.Sort.{Sort}
@@ -64,6 +64,16 @@ typed_after s A t x =
 typed_after s N t x = numbered_after t (sort_of s x)
 typed_after s An t x =
     record { refused = t.refused; foreign = t.foreign; counted = t.counted + 1; form = t.form }
+
+-- what was found, after these octets of a value of that class, its repertoire left out
+abbrev pub typed_by : Service → Class → Tally → Octets → Tally
+typed_by s class t [] = t
+typed_by s class t (x ∷ xs) = typed_by s class (typed_after s class t x) xs
+
+-- the length that was counted, where each octet is of the class and a number has the form of one
+abbrev pub length_if_typed : Class → Tally → Option ℕ
+length_if_typed class t =
+    if t.foreign || (is_numeric class && not (is_number t.form)) then None else Some t.counted
 
 -- what was found, after one more octet, by a level and service characters
 abbrev pub tally_after : Level → Service → Class → Tally → ℕ → Tally

@@ -1,5 +1,6 @@
 //! The repertoires of the levels.
-ghost use Rattle.std.specs.Prelude.{◌≡◌};
+ghost use Rattle.std.specs.Prelude.{◌≡◌, not};
+ghost use Rattle.std.specs.List.{list_any};
 ghost use Rattle.element_check.specs.Repertoire.{is_admitted, is_in_level_a as is_in_level_a_of, is_printable as is_printable_of};
 
 use seg_lexer::Level;
@@ -15,12 +16,28 @@ pub(crate) fn admits(level: Level, octet: u8) -> bool
     }
 }
 
-// Its signs and its digits are side by side, but for `#` and `$`, which it lacks.
+/// Whether a level refuses one of these octets.
+#[inline(always)]
+pub(crate) fn has_refused(level: Level, octets: &[u8]) -> bool
+    ensures { result ≡ list_any (λ x. not (is_admitted level x)) octets.now }
+{
+    // Each repertoire has a loop of its own, in which the level isn't asked for again.
+    match level {
+        Level::A => octets.iter().any(|octet| !is_in_level_a(*octet)),
+        Level::B => octets.iter().any(|octet| !admits(Level::B, *octet)),
+        Level::C | Level::D | Level::E | Level::F => {
+            octets.iter().any(|octet| !is_printable(*octet))
+        }
+    }
+}
+
+// Its signs and its digits are side by side, but for `#` and `$`, which it lacks. Digits and capital letters are most: they are
+// asked for first.
 #[tactic(auto, unfolding(crate::specs::Repertoire::is_in_level_a))]
 fn is_in_level_a(octet: u8) -> bool
     ensures { result ≡ is_in_level_a_of octet }
 {
-    matches!(octet, b' '..=b'"' | b'%'..=b'?' | b'A'..=b'Z')
+    matches!(octet, b'%'..=b'?' | b'A'..=b'Z' | b' '..=b'"')
 }
 
 fn is_printable(octet: u8) -> bool

@@ -79,6 +79,7 @@ impl<'a> Rules<'a> {
 
     /// The code list that the values of a data element must be in, if one is loaded: none where its composite names a
     /// list itself.
+    #[inline(always)]
     pub fn list_unless(&self, named: bool, element: Code) -> Option<&'a CodeList>
         ensures list { option_copied result
             ≡ (if named then None else list_of self.now element.octets) }
@@ -89,6 +90,7 @@ impl<'a> Rules<'a> {
     }
 
     /// The code list of a data element, if one is loaded, with its codes in ascending order.
+    #[inline(always)]
     #[tactic(auto, unfolding(crate::specs::Rules::list_of))]
     fn list(&self, element: Code) -> Option<&'a CodeList>
         ensures list { option_copied result ≡ list_of self.now element.octets }

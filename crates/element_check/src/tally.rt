@@ -1,7 +1,9 @@
 //! What one scan of a value finds.
 ghost use Rattle.std.specs.Prelude.{◌≡◌, ◌+◌, ◌<◌, ◌^◌, ◌&&◌, not};
+ghost use Rattle.std.specs.List.{list_all, list_any};
+ghost use Rattle.edi_tables.specs.Tag.{is_digit};
 ghost use Rattle.seg_lexer.specs.Value.{octets_of};
-ghost use Rattle.element_check.specs.Tally.{form_after, is_number, nothing_found, numbered_after, sort_of as sort_of_octet, tally_by, tally_over, typed_after};
+ghost use Rattle.element_check.specs.Tally.{form_after, is_number, length_if_typed, nothing_found, numbered_after, sort_of as sort_of_octet, tally_by, tally_over, typed_after, typed_by};
 ghost use Rattle.element_check.specs.Value.{is_mark as is_mark_of, is_numeric, is_service_character as is_service_character_of};
 
 use crate::repertoire::admits;
@@ -139,8 +141,8 @@ pub(crate) fn scan<O: Octets>(context: &Context, class: Class, value: &Value<'_,
     }
 }
 
-/// The same for a value of these octets.
-pub(crate) fn scan_slice(context: &Context, class: Class, octets: &[u8]) -> Tally
+// The same for a value of these octets.
+fn scan_slice(context: &Context, class: Class, octets: &[u8]) -> Tally
     ensures { result ≡ tally_over context.now class nothing_found octets.now }
 {
     let level = context.level;
@@ -163,6 +165,65 @@ fn scan_as(level: Level, service: &Service, class: Class, octets: &[u8]) -> Tall
             refused: found.refused || !admits(level, *octet),
             ..found.after(service, class, *octet)
         };
+    }
+    found
+}
+
+/// The length of a value of these octets that is compared with its representation, where each octet is of its class and a
+/// number has the form of one. Most values are of class an, and none of their octets is looked at.
+#[inline(always)]
+pub(crate) fn typed_length(service: &Service, class: Class, octets: &[u8]) -> Option<usize>
+    ensures { result ≡ length_if_typed class (typed_by service.now class nothing_found octets.now) }
+{
+    match class {
+        Class::An => Some(octets.len()),
+        Class::A => {
+            if has_digit(octets) {
+                return None;
+            }
+            Some(octets.len())
+        }
+        Class::N => number_length(service, octets),
+    }
+}
+
+// The same where the value must be a number. Most are digits alone.
+#[inline(always)]
+fn number_length(service: &Service, octets: &[u8]) -> Option<usize>
+    ensures { result
+        ≡ length_if_typed Class.N (typed_by service.now Class.N nothing_found octets.now) }
+{
+    if !octets.is_empty() && are_digits(octets) {
+        return Some(octets.len());
+    }
+    let found = scan_number(service, octets);
+    if found.foreign || found.is_no_number(Class::N) {
+        return None;
+    }
+    Some(found.counted)
+}
+
+#[inline(always)]
+fn are_digits(octets: &[u8]) -> bool
+    ensures { result ≡ list_all is_digit octets.now }
+{
+    octets.iter().all(|octet| octet.is_ascii_digit())
+}
+
+fn has_digit(octets: &[u8]) -> bool
+    ensures { result ≡ list_any is_digit octets.now }
+{
+    octets.iter().any(|octet| octet.is_ascii_digit())
+}
+
+// Scans what must be a number, its repertoire left out.
+#[inline(never)]
+fn scan_number(service: &Service, octets: &[u8]) -> Tally
+    ensures { result ≡ typed_by service.now Class.N nothing_found octets.now }
+{
+    let mut found = NOTHING;
+    for octet in octets {
+        found = found.after(service, Class::N, *octet);
     }
     found
 }

@@ -13,7 +13,8 @@ ghost use Rattle.seg_lexer.specs.declared.context.Context.{Context as SeenContex
 ghost use Rattle.element_check.specs.Tally.{nothing_found, tally_over};
 ghost use Rattle.element_check.specs.Value.{is_unlisted as is_unlisted_of, test_results};
 
-use crate::tally::{Tally, scan, scan_slice};
+use crate::repertoire::has_refused;
+use crate::tally::{Tally, scan, typed_length};
 use edi_octets::Octets;
 use edi_tables::{CodeList, Repr};
 use error_ledger::Kind;
@@ -39,13 +40,25 @@ pub(crate) fn test_value<O: Octets>(
 }
 
 /// Whether a value of these octets passes all tests, by its representation and the code list that it must be in.
+#[inline(always)]
 pub fn passes(context: &Context, repr: Repr, list: Option<&CodeList>, octets: &[u8]) -> bool
     requires ordered { IfSome (option_copied list) (λ list. IsAscendingBy value_name list.values) }
     ensures { result ≡ not (list_any (λ test. test.1)
         (test_results context.now repr (option_copied list.entry) octets.now)) }
 {
-    let found = scan_slice(context, repr.class, octets);
-    !is_any_failed(&results_of(repr, found, is_slice_unlisted(list, octets)))
+    let Some(length) = typed_length(&context.service, repr.class, octets) else {
+        return false;
+    };
+    if has_refused(context.level, octets) {
+        return false;
+    }
+    if length > usize::from(repr.max) {
+        return false;
+    }
+    if is_too_short(repr, length) {
+        return false;
+    }
+    !is_slice_unlisted(list, octets)
 }
 
 /// Which tests are failed by a value of which a scan found this, and that is in its code list or isn't.

@@ -1,9 +1,36 @@
-use Rattle.std.proofs.Common.{Bool, List, not, ap, ◌∙◌}
-use Rattle.std.specs.List.{list_any}
-use Rattle.error_ledger.specs.declared.kind.Kind.{Kind}
+use Rattle.std.proofs.Common.{◌∙◌, ap, sym, not, Some, None, ltb, ◌≡◌, true, false, arith}
+use Rattle.std.proofs.lemmas.Bool.Decides.{nat_tests}
+use Rattle.std.specs.Option.{option_copied}
+use Rattle.element_check.proofs.PassLemmas.{at_list, at_long, at_refused, at_short, fails_is}
 use Rattle.element_check.proofs.value.passes.Goals as goal
+
+pub returns-in_default : goal.returns-in_default
+returns-in_default c =
+    ap not (sym (fails_is c.args.context.now c.args.repr (option_copied c.args.list) c.args.octets.now None (sym c.in_default.is ∙ c.typed_length.ensures)))
+
+pub returns-then-has_refused : goal.returns-then-has_refused
+returns-then-has_refused c =
+    ap not
+    (sym (fails_is c.args.context.now c.args.repr (option_copied c.args.list) c.args.octets.now (Some c.in-Some.length) (sym c.in-Some.is ∙ c.typed_length.ensures)
+    ∙ at_refused c.args.context.now c.args.repr (option_copied c.args.list) c.args.octets.now c.in-Some.length (sym c.has_refused.ensures ∙ c.if-has_refused.true)))
+
+pub returns-then-length-from : goal.returns-then-length-from
+returns-then-length-from c =
+    let long : ltb c.args.repr.max c.in-Some.length ≡ true = grind (arith, nat_tests, c.if-length-from.true, c.from.ensures) in
+    ap not
+    (sym (fails_is c.args.context.now c.args.repr (option_copied c.args.list) c.args.octets.now (Some c.in-Some.length) (sym c.in-Some.is ∙ c.typed_length.ensures)
+    ∙ at_long c.args.context.now c.args.repr (option_copied c.args.list) c.args.octets.now c.in-Some.length long))
+
+pub returns-then-is_too_short : goal.returns-then-is_too_short
+returns-then-is_too_short c =
+    ap not
+    (sym (fails_is c.args.context.now c.args.repr (option_copied c.args.list) c.args.octets.now (Some c.in-Some.length) (sym c.in-Some.is ∙ c.typed_length.ensures)
+    ∙ at_short c.args.context.now c.args.repr (option_copied c.args.list) c.args.octets.now c.in-Some.length (sym c.is_too_short.ensures ∙ c.if-is_too_short.true)))
 
 pub returns : goal.returns
 returns c =
-    ap not (c.is_any_failed.ensures
-    ∙ ap (λ (results : List (Kind × Bool)). list_any (λ test. test.1) results) (c.results_of.ensures c.args.context.now _ _ c.scan_slice-found.ensures c.is_slice_unlisted.ensures))
+    let fits : ltb c.args.repr.max c.in-Some.length ≡ false = grind (arith, nat_tests, c.if-length-from.false, c.from.ensures) in
+    ap not
+    (c.is_slice_unlisted.ensures
+    ∙ sym (fails_is c.args.context.now c.args.repr (option_copied c.args.list) c.args.octets.now (Some c.in-Some.length) (sym c.in-Some.is ∙ c.typed_length.ensures)
+    ∙ at_list c.args.context.now c.args.repr (option_copied c.args.list) c.args.octets.now c.in-Some.length (sym c.has_refused.ensures ∙ c.if-has_refused.false) fits (sym c.is_too_short.ensures ∙ c.if-is_too_short.false)))

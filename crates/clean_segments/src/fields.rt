@@ -55,7 +55,7 @@ impl<'a> PlainFields<'a> {
         ensures single { IfSome result
             (λ fields. are_single (components_of separators octets.now) ≡ true) }
     {
-        if has_release(separators.release, octets) {
+        if has_any_release(separators.release, octets) {
             return None;
         }
         if has_separator(separators.repetition, octets) {
@@ -215,5 +215,19 @@ impl<'a> PlainFields<'a> {
             None => Some(tag),
             Some(_) => None,
         }
+    }
+}
+
+// Up to so many octets are looked at one by one.
+const FEW: usize = 64;
+
+// Whether one of these octets is the release character.
+#[inline(always)]
+fn has_any_release(release: Option<u8>, octets: &[u8]) -> bool
+    ensures { result ≡ list_any (is_release_of release) octets.now }
+{
+    match release {
+        Some(release) if octets.len() <= FEW => octets.iter().any(|octet| *octet == release),
+        _ => has_release(release, octets),
     }
 }

@@ -123,6 +123,7 @@ fn are_parts_clean(
 }
 
 // Whether a data element is seen to have no error, by its value, if one is written.
+#[inline(always)]
 fn is_part_clean(rules: &Rules<'_>, part: &PartDef, value: Option<&[u8]>) -> bool
     ensures { (element component : ℕ) (named : Bool) → IsTrue result
         → part_errors (part_rules rules.now named) element component part.now
@@ -136,6 +137,7 @@ fn is_part_clean(rules: &Rules<'_>, part: &PartDef, value: Option<&[u8]>) -> boo
 
 // The same where these octets are written. If there are any, they are good by the list of the data element, and so by none
 // where the composite names another list.
+#[inline(always)]
 fn is_value_clean(rules: &Rules<'_>, part: &PartDef, octets: &[u8]) -> bool
     ensures { (element component : ℕ) (named : Bool) → IsTrue result
         → part_errors (part_rules rules.now named) element component part.now octets.now ≡ [] }

@@ -2,7 +2,7 @@
 ghost use Rattle.std.specs.Prelude.{◌≤◌, length};
 ghost use Rattle.edi_octets.specs.declared.octets.TheConstants.{LONGEST_TEXT};
 
-use clean_segments::clean_tag;
+use clean_segments::{OctetKinds, clean_tag};
 use dir_compile::Directory;
 use dir_store::read_store;
 use edi_octets::Flat;
@@ -36,7 +36,8 @@ fn context_of(segment: &[u8]) -> Context {
 fn is_seen(directory: &Directory, segment: &[u8]) -> bool
     requires { length segment.now ≤ LONGEST_TEXT }
 {
-    match clean_tag(directory, &context_of(segment), segment) {
+    let context = context_of(segment);
+    match clean_tag(&OctetKinds::of(&context), directory, &context, segment) {
         Some(_) => true,
         None => false,
     }

@@ -1,4 +1,6 @@
 mod CleanLemmas
 mod EightOctets
+mod KindLemmas
 mod LookLemmas
+mod LookedLemmas
 mod PlainLemmas

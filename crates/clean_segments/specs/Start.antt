@@ -21,3 +21,8 @@ IsSeparator sp xs i = (slice_index xs i ≡ sp.element) ⊎ (slice_index xs i �
 abbrev pub plain_rest : Separators → Octets → Option Start → List Component
 plain_rest sp xs None = []
 plain_rest sp xs (Some s) = map unplaced (fields_from sp xs (place_by s.element 1 s.component s.at))
+
+-- how many octets of a segment are in front of what is left of it
+abbrev pub reached : Octets → Option Start → ℕ
+reached xs None = length xs
+reached xs (Some s) = s.at

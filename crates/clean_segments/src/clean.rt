@@ -8,6 +8,7 @@ ghost use Rattle.element_check.specs.Local.{local_errors_of};
 ghost use Rattle.clean_segments.specs.Clean.{AreClean};
 ghost use Rattle.edi_octets.specs.declared.octets.TheConstants.{LONGEST_TEXT};
 
+use crate::kinds::OctetKinds;
 use crate::look::clean_tag;
 use crate::same::are_same;
 use dir_compile::Directory;
@@ -34,6 +35,7 @@ struct Clean {
 /// error either, and isn't checked anew. Most texts have many that are spelled alike.
 #[derive(Drop, Debug)]
 pub struct CleanSegments {
+    kinds: OctetKinds,
     // `PLACES` of them, or none where nothing is remembered.
     places: Vec<Option<Clean>>,
 }
@@ -49,22 +51,24 @@ impl Model for CleanSegments {
 
 impl CleanSegments {
     /// None yet.
-    pub fn none(alloc: Global) -> Result<CleanSegments, AllocError>
+    pub fn none(alloc: Global, kinds: OctetKinds) -> Result<CleanSegments, AllocError>
         ensures { IfOk result
             (λ clean. (directory : Parts) (context : Context) (text : List ℕ)
             → AreClean directory context text clean) }
     {
         Ok(CleanSegments {
+            kinds,
             places: Vec::from_elem(alloc, None, PLACES)?,
         })
     }
 
     /// A list that stays empty: nothing is remembered, and no memory is taken. For a few segments that costs less.
-    pub fn forgetful(alloc: Global) -> CleanSegments
+    pub fn forgetful(alloc: Global, kinds: OctetKinds) -> CleanSegments
         ensures { (directory : Parts) (context : Context) (text : List ℕ)
             → AreClean directory context text result }
     {
         CleanSegments {
+            kinds,
             places: Vec::new(alloc),
         }
     }
@@ -100,7 +104,7 @@ impl CleanSegments {
                 return Some(clean.tag);
             }
         }
-        let tag = clean_tag(directory, context, octets)?;
+        let tag = clean_tag(&self.kinds, directory, context, octets)?;
         self.put(place, Clean { start, end, tag });
         Some(tag)
     }

@@ -11,15 +11,14 @@ ghost use Rattle.element_check.specs.Streams.{after_front, front_values};
 ghost use Rattle.clean_segments.specs.Start.{IsSeparator, IsStart};
 ghost use Rattle.edi_octets.specs.declared.octets.TheConstants.{LONGEST_TEXT};
 
-use edi_tables::{Tag, is_tag};
 use seg_lexer::{Separators, has_release, has_separator};
 
 /// Where a component begins, counted from the segment's first octet, and its numbers.
 #[derive(Clone, Copy, Debug)]
-struct Start {
-    at: usize,
-    element: u32,
-    component: u32,
+pub(crate) struct Start {
+    pub(crate) at: usize,
+    pub(crate) element: u32,
+    pub(crate) component: u32,
 }
 
 /// A component of a plain segment: its numbers, as those of `seg_lexer::Component`, and its octets, which the segment lends.
@@ -72,25 +71,6 @@ impl<'a> PlainFields<'a> {
         })
     }
 
-    /// Whether none is left.
-    #[tactic(auto, unfolding(crate::specs::Plain::plain_left))]
-    pub(crate) fn is_at_end(&self) -> bool
-        ensures { IsTrue result → plain_left self.now ≡ [] }
-    {
-        self.next.is_none()
-    }
-
-    /// Whether the next component, if there is one, belongs to another element.
-    #[tactic(auto, unfolding(crate::specs::Plain::plain_left))]
-    pub(crate) fn is_past(&self, element: u32) -> bool
-        ensures { IsTrue result → front_values element (plain_left self.now) ≡ [] }
-    {
-        match self.next {
-            Some(start) => start.element != element,
-            None => true,
-        }
-    }
-
     /// Takes the next component.
     #[inline(always)]
     #[tactic(auto, unfolding(crate::specs::Plain::plain_left))]
@@ -106,21 +86,6 @@ impl<'a> PlainFields<'a> {
             component: start.component,
             octets,
         })
-    }
-
-    /// Takes the value of the next component, if it belongs to an element.
-    #[inline(always)]
-    pub(crate) fn take(&mut self, element: u32) -> Option<&'a [u8]>
-        ensures value { YieldsFirstBy (λ octets. octets.now)
-            (λ fields. front_values element (plain_left fields)) self.old result self.new }
-        ensures after { after_front element (plain_left self.new)
-            ≡ after_front element (plain_left self.old) }
-    {
-        let start = self.next?;
-        if start.element != element {
-            return None;
-        }
-        Some(self.take_from(start))
     }
 
     // Takes the value of the next component, which begins there.
@@ -191,29 +156,6 @@ impl<'a> PlainFields<'a> {
                 element: start.element,
                 component: start.component + 1,
             }
-        }
-    }
-
-    /// Takes the tag, where the tag field is one component that is a tag.
-    pub(crate) fn take_tag(&mut self) -> Option<Tag>
-        ensures field { IfSome result (λ tag.
-            front_values 0 (plain_left self.old) ≡ tag.octets ∷ []) }
-        ensures tag { IfSome result (λ tag. is_tag_of tag.octets ≡ true) }
-        ensures after { IfSome result (λ tag.
-            plain_left self.new ≡ after_front 0 (plain_left self.old)) }
-    {
-        let [first, second, third] = self.take(0)? else {
-            return None;
-        };
-        let tag = Tag {
-            octets: [*first, *second, *third],
-        };
-        if !is_tag(&tag.octets) {
-            return None;
-        }
-        match self.take(0) {
-            None => Some(tag),
-            Some(_) => None,
         }
     }
 }

@@ -4,9 +4,12 @@
 
 mod clean;
 mod fields;
+mod kinds;
 mod look;
+mod looked;
 mod same;
 
 pub use clean::CleanSegments;
 pub use fields::{PlainComponent, PlainFields};
+pub use kinds::OctetKinds;
 pub use look::clean_tag;

@@ -64,6 +64,7 @@ fn opening_place(entry: Option<u16>) -> TreePlace
 }
 
 // Where a segment of a message with this table is, after this state.
+#[inline(always)]
 fn inner_place(table: &Table, numbers: &[u16], state: &State, entry: Option<u16>) -> TreePlace
     requires within { IfSome entry (λ at. at < length table.now) }
     requires numbers { numbers.now ≡ numbers_in table.now }

@@ -87,10 +87,6 @@ fails_is context repr list value length is =
     ∙ by_untyped context repr list value (untyped (has_foreign context.service repr.class value) (is_numeric repr.class) (is_decimal context.service value)) (counted_length context.service repr.class value)
     ∙ ap (fails_by context repr list value) (sym (is ∙ length_is context repr.class value))
 
-refused_there : (r l s u : Bool) → r ≡ true → fails_other r l s u ≡ true
-refused_there true l s u is = refl
-refused_there false l s u is = absurd (cc)
-
 long_there : (r l s u : Bool) → l ≡ true → fails_other r l s u ≡ true
 long_there true l s u is = refl
 long_there false true s u is = refl
@@ -114,9 +110,6 @@ module _ (context : Context) (repr : Repr) (list : Option CodeList) (value : Lis
   refused = list_any (λ x. not (is_admitted context.level x)) value
 
   -- where one of the other tests is failed
-  pub at_refused : refused ≡ true → fails_by context repr list value (Some n) ≡ true
-  at_refused is = refused_there refused (ltb repr.max n) (repr.exact && ltb n repr.max) (is_unlisted list value) is
-
   pub at_long : ltb repr.max n ≡ true → fails_by context repr list value (Some n) ≡ true
   at_long is = long_there refused (ltb repr.max n) (repr.exact && ltb n repr.max) (is_unlisted list value) is
 

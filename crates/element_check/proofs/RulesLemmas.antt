@@ -108,6 +108,19 @@ pub rules_of-few : (parts : Parts) (context : Context) (tag : List ℕ) (rules :
 unfolding rules_of
 rules_of-few parts context tag rules lawful is = service_rules-few parts context tag (service_items_of tag) rules lawful refl is
 
+-- they are by the context of the text
+defined_rules-context : (parts : Parts) (context : Context) (o : Option SegmentDef) (rules : SegmentRules) → Some rules ≡ defined_rules parts context o → rules.context ≡ context
+defined_rules-context parts context None rules is = absurd (cc)
+defined_rules-context parts context (Some segment) rules is = ap (λ (r : SegmentRules). r.context) (same_Some _ _ is)
+
+service_rules-context : (parts : Parts) (context : Context) (tag : List ℕ) (o : Option (List ItemDef)) (rules : SegmentRules) → Some rules ≡ service_rules parts context tag o → rules.context ≡ context
+service_rules-context parts context tag None rules is = defined_rules-context parts context (named_in segment_name parts.segments tag) rules is
+service_rules-context parts context tag (Some items) rules is = ap (λ (r : SegmentRules). r.context) (same_Some _ _ is)
+
+pub rules_of-context : (parts : Parts) (context : Context) (tag : List ℕ) (rules : SegmentRules) → Some rules ≡ rules_of parts context tag → rules.context ≡ context
+unfolding rules_of
+rules_of-context parts context tag rules is = service_rules-context parts context tag (service_items_of tag) rules is
+
 -- each item may be there at least once, and in a service segment only once
 item-repeatable : (item : ItemDef) → is_item_formed item ≡ true → is_repeatable item ≡ true
 item-repeatable (Alone part reps) formed =

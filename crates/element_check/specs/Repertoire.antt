@@ -1,5 +1,5 @@
 -- The repertoires of the levels UNOA to UNOF: which octets a value may have.
-use Rattle.std.specs.Prelude.{ℕ, Bool, not, ◌&&◌, ◌||◌, ◌==◌, nat_le, ◌∷◌, ◌++◌, codes}
+use Rattle.std.specs.Prelude.{◌≡◌, ℕ, Bool, false, not, ◌&&◌, ◌||◌, ◌==◌, nat_le, ◌∷◌, ◌++◌, codes}
 use Rattle.std.specs.List.{list_any}
 use Rattle.edi_tables.specs.Octets.{Octets}
 use Rattle.edi_tables.specs.Tag.{is_capital, is_digit}
@@ -30,3 +30,7 @@ is_admitted C x = is_printable x
 is_admitted D x = is_printable x
 is_admitted E x = is_printable x
 is_admitted F x = is_printable x
+
+-- a level admits each of these octets
+abbrev pub AreAdmitted : Level → Octets → Type 0
+AreAdmitted level xs = list_any (λ x. not (is_admitted level x)) xs ≡ false

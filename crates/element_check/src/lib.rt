@@ -14,5 +14,6 @@ mod values;
 
 pub use check::{check_components, check_segment};
 pub use error::LocalError;
+pub use repertoire::admits;
 pub use rules::Rules;
-pub use value::passes;
+pub use value::passes_admitted;

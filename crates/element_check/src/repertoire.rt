@@ -1,33 +1,17 @@
 //! The repertoires of the levels.
-ghost use Rattle.std.specs.Prelude.{◌≡◌, not};
-ghost use Rattle.std.specs.List.{list_any};
+ghost use Rattle.std.specs.Prelude.{◌≡◌};
 ghost use Rattle.element_check.specs.Repertoire.{is_admitted, is_in_level_a as is_in_level_a_of, is_printable as is_printable_of};
 
 use seg_lexer::Level;
 
 /// Whether a level admits an octet in a value.
-pub(crate) fn admits(level: Level, octet: u8) -> bool
+pub fn admits(level: Level, octet: u8) -> bool
     ensures { result ≡ is_admitted level octet }
 {
     match level {
         Level::A => is_in_level_a(octet),
         Level::B => is_in_level_a(octet) || octet.is_ascii_lowercase(),
         Level::C | Level::D | Level::E | Level::F => is_printable(octet),
-    }
-}
-
-/// Whether a level refuses one of these octets.
-#[inline(always)]
-pub(crate) fn has_refused(level: Level, octets: &[u8]) -> bool
-    ensures { result ≡ list_any (λ x. not (is_admitted level x)) octets.now }
-{
-    // Each repertoire has a loop of its own, in which the level isn't asked for again.
-    match level {
-        Level::A => octets.iter().any(|octet| !is_in_level_a(*octet)),
-        Level::B => octets.iter().any(|octet| !admits(Level::B, *octet)),
-        Level::C | Level::D | Level::E | Level::F => {
-            octets.iter().any(|octet| !is_printable(*octet))
-        }
     }
 }
 

@@ -39,6 +39,7 @@ impl<'a> Model for Rules<'a> {
 
 impl<'a> Rules<'a> {
     /// The rules of the segments of a tag, if it is a service segment's or in the directory.
+    #[inline(always)]
     #[tactic(auto, unfolding(crate::specs::Rules::rules_of))]
     pub fn of(directory: &'a Directory, context: &'a Context, tag: Tag) -> Option<Rules<'a>>
         ensures rules { result ≡ rules_of directory.now context.now tag.octets }
@@ -63,6 +64,7 @@ impl<'a> Rules<'a> {
     }
 
     /// The parts of a composite; one that isn't defined has none.
+    #[inline(always)]
     #[tactic(auto, unfolding(crate::specs::Rules::parts_of))]
     pub fn parts(&self, code: Code) -> &'a [PartDef]
         ensures parts { result.now ≡ parts_of self.now code.octets }

@@ -10,10 +10,10 @@ ghost use Rattle.dir_compile.specs.Compile.{value_name};
 ghost use Rattle.edi_tables.specs.declared.element.CodeList.{CodeList as SeenList};
 ghost use Rattle.seg_lexer.specs.Value.{octets_of};
 ghost use Rattle.seg_lexer.specs.declared.context.Context.{Context as SeenContext};
+ghost use Rattle.element_check.specs.Repertoire.{AreAdmitted};
 ghost use Rattle.element_check.specs.Tally.{nothing_found, tally_over};
 ghost use Rattle.element_check.specs.Value.{is_unlisted as is_unlisted_of, test_results};
 
-use crate::repertoire::has_refused;
 use crate::tally::{Tally, scan, typed_length};
 use edi_octets::Octets;
 use edi_tables::{CodeList, Repr};
@@ -39,9 +39,16 @@ pub(crate) fn test_value<O: Octets>(
     results_of(repr, found, is_unlisted(list, value))
 }
 
-/// Whether a value of these octets passes all tests, by its representation and the code list that it must be in.
+/// Whether a value of these octets, each of which the level admits, passes all tests, by its representation and the code list
+/// that it must be in.
 #[inline(always)]
-pub fn passes(context: &Context, repr: Repr, list: Option<&CodeList>, octets: &[u8]) -> bool
+pub fn passes_admitted(
+    context: &Context,
+    repr: Repr,
+    list: Option<&CodeList>,
+    octets: &[u8],
+) -> bool
+    requires admitted { AreAdmitted context.now.level octets.now }
     requires ordered { IfSome (option_copied list) (λ list. IsAscendingBy value_name list.values) }
     ensures { result ≡ not (list_any (λ test. test.1)
         (test_results context.now repr (option_copied list.entry) octets.now)) }
@@ -49,9 +56,6 @@ pub fn passes(context: &Context, repr: Repr, list: Option<&CodeList>, octets: &[
     let Some(length) = typed_length(&context.service, repr.class, octets) else {
         return false;
     };
-    if has_refused(context.level, octets) {
-        return false;
-    }
     if length > usize::from(repr.max) {
         return false;
     }

@@ -19,6 +19,7 @@ use crate::change::Change;
 use crate::read::{mode_after, read_body, read_text};
 use crate::rerun::{Rerun, mode_after_first, place_again};
 use crate::stretch::{Span, Stretch, read_stretch, stretch_start};
+use clean_segments::OctetKinds;
 use dir_compile::Directory;
 use edi_tables::Chunk;
 use piece_text::{Text, View};
@@ -39,6 +40,8 @@ pub struct KeptText<'d> {
     directory: &'d Directory,
     text: Text,
     context: Context,
+    // What each octet is to a first look, by that context.
+    kinds: OctetKinds,
     records: Seq<Record>,
     // The mode before the first segment.
     outside: Mode,
@@ -74,11 +77,13 @@ impl<'d> KeptText<'d> {
         // What it keeps is of a directory.
         let _parts = directory.parts();
         let (context, records) = read_text(alloc, directory, &octets, lexed, placed)?;
+        let kinds = OctetKinds::of(&context);
         let text = Text::of_vec(alloc, octets)?;
         Ok(KeptText {
             directory,
             text,
             context,
+            kinds,
             records,
             outside: Mode::Outside,
         })
@@ -95,6 +100,7 @@ impl<'d> KeptText<'d> {
             directory: self.directory,
             text,
             context: self.context,
+            kinds: self.kinds,
             records,
             outside: Mode::Outside,
         })
@@ -140,6 +146,7 @@ impl<'d> KeptText<'d> {
             directory: self.directory,
             text,
             context,
+            kinds: self.kinds.adapted(&context),
             records,
             outside: Mode::Outside,
         })
@@ -223,7 +230,7 @@ impl<'d> KeptText<'d> {
             to,
             next,
         } = read_stretch(
-            alloc, directory, context, before, &whole, from, old, span, lexed, placed,
+            alloc, directory, context, self.kinds, before, &whole, from, old, span, lexed, placed,
         )?;
         let Some(next) = next else {
             return Ok(Change {

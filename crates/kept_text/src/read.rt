@@ -13,7 +13,7 @@ ghost use Rattle.segment_records.specs.Count.{segment_count_of};
 ghost use Rattle.segment_records.specs.WalkedSegments.{kept_in};
 ghost use Rattle.edi_octets.specs.declared.octets.TheConstants.{LONGEST_TEXT};
 
-use clean_segments::CleanSegments;
+use clean_segments::{CleanSegments, OctetKinds};
 use dir_compile::Directory;
 use edi_octets::{Flat, Octets};
 use seg_lexer::{Context, Lexed, next_segment, read_context};
@@ -61,7 +61,7 @@ pub fn read_records<O: Octets, L: Ledger, M: Ledger>(
     // The modes, structure errors and places are those of a directory without a fault.
     let _parts = directory.parts();
     let mut records = Gathered::none(alloc);
-    let mut clean = CleanSegments::none(alloc)?;
+    let mut clean = CleanSegments::none(alloc, OctetKinds::of(context))?;
     let mut from = from;
     while let Lexed::Ended { start, end } = next_segment(text, &context.service, from, lexed) {
         let place = SegmentPlace { from, start, end };

@@ -11,7 +11,7 @@ ghost use Rattle.segment_records.specs.Segments.{segments_by};
 ghost use Rattle.segment_records.specs.WalkedSegments.{octets_in};
 
 use crate::read::mode_after;
-use clean_segments::CleanSegments;
+use clean_segments::{CleanSegments, OctetKinds};
 use dir_compile::Directory;
 use edi_octets::Octets;
 use seg_lexer::{Context, Lexed, next_segment};
@@ -127,6 +127,7 @@ pub(crate) fn read_stretch<O: Octets, L: Ledger, M: Ledger>(
     alloc: Global,
     directory: &Directory,
     context: &Context,
+    kinds: OctetKinds,
     before: &Mode,
     text: &O,
     from: usize,
@@ -177,7 +178,7 @@ pub(crate) fn read_stretch<O: Octets, L: Ledger, M: Ledger>(
         + length (segments_by (at_start context.now.service) (drop from (O.octets text.now))) }
 {
     let mut records = Vec::new(alloc);
-    let mut clean = CleanSegments::forgetful(alloc);
+    let mut clean = CleanSegments::forgetful(alloc, kinds);
     let mut to = from;
     while let Lexed::Ended { start, end } = next_segment(text, &context.service, to, lexed) {
         let place = SegmentPlace {

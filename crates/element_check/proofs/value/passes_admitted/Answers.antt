@@ -1,18 +1,12 @@
 use Rattle.std.proofs.Common.{◌∙◌, ap, sym, not, Some, None, ltb, ◌≡◌, true, false, arith}
 use Rattle.std.proofs.lemmas.Bool.Decides.{nat_tests}
 use Rattle.std.specs.Option.{option_copied}
-use Rattle.element_check.proofs.PassLemmas.{at_list, at_long, at_refused, at_short, fails_is}
-use Rattle.element_check.proofs.value.passes.Goals as goal
+use Rattle.element_check.proofs.PassLemmas.{at_list, at_long, at_short, fails_is}
+use Rattle.element_check.proofs.value.passes_admitted.Goals as goal
 
 pub returns-in_default : goal.returns-in_default
 returns-in_default c =
     ap not (sym (fails_is c.args.context.now c.args.repr (option_copied c.args.list) c.args.octets.now None (sym c.in_default.is ∙ c.typed_length.ensures)))
-
-pub returns-then-has_refused : goal.returns-then-has_refused
-returns-then-has_refused c =
-    ap not
-    (sym (fails_is c.args.context.now c.args.repr (option_copied c.args.list) c.args.octets.now (Some c.in-Some.length) (sym c.in-Some.is ∙ c.typed_length.ensures)
-    ∙ at_refused c.args.context.now c.args.repr (option_copied c.args.list) c.args.octets.now c.in-Some.length (sym c.has_refused.ensures ∙ c.if-has_refused.true)))
 
 pub returns-then-length-from : goal.returns-then-length-from
 returns-then-length-from c =
@@ -33,4 +27,4 @@ returns c =
     ap not
     (c.is_slice_unlisted.ensures
     ∙ sym (fails_is c.args.context.now c.args.repr (option_copied c.args.list) c.args.octets.now (Some c.in-Some.length) (sym c.in-Some.is ∙ c.typed_length.ensures)
-    ∙ at_list c.args.context.now c.args.repr (option_copied c.args.list) c.args.octets.now c.in-Some.length (sym c.has_refused.ensures ∙ c.if-has_refused.false) fits (sym c.is_too_short.ensures ∙ c.if-is_too_short.false)))
+    ∙ at_list c.args.context.now c.args.repr (option_copied c.args.list) c.args.octets.now c.in-Some.length c.requires.admitted fits (sym c.is_too_short.ensures ∙ c.if-is_too_short.false)))

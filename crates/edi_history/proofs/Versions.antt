@@ -1,7 +1,7 @@
 -- Steps back and on among versions, as their texts show them.
 use Rattle.std.proofs.Common.{◌≡◌, ◌∙◌, sym, ap, refl, ℕ, ◌-◌, ◌<◌, ◌≤◌, All, List, [], ◌∷◌, ◌++◌, length, get_or, take, drop, Some, slice_get, option_map, arith, length-append, length-drop}
-use Rattle.std.proofs.lemmas.List.{drop-map, length-map, map-append, take_all, take-map}
-use Rattle.std.proofs.lemmas.List.Elements.{All-drop, All-get_or, All-nil, All-push}
+use Rattle.std.proofs.lemmas.List.{drop-map, length-map, length-take-le, map-append, take_all, take-map}
+use Rattle.std.proofs.lemmas.List.Elements.{All-cons, All-drop, All-get_or, All-nil, All-push, All-take}
 use Rattle.std.proofs.lemmas.Option.{get_or_from_slice_get, slice_get-map, slice_get_within}
 use Rattle.circular_buffer.specs.Buffer.{buffer, keep_last}
 use Rattle.dir_compile.specs.Directory.{Directory}
@@ -48,6 +48,36 @@ undo_texts h earlier k is =
     take_all h.undone.capacity (h.present ∷ h.undone.items) (omega arith)
     in
     rw (length-map, some, length-map, kept, take-map) refl
+
+pub undo_kept : (h : Inside) (earlier : Reading) → IsHistory h
+    → slice_get h.before.items (length h.before.items - 1) ≡ Some earlier
+    → IsHistory (record {
+      before = buffer (take (length h.before.items - 1) h.before.items) h.before.capacity;
+      present = earlier;
+      undone = buffer (take h.undone.capacity (h.present ∷ h.undone.items)) h.undone.capacity;
+    })
+undo_kept h earlier k is =
+    let within : length h.before.items - 1 < length h.before.items = slice_get_within h.before.items _ earlier is in
+    let kept : take h.undone.capacity (h.present ∷ h.undone.items) ≡ h.present ∷ h.undone.items =
+    take_all h.undone.capacity (h.present ∷ h.undone.items) (omega arith)
+    in
+    let left = length-take-le (length h.before.items - 1) h.before.items (omega arith) in
+    let same = read_by h.present.directory h.before.items _ earlier k.before is in
+    record {
+      before_room = k.before_room;
+      undone_room = k.undone_room;
+      few = rw kept (omega (arith, left));
+      before = rw same (All-take (IsReadBy h.present.directory) (length h.before.items - 1) h.before.items k.before);
+      undone = rw (kept, same) (All-cons (IsReadBy h.present.directory) h.present h.undone.items refl k.undone);
+    }
+
+-- where there is a version to go back to, a text is before the present one
+pub undo_some : (versions : List Reading) (i : ℕ) (earlier : Reading) → slice_get versions i ≡ Some earlier → texts_of versions ≡ [] → ⊥
+undo_some versions i earlier is none =
+    let within = slice_get_within versions i earlier is in
+    let long : length (texts_of versions) ≡ length versions = rw length-map refl in
+    let short : length (texts_of versions) ≡ 0 = ap length none in
+    omega (arith, within, long, short)
 
 -- a step on
 pub redo_texts : (h : Inside) (later : Reading) → IsHistory h → slice_get h.undone.items 0 ≡ Some later

@@ -1,13 +1,10 @@
 //! The components of a segment that lies in one slice and has neither release character nor repetition separator.
 ghost use Rattle.std.specs.Prelude.{Some, [], ◌≡◌, ◌∷◌, ◌+◌, ◌<◌, ◌≤◌, ◌^◌, false, true, length, slice_index, IfNone, IfSome, IsTrue};
-ghost use Rattle.std.specs.Iterator.{YieldsFirstBy};
 ghost use Rattle.std.specs.List.{list_any};
 ghost use Rattle.std.specs.Option.{ForSome};
-ghost use Rattle.edi_tables.specs.Tag.{is_tag_of};
 ghost use Rattle.memchr.specs.Find.{IsFirst};
 ghost use Rattle.seg_lexer.specs.Fields.{are_single, components_of, is_separator};
 ghost use Rattle.seg_lexer.specs.Released.{is_release as is_release_of};
-ghost use Rattle.element_check.specs.Streams.{after_front, front_values};
 ghost use Rattle.clean_segments.specs.Start.{IsSeparator, IsStart};
 ghost use Rattle.edi_octets.specs.declared.octets.TheConstants.{LONGEST_TEXT};
 

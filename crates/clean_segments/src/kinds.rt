@@ -80,14 +80,6 @@ impl OctetKinds {
     {
         self.kinds[usize::from(octet)]
     }
-
-    /// What a segment is cut by.
-    #[inline(always)]
-    pub(crate) fn separators(&self) -> Separators
-        ensures { result ≡ self.now.separators }
-    {
-        self.separators
-    }
 }
 
 // What an octet is, by what a segment is cut by and a level.

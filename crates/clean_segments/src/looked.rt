@@ -1,4 +1,4 @@
-//! The components of a segment as a first look finds them: each octet is looked at once.
+//! The components of a segment as a first look finds them: one look at each octet both cuts it and asks the level.
 ghost use Rattle.std.specs.Prelude.{Some, [], ◌≡◌, ◌∷◌, ◌+◌, ◌^◌, ◌<◌, ◌≤◌, true, length, slice_index, IfNone, IfOk, IfSome, IsTrue};
 ghost use Rattle.std.specs.Iterator.{YieldsFirstBy};
 ghost use Rattle.std.specs.Option.{ForSome};

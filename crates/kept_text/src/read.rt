@@ -6,6 +6,8 @@ ghost use Rattle.seg_lexer.specs.Context.{context_of};
 ghost use Rattle.seg_lexer.specs.Segments.{IsBoundary};
 ghost use Rattle.seg_lexer.specs.Service.{IsUsable};
 ghost use Rattle.seg_lexer.specs.Whole.{at_start};
+ghost use Rattle.dir_compile.specs.declared.parts.Parts.{Parts};
+ghost use Rattle.segment_records.specs.Known.{AreKnown};
 ghost use Rattle.segment_records.specs.Laws.{ForgetsBefore, StepsAreModes, StepsTellFaults, StepsTellPlaces, WholeIsBody, WholeThenMore};
 ghost use Rattle.segment_records.specs.Records.{IsModeOf, records_from};
 ghost use Rattle.segment_records.specs.Segments.{Segment, segments_by};
@@ -17,11 +19,24 @@ use clean_segments::{CleanSegments, OctetKinds};
 use dir_compile::Directory;
 use edi_octets::{Flat, Octets};
 use seg_lexer::{Context, Lexed, next_segment, read_context};
-use segment_records::{Mode, Record, SegmentPlace};
+use segment_records::{KnownSteps, Mode, Record, SegmentPlace};
 use seq_tree::{Gathered, Seq};
 use std::alloc::{AllocError, Global};
 use std::sync::ledger::Ledger;
 use step_counter::Steps;
+
+// A text of fewer octets has too few segments for their steps to be remembered: room for them takes longer.
+const MANY_OCTETS: usize = 16_384;
+
+// Where the steps of a text of so many octets are remembered. Only want of memory is an error.
+fn known_for(alloc: Global, octets: usize) -> Result<KnownSteps, AllocError>
+    ensures { IfOk result (λ known. (directory : Parts) → AreKnown directory known) }
+{
+    if octets < MANY_OCTETS {
+        return Ok(KnownSteps::forgetful(alloc));
+    }
+    KnownSteps::none(alloc)
+}
 
 /// The records of the octets after the boundary `from` of a text, in order, after a mode. Each call of the lexer and of the
 /// walk is counted. Only want of memory is an error.
@@ -62,12 +77,13 @@ pub fn read_records<O: Octets, L: Ledger, M: Ledger>(
     let _parts = directory.parts();
     let mut records = Gathered::none(alloc);
     let mut clean = CleanSegments::none(alloc, OctetKinds::of(context))?;
+    let mut known = known_for(alloc, text.len())?;
     let mut from = from;
     while let Lexed::Ended { start, end } = next_segment(text, &context.service, from, lexed) {
         let place = SegmentPlace { from, start, end };
         let mode = mode_of(before, records.last());
         let record = Record::read(
-            alloc, directory, context, mode, text, place, &mut clean, placed,
+            alloc, directory, context, mode, text, place, &mut clean, &mut known, placed,
         )?;
         records.push(alloc, record)?;
         from = end + 1;

@@ -15,7 +15,7 @@ use clean_segments::{CleanSegments, OctetKinds};
 use dir_compile::Directory;
 use edi_octets::Octets;
 use seg_lexer::{Context, Lexed, next_segment};
-use segment_records::{Mode, Record, SegmentPlace};
+use segment_records::{KnownSteps, Mode, Record, SegmentPlace};
 use seq_tree::{Located, Seq};
 use std::alloc::{AllocError, Global};
 use std::marker::Brand;
@@ -179,6 +179,7 @@ pub(crate) fn read_stretch<O: Octets, L: Ledger, M: Ledger>(
 {
     let mut records = Vec::new(alloc);
     let mut clean = CleanSegments::forgetful(alloc, kinds);
+    let mut known = KnownSteps::forgetful(alloc);
     let mut to = from;
     while let Lexed::Ended { start, end } = next_segment(text, &context.service, to, lexed) {
         let place = SegmentPlace {
@@ -188,7 +189,7 @@ pub(crate) fn read_stretch<O: Octets, L: Ledger, M: Ledger>(
         };
         let mode = mode_after(before, &records);
         let record = Record::read(
-            alloc, directory, context, mode, text, place, &mut clean, placed,
+            alloc, directory, context, mode, text, place, &mut clean, &mut known, placed,
         )?;
         records.push(record)?;
         to = end + 1;

@@ -20,6 +20,7 @@ pub mod NotableLaws
 pub mod PlaceLaws
 pub mod Prefixes
 pub mod Recut
+pub mod Remembering
 pub mod Rests
 pub mod Sites
 pub mod Skipping

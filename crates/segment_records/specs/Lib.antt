@@ -3,6 +3,7 @@ pub mod Count
 pub mod Errors
 pub mod Groups
 pub mod Heads
+pub mod Known
 pub mod Laws
 pub mod Line
 pub mod Look

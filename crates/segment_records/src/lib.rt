@@ -8,6 +8,7 @@
 #![tactic(auto)]
 
 mod errors;
+mod known;
 mod mode;
 mod notable;
 mod record;
@@ -17,6 +18,7 @@ mod values;
 mod walked_segment;
 
 pub use errors::error_with;
+pub use known::KnownSteps;
 pub use mode::Mode;
 pub use notable::NotableSegments;
 pub use record::{Record, SegmentPlace};

@@ -7,6 +7,7 @@ ghost use Rattle.seg_lexer.specs.Service.{IsUsable};
 ghost use Rattle.seg_lexer.specs.Tag.{tag_of};
 ghost use Rattle.element_check.specs.Local.{local_errors_of};
 ghost use Rattle.clean_segments.specs.Clean.{AreClean};
+ghost use Rattle.segment_records.specs.Known.{AreKnown};
 ghost use Rattle.segment_records.specs.Notable.{is_marked, is_well_placed};
 ghost use Rattle.segment_records.specs.Records.{IsModeOf, kept_of};
 ghost use Rattle.segment_records.specs.RecordView.{local_in, missing_in};
@@ -15,6 +16,7 @@ ghost use Rattle.segment_records.specs.Steps.{inner_step};
 ghost use Rattle.segment_records.specs.Taken.{read_as};
 ghost use Rattle.edi_octets.specs.declared.octets.TheConstants.{LONGEST_TEXT};
 
+use crate::known::KnownSteps;
 use crate::mode::Mode;
 use crate::step::{Standing, take_inner_step, take_step};
 use crate::tags::stops_message;
@@ -107,7 +109,8 @@ impl Measured for Record {
 impl Record {
     /// Reads the segment at a place of a text after a mode: its local errors, and where it is in its message. At most one
     /// call of the walk is counted. Only want of memory is an error. `clean` are segments of the text in which nothing is
-    /// wrong by themselves, and then the segment too, if nothing is.
+    /// wrong by themselves, and then the segment too, if nothing is. `known` are steps in the directory's tables that were taken
+    /// before, and then the segment's too.
     pub fn read<O: Octets, L: Ledger>(
         alloc: Global,
         directory: &Directory,
@@ -116,6 +119,7 @@ impl Record {
         text: &O,
         place: SegmentPlace,
         clean: &mut CleanSegments,
+        known: &mut KnownSteps,
         placed: &mut Steps<L>,
     ) -> Result<Record, AllocError>
         requires usable { IsUsable context.now.service (O.octets text.now) }
@@ -125,6 +129,7 @@ impl Record {
         requires within { place.end < length (O.octets text.now) }
         requires mode { IsModeOf directory.now 4194303 before.now }
         requires clean { AreClean directory.now context.now (O.octets text.now) clean.old }
+        requires known { AreKnown directory.now known.old }
         ensures kept { IfOk result (λ kept. kept ≡ kept_of directory.now context.now before.now
             (segment_read
             context.now.service (O.octets text.now) place.from place.start place.end)) }
@@ -132,6 +137,7 @@ impl Record {
             → IsModeOf directory.now most before.now
             → IfOk result (λ kept. IsModeOf directory.now (most + 1) kept.step.after) }
         ensures clean { AreClean directory.now context.now (O.octets text.now) clean.new }
+        ensures known { AreKnown directory.now known.new }
         ensures counted { placed.new ≤ placed.old + 1 }
     {
         let SegmentPlace { from, start, end } = place;
@@ -141,7 +147,7 @@ impl Record {
         };
         let service = &context.service;
         let step = take_step(
-            alloc, directory, before, tag, text, service, start, end, placed,
+            alloc, directory, before, tag, text, service, start, end, known, placed,
         )?;
         Ok(Record {
             octets: (end + 1 - from) as u32,
@@ -175,7 +181,8 @@ impl Record {
             → IfOk result (λ kept. IsModeOf directory.now (most + 1) kept.step.after) }
         ensures counted { placed.new ≤ placed.old + 1 }
     {
-        let again = take_inner_step(alloc, directory, before, self.tag, placed)?;
+        let mut known = KnownSteps::forgetful(alloc);
+        let again = take_inner_step(alloc, directory, before, self.tag, &mut known, placed)?;
         let local = SmallVec::from_slice(alloc, self.local())?;
         Ok(Record {
             octets: self.octets,

@@ -1,15 +1,18 @@
 //! One segment after another: where a segment is by the mode before it, and the mode after it.
-ghost use Rattle.std.specs.Prelude.{◌≡◌, ◌+◌, ◌<◌, ◌≤◌, [], ℕ, None, false, codes, length, IfOk, IfSome, if◌then◌else◌};
+ghost use Rattle.std.specs.Prelude.{◌≡◌, ◌+◌, ◌<◌, ◌≤◌, [], ℕ, None, Some, false, codes, length, IfOk, IfSome, if◌then◌else◌};
 ghost use Rattle.edi_tables.specs.Rows.{has_name};
 ghost use Rattle.dir_compile.specs.Directory.{tables_of};
 ghost use Rattle.seg_lexer.specs.Fields.{components_at};
 ghost use Rattle.seg_lexer.specs.Service.{IsUsable};
 ghost use Rattle.edi_octets.specs.declared.octets.TheConstants.{LONGEST_TEXT};
+ghost use Rattle.dir_compile.specs.declared.parts.Parts.{Parts};
+ghost use Rattle.segment_records.specs.Known.{AreKnown, IsKnown};
 ghost use Rattle.segment_records.specs.Records.{IsModeOf};
 ghost use Rattle.segment_records.specs.Steps.{inner_step, opening_step, plain_step as step_to, step_of};
 ghost use Rattle.segment_records.specs.Standings.{entry_at, is_over_at};
 ghost use Rattle.segment_records.specs.Taken.{read_as, taken};
 
+use crate::known::{KnownStep, KnownSteps};
 use crate::mode::Mode;
 use crate::tags::{is_named, is_no_part};
 use crate::values::find_table;
@@ -69,6 +72,7 @@ pub(crate) fn take_step<O: Octets, L: Ledger>(
     service: &Service,
     start: usize,
     end: usize,
+    known: &mut KnownSteps,
     placed: &mut Steps<L>,
 ) -> Result<Step, AllocError>
     requires usable { IsUsable service.now (O.octets text.now) }
@@ -76,6 +80,7 @@ pub(crate) fn take_step<O: Octets, L: Ledger>(
     requires ordered { start ≤ end }
     requires within { end ≤ length (O.octets text.now) }
     requires mode { IsModeOf directory.now 4194303 before.now }
+    requires known { AreKnown directory.now known.old }
     ensures step { IfOk result
         (λ step. taken step
         ≡ step_of directory.now before.now
@@ -83,6 +88,7 @@ pub(crate) fn take_step<O: Octets, L: Ledger>(
     ensures mode { (most : ℕ)
         → IsModeOf directory.now most before.now
         → IfOk result (λ step. IsModeOf directory.now (most + 1) step.after) }
+    ensures known { AreKnown directory.now known.new }
     ensures counted { placed.new ≤ placed.old + 1 }
 {
     if is_named(b"UNH", tag) {
@@ -93,7 +99,13 @@ pub(crate) fn take_step<O: Octets, L: Ledger>(
     if is_no_part(tag) {
         return Ok(plain_step(alloc, Mode::Outside));
     }
-    take_inner_step(alloc, directory, before, tag, placed)
+    // Nearly every segment is in a message with a table.
+    match before {
+        Mode::Within { table, state } => {
+            go_on(alloc, directory, *table, state, tag, known, placed)
+        }
+        _ => take_inner_step(alloc, directory, before, tag, known, placed),
+    }
 }
 
 /// The step of a segment with this tag after this mode, where the tag is none of UNH, UNB, UNG, UNE and UNZ: what it says
@@ -104,20 +116,25 @@ pub(crate) fn take_inner_step<L: Ledger>(
     directory: &Directory,
     before: &Mode,
     tag: Option<Tag>,
+    known: &mut KnownSteps,
     placed: &mut Steps<L>,
 ) -> Result<Step, AllocError>
     requires mode { IsModeOf directory.now 4194303 before.now }
+    requires known { AreKnown directory.now known.old }
     ensures step { IfOk result
         (λ step. taken step ≡ inner_step directory.now before.now (read_as tag [])) }
     ensures mode { (most : ℕ)
         → IsModeOf directory.now most before.now
         → IfOk result (λ step. IsModeOf directory.now (most + 1) step.after) }
+    ensures known { AreKnown directory.now known.new }
     ensures counted { placed.new ≤ placed.old + 1 }
 {
     match before {
         Mode::Outside => Ok(plain_step(alloc, Mode::Outside)),
         Mode::Untabled => Ok(plain_step(alloc, unless_closed(tag, Mode::Untabled))),
-        Mode::Within { table, state } => go_on(alloc, directory, *table, state, tag, placed),
+        Mode::Within { table, state } => {
+            go_on(alloc, directory, *table, state, tag, known, placed)
+        }
     }
 }
 
@@ -142,7 +159,7 @@ fn open_message(
     })
 }
 
-// The step of a segment of a message with a table.
+// The step of a segment of a message with a table. It is looked for among the known ones first.
 #[inline(always)]
 fn go_on<L: Ledger>(
     alloc: Global,
@@ -150,18 +167,98 @@ fn go_on<L: Ledger>(
     table: u32,
     state: &State,
     tag: Option<Tag>,
+    known: &mut KnownSteps,
     placed: &mut Steps<L>,
 ) -> Result<Step, AllocError>
     requires mode { IsModeOf directory.now 4194303 (Mode.Within table state.now) }
+    requires known { AreKnown directory.now known.old }
     ensures step { IfOk result
         (λ step. taken step
         ≡ inner_step directory.now (Mode.Within table state.now) (read_as tag [])) }
     ensures mode { (most : ℕ)
         → IsModeOf directory.now most (Mode.Within table state.now)
         → IfOk result (λ step. IsModeOf directory.now (most + 1) step.after) }
+    ensures known { AreKnown directory.now known.new }
+    ensures counted { placed.new ≤ placed.old + 1 }
+{
+    match go_on_as_known(alloc, table, state, tag, known) {
+        Some(step) => Ok(step),
+        None => go_on_anew(alloc, directory, table, state, tag, known, placed),
+    }
+}
+
+// The same step as one that is known, if there is one.
+#[inline(always)]
+fn go_on_as_known(
+    alloc: Global,
+    table: u32,
+    state: &State,
+    tag: Option<Tag>,
+    known: &mut KnownSteps,
+) -> Option<Step>
+    ensures step { (directory : Parts) → AreKnown directory known.old
+        → IfSome result (λ step. taken step
+        ≡ inner_step directory (Mode.Within table state.now) (read_as tag [])) }
+    ensures mode { (directory : Parts) (most : ℕ) → AreKnown directory known.old
+        → IsModeOf directory most (Mode.Within table state.now)
+        → IfSome result (λ step. IsModeOf directory (most + 1) step.after) }
+    ensures known { known.new ≡ known.old }
+{
+    let before = state.few()?;
+    let tag = tag?;
+    let place = known.place_of(table, before, tag)?;
+    known.go_to(place);
+    let found = known.at(place)?;
+    Some(step_again(alloc, found))
+}
+
+// A known step, taken again.
+#[inline(always)]
+fn step_again(alloc: Global, known: &KnownStep) -> Step
+    ensures step { (directory : Parts) → IsKnown directory known.now → taken result
+        ≡ inner_step directory (Mode.Within known.now.table known.now.before)
+        (read_as (Some known.now.tag) []) }
+    ensures mode { (directory : Parts) (most : ℕ) → IsKnown directory known.now
+        → IsModeOf directory most (Mode.Within known.now.table known.now.before)
+        → IsModeOf directory (most + 1) result.after }
+{
+    Step {
+        standing: Standing::At(known.entry),
+        missing: SmallVec::new(alloc),
+        after: unless_closed(
+            Some(known.tag),
+            Mode::Within {
+                table: known.table,
+                state: State::of_few(known.after.copy()),
+            },
+        ),
+    }
+}
+
+// The step of a segment of a message with a table, by its table. From now on it is known, if it can be.
+#[inline(never)]
+fn go_on_anew<L: Ledger>(
+    alloc: Global,
+    directory: &Directory,
+    table: u32,
+    state: &State,
+    tag: Option<Tag>,
+    known: &mut KnownSteps,
+    placed: &mut Steps<L>,
+) -> Result<Step, AllocError>
+    requires mode { IsModeOf directory.now 4194303 (Mode.Within table state.now) }
+    requires known { AreKnown directory.now known.old }
+    ensures step { IfOk result
+        (λ step. taken step
+        ≡ inner_step directory.now (Mode.Within table state.now) (read_as tag [])) }
+    ensures mode { (most : ℕ)
+        → IsModeOf directory.now most (Mode.Within table state.now)
+        → IfOk result (λ step. IsModeOf directory.now (most + 1) step.after) }
+    ensures known { AreKnown directory.now known.new }
     ensures counted { placed.new ≤ placed.old + 1 }
 {
     let next = state.place(alloc, directory.table(table as usize), tag, placed)?;
+    known.keep(table, state, tag, &next);
     Ok(Step {
         standing: standing_of(next.entry, next.over),
         missing: next.missing,
@@ -187,6 +284,7 @@ fn plain_step(alloc: Global, after: Mode) -> Step
 }
 
 // The mode after a segment of a message: UNT closes it.
+#[inline(always)]
 fn unless_closed(tag: Option<Tag>, after: Mode) -> Mode
     ensures { result ≡ (if has_name (codes "UNT") tag then Mode.Outside else after) }
 {

@@ -1,6 +1,7 @@
 pub mod Backwards
 pub mod Choosing
 pub mod Derived
+pub mod FivePairs
 pub mod Least
 pub mod NextReached
 pub mod Onward

@@ -1,5 +1,5 @@
 //! A few pairs of a walk, in little room.
-ghost use Rattle.std.specs.Prelude.{◌≡◌, ◌∷◌, [], slice_get, IfSome};
+ghost use Rattle.std.specs.Prelude.{◌≡◌, ◌∷◌, [], slice_get, IfSome, IsTrue};
 ghost use Rattle.edi_tables.specs.Pairs.{count_in, entry_in};
 
 use std::marker::Model;
@@ -63,6 +63,27 @@ impl FewPairs {
         Some(())
     }
 
+    /// Whether they are seen at once to be these pairs. No says nothing of them.
+    #[inline(always)]
+    pub fn are(&self, other: &FewPairs) -> bool
+        ensures { IsTrue result → self.now ≡ other.now }
+    {
+        (self.first == other.first) & are_same(&self.pairs, &other.pairs)
+    }
+
+    /// A number that most other pairs don't have.
+    #[inline(always)]
+    pub fn digest(&self) -> u64 {
+        let mut digest = 0_u64;
+        for pair in self.as_slice() {
+            let word = u64::from(pair.0) << 16 | u64::from(pair.1);
+            digest = digest
+                .wrapping_add(word)
+                .wrapping_mul(0x9E37_79B9_7F4A_7C15);
+        }
+        digest
+    }
+
     /// The same pairs once more.
     #[inline(always)]
     pub fn copy(&self) -> FewPairs
@@ -118,4 +139,22 @@ impl FewPairs {
         }
         0
     }
+}
+
+// Whether two arrays are one. All their pairs are compared: that is quicker than to stop at the first that differs.
+#[inline(always)]
+fn are_same(one: &[(u16, u16); MOST_PAIRS], other: &[(u16, u16); MOST_PAIRS]) -> bool
+    ensures { IsTrue result → one.now ≡ other.now }
+{
+    let [a, b, c, d, e] = one;
+    let [v, w, x, y, z] = other;
+    is_same(a, v) & is_same(b, w) & is_same(c, x) & is_same(d, y) & is_same(e, z)
+}
+
+// Whether two pairs are one.
+#[inline(always)]
+fn is_same(one: &(u16, u16), other: &(u16, u16)) -> bool
+    ensures { IsTrue result → one.now ≡ other.now }
+{
+    (one.0 == other.0) & (one.1 == other.1)
 }

@@ -6,5 +6,6 @@ mod position;
 mod read;
 mod state;
 
+pub use few_pairs::FewPairs;
 pub use read::read_tags;
 pub use state::{Placed, State, start};

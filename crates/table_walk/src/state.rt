@@ -1,5 +1,5 @@
 //! The state of a walk: what one segment leaves to the next.
-ghost use Rattle.std.specs.Prelude.{◌≡◌, ◌+◌, ◌<◌, ◌↔◌, ℕ, List, [], ◌∷◌, Option, Some, None, length, slice_get, IsTrue, IfOk};
+ghost use Rattle.std.specs.Prelude.{◌≡◌, ◌+◌, ◌<◌, ◌↔◌, ℕ, List, [], ◌∷◌, Option, Some, None, length, slice_get, IsTrue, IfOk, IfSome};
 ghost use Rattle.edi_tables.specs.declared.tag.Tag.{Tag};
 ghost use Rattle.edi_tables.specs.declared.table.Node.{Node};
 ghost use Rattle.edi_tables.specs.Rows.{IsTable};
@@ -85,6 +85,27 @@ impl State {
         match &self.pairs {
             Held::Few(pairs) => pairs.pair(number),
             Held::Many(pairs) => pairs.as_slice().get(number).copied(),
+        }
+    }
+
+    /// Its pairs, where they are few.
+    #[inline(always)]
+    pub fn few(&self) -> Option<&FewPairs>
+        ensures { IfSome result (λ few. few.now ≡ self.now) }
+    {
+        match &self.pairs {
+            Held::Few(pairs) => Some(pairs),
+            Held::Many(_) => None,
+        }
+    }
+
+    /// The state that has a few pairs.
+    #[inline(always)]
+    pub fn of_few(pairs: FewPairs) -> State
+        ensures { result ≡ pairs }
+    {
+        State {
+            pairs: Held::Few(pairs),
         }
     }
 

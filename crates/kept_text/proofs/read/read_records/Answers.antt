@@ -42,6 +42,7 @@ loop-start-init g c =
       records = subst (λ (read : List Kept). read ++ records_from dir context (last_mode c.args.before.now read) (drop c.args.from text) ≡ records_from dir context c.args.before.now (drop c.args.from text)) (sym none) refl;
       few = let count = ap length none in omega arith;
       clean = c.in_ok-clean.ensures dir context text;
+      known = c.in_ok-known.ensures dir;
       lexed = omega arith;
       placed = omega arith;
     }
@@ -72,6 +73,7 @@ loop-start-preserved g c =
           c.in_ok-push.ensures c.loop-start.invariant.records);
       few = omega (arith, ap length c.in_ok-push.ensures, length-append read (c.in_ok-record.record ∷ []), c.loop-start.invariant.few);
       clean = c.read.ensures.clean;
+      known = c.read.ensures.known;
       lexed = omega (arith, c.in-Ended.ensures.counted, c.loop-start.invariant.lexed);
       placed = omega (arith, c.in_ok-record.ensures.counted, c.loop-start.invariant.placed);
     }

@@ -1,6 +1,7 @@
 use Rattle.std.proofs.Common.{◌≡◌, ◌+◌, ◌-◌, ◌++◌, ◌≤◌, drop, length}
 use Rattle.seg_lexer.specs.Segments.{IsBoundary}
 use Rattle.clean_segments.specs.Clean.{AreClean}
+use Rattle.segment_records.specs.Known.{AreKnown}
 use Rattle.segment_records.specs.Records.{IsModeOf, records_from}
 use Rattle.kept_text.specs.Again.{last_mode}
 use Rattle.segment_records.proofs.Rests.{rest_count}
@@ -15,6 +16,7 @@ invariant-loop-start g l = record {
       ≡ records_from l.directory l.context l.fn.before (drop l.fn.from (g.O.Octets.octets l.text));
   few : length l.records ≤ l.from;
   clean : AreClean l.directory l.context (g.O.Octets.octets l.text) l.clean;
+  known : AreKnown l.directory l.known;
   lexed : l.lexed + rest_count l.context.service (g.O.Octets.octets l.text) l.from
       ≤ l.initial.lexed + rest_count l.context.service (g.O.Octets.octets l.text) l.fn.from;
   placed : l.placed + rest_count l.context.service (g.O.Octets.octets l.text) l.from

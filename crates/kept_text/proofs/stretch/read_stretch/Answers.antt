@@ -44,6 +44,7 @@ loop-start-init g c =
       read = none_read dir context text c.requires.usable c.args.before.now c.args.from c.new-records.result.items none c.requires.boundary c.requires.mode;
       apart = λ k at i end j low high is there. omega arith;
       clean = c.forgetful-clean.ensures dir context text;
+      known = c.forgetful-known.ensures dir;
       lexed = omega arith;
       placed = omega arith;
       lexed_most = omega arith;
@@ -104,6 +105,7 @@ loop-start-preserved g c =
           (c.loop-start.invariant.apart k at)
           (at_none c.record_after-next.result _ (sym c.is_some.ensures ∙ c.if-is_some.false) c.record_after-next.ensures.none);
       clean = c.read.ensures.clean;
+      known = c.read.ensures.known;
       lexed = omega (arith, c.in-Ended.ensures.counted, c.loop-start.invariant.lexed);
       placed = omega (arith, c.in_ok-record.ensures.counted, c.loop-start.invariant.placed);
       lexed_most = omega (arith, c.in-Ended.ensures.counted, c.loop-start.invariant.lexed_most);

@@ -2,6 +2,7 @@ use Rattle.std.proofs.Common.{◌≡◌, ◌+◌, ◌-◌, ◌≤◌, ℕ, Some,
 use Rattle.std.specs.List.{slice_get}
 use Rattle.clean_segments.specs.Clean.{AreClean}
 use Rattle.seg_lexer.specs.Segments.{boundaries_of, ends_of}
+use Rattle.segment_records.specs.Known.{AreKnown}
 use Rattle.segment_records.proofs.Rests.{rest_count}
 use Rattle.kept_text.specs.Again.{NoneBefore}
 use Rattle.kept_text.proofs.StretchRead.{AreRead}
@@ -14,6 +15,7 @@ invariant-loop-start g l = record {
   apart : (k : ℕ) → slice_get (boundaries_of l.context.service (g.O.Octets.octets l.text)) k ≡ Some l.from
       → NoneBefore l.old l.context.service.body l.span (ends_of l.context.service (g.O.Octets.octets l.text)) (k, k + length l.records.items);
   clean : AreClean l.directory l.context (g.O.Octets.octets l.text) l.clean;
+  known : AreKnown l.directory l.known;
   lexed : l.lexed ≤ l.initial.lexed + length l.records.items;
   placed : l.placed ≤ l.initial.placed + length l.records.items;
   lexed_most : l.lexed + rest_count l.context.service (g.O.Octets.octets l.text) l.to

@@ -10,6 +10,7 @@ use edi_tables::Chunk;
 use error_ledger::{ErrorLine, print_errors, put_tree_head};
 use run_outcome::{Made, Status};
 use std::alloc::{AllocError, Global};
+use std::mem::forget;
 
 /// The errors and the tree of a text, by a directory.
 pub(crate) fn tell_check(alloc: Global, directory: &Directory, octets: Vec<u8>) -> Made
@@ -40,6 +41,8 @@ fn print_check(alloc: Global, directory: &Directory, octets: Vec<u8>) -> Result<
     let tree = engine.print_tree(alloc)?;
     let mut errors = print_errors(alloc, &found)?;
     put_tree_head(&mut errors, tree.lines)?;
+    // The run ends after it: its memory is given back with that of the run, and not record by record.
+    forget(engine);
     Ok(Printed {
         status: found_if(&found),
         errors,

@@ -11,6 +11,7 @@ use dir_compile::Directory;
 use edi_engine::Engine;
 use run_outcome::{Made, Status};
 use std::alloc::{AllocError, Global};
+use std::mem::forget;
 
 /// The acknowledgement of a text, by a directory.
 pub(crate) fn tell_contrl(
@@ -45,7 +46,11 @@ fn acknowledge(
     ensures { IfOk result (λ answer. answer
         ≡ contrl_to directory.now octets.items stamp.now reference.now) }
 {
-    Engine::read(alloc, directory, octets)?.contrl(alloc, stamp, reference)
+    let engine = Engine::read(alloc, directory, octets)?;
+    let answer = engine.contrl(alloc, stamp, reference)?;
+    // As in `check`: the run ends after it.
+    forget(engine);
+    Ok(answer)
 }
 
 // The octets of an acknowledgement and nothing else; or that there is no UNB, or a bad one.

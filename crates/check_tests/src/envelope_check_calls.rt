@@ -4,7 +4,9 @@ ghost use Rattle.std.specs.Option.{option_to_list};
 ghost use Rattle.envelope_check.specs.Heads.{Fits, head_place_of, place_by};
 
 use edi_tables::Tag;
-use envelope_check::{Head, HeadKind, HeadValue, MarkList, SegmentMark, envelope_errors};
+use envelope_check::{
+    Head, HeadKind, HeadValue, HeadValues, MarkList, SegmentMark, envelope_errors,
+};
 use error_ledger::print_errors;
 use std::alloc::{AllocError, Global};
 use std::process::Abort;
@@ -13,41 +15,41 @@ use std::test::Fail;
 /// The tag of a segment, and its count, reference and name. A message named `NONE` has no table.
 type Row = (&'static str, &'static str, &'static str, &'static str);
 
-fn head_of(
-    alloc: Global,
-    segment: u32,
-    start: u32,
-    kind: HeadKind,
-    row: &Row,
-) -> Result<Head, AllocError>
-    ensures { IfOk result
-        (λ h. head_place_of h ≡ record { segment = segment; start = start; kind = kind }) }
-{
-    Ok(Head {
-        segment,
-        start,
-        kind,
-        count: HeadValue::of(alloc, row.1.as_bytes())?,
+/// The values of a row as those of a head: its count, or else its name.
+fn values_of(alloc: Global, row: &Row) -> Result<HeadValues, AllocError> {
+    let other = if row.1.is_empty() { row.3 } else { row.1 };
+    Ok(HeadValues {
         reference: HeadValue::of(alloc, row.2.as_bytes())?,
-        name: HeadValue::of(alloc, row.3.as_bytes())?,
-        tabled: row.3 != "NONE",
+        other: HeadValue::of(alloc, other.as_bytes())?,
     })
 }
 
+/// Those of each row.
+fn all_values(alloc: Global, rows: &[Row]) -> Result<Vec<HeadValues>, AllocError>
+    ensures { IfOk result (λ values. length values.items ≡ length rows.now) }
+{
+    let mut values = Vec::new(alloc);
+    for row in rows {
+        values.push(values_of(alloc, row)?)?;
+    }
+    Ok(values)
+}
+
 /// Puts the head that a segment is, if it is one, at the end.
-fn push_head(
-    alloc: Global,
-    heads: &mut Vec<Head>,
+fn push_head<'v>(
+    heads: &mut Vec<Head<'v>>,
     segment: u32,
     mark: &SegmentMark,
     row: &Row,
+    values: &'v HeadValues,
 ) -> Result<(), AllocError>
     ensures { OnOk result (map head_place_of heads.new.items
         ≡ map head_place_of heads.old.items ++ option_to_list (place_by segment mark.now)) }
 {
     match HeadKind::of(mark.tag) {
         Some(kind) => {
-            heads.push(head_of(alloc, segment, mark.start, kind, row)?)?;
+            let tabled = row.3 != "NONE";
+            heads.push(Head::of(segment, mark.start, kind, tabled, values))?;
             Ok(())
         }
         None => Ok(()),
@@ -56,11 +58,11 @@ fn push_head(
 
 /// Puts one more segment at the end, ten octets after the one before it.
 #[tactic(auto, using(envelope_check::proofs::Fitting::fits_more))]
-fn push_row(
-    alloc: Global,
-    heads: &mut Vec<Head>,
+fn push_row<'v>(
+    heads: &mut Vec<Head<'v>>,
     marks: &mut Vec<SegmentMark>,
     row: &Row,
+    values: &'v HeadValues,
 ) -> Result<(), AllocError>
     requires few { length marks.old.items < 1000 }
     requires fits { Fits heads.old.items marks.old.items }
@@ -72,17 +74,19 @@ fn push_row(
         start: 10 * before,
         tag: Tag::read(row.0.as_bytes()),
     };
-    push_head(alloc, heads, before + 1, &mark, row)?;
+    push_head(heads, before + 1, &mark, row, values)?;
     marks.push(mark)?;
     Ok(())
 }
 
 fn expect(rt: &impl Abort, alloc: Global, rows: &[Row], wanted: &str) -> Result<(), AllocError> {
     assert!(rt; rows.len() < 100);
+    let values = all_values(alloc, rows)?;
     let mut heads = Vec::new(alloc);
     let mut marks = Vec::new(alloc);
     for row in rows {
-        push_row(alloc, &mut heads, &mut marks, row)?;
+        let values = &values[marks.len()];
+        push_row(&mut heads, &mut marks, row, values)?;
     }
     let total = marks.len() as u32;
     let errors = envelope_errors(alloc, &heads, total, &mut MarkList { marks: &marks })?;

@@ -1,2 +1,1 @@
 pub mod Edit
-pub mod Heads

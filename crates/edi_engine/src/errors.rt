@@ -12,11 +12,11 @@ ghost use Rattle.segment_records.specs.Segments.{segments_of_text};
 ghost use Rattle.segment_records.specs.Heads.{heads_of, marks_of};
 ghost use Rattle.text_reading.specs.Errors.{errors_found, errors_of};
 
-use crate::heads::read_head;
+use crate::heads::head_of;
 use crate::marks::KeptMarks;
 use crate::opening::{put_advice, put_syntax, put_tail};
 use crate::structure::put_structure;
-use envelope_check::{Head, HeadKind, envelope_errors};
+use envelope_check::{Head, envelope_errors};
 use error_ledger::{ErrorLine, order_errors};
 use kept_text::KeptText;
 use segment_records::WalkedSegment;
@@ -66,13 +66,13 @@ const MANY_HEADS: u32 = 2_048;
 
 // What one walk over the notable segments of a text finds: the heads, and the errors of each segment by itself and by its
 // message.
-struct Found {
-    heads: Vec<Head>,
+struct Found<'k> {
+    heads: Vec<Head<'k>>,
     lines: Vec<ErrorLine>,
 }
 
-// That of a text. The values of its heads are read from it. The other segments are no heads and have no error.
-fn walk_notable(kept: &KeptText<'_>, alloc: Global) -> Result<Found, AllocError>
+// That of a text. The other segments are no heads and have no error.
+fn walk_notable<'k>(kept: &'k KeptText<'_>, alloc: Global) -> Result<Found<'k>, AllocError>
     ensures heads { IfOk result (λ found. found.heads.items
         ≡ heads_of kept.now.directory (segments_of_text kept.now.text)) }
     ensures lines { IfOk result (λ found. let segments = segments_of_text kept.now.text in
@@ -81,16 +81,13 @@ fn walk_notable(kept: &KeptText<'_>, alloc: Global) -> Result<Found, AllocError>
         (enumerate_from 0 segments)) }
 {
     let directory = kept.directory();
-    let text = kept.whole();
-    let service = kept.service();
     let room = kept.segment_count().min(MANY_HEADS);
     let mut heads = Vec::with_capacity(alloc, room as usize)?;
     let mut lines = Vec::new(alloc);
     for seen in kept.notable_segments() {
         put_structure(alloc, directory, &seen, &mut lines)?;
         put_local(&seen, &mut lines)?;
-        if let Some(kind) = HeadKind::of(seen.record.tag()) {
-            let head = read_head(alloc, &text, service, &seen, kind)?;
+        if let Some(head) = head_of(&seen) {
             heads.push(head)?;
         }
     }
@@ -100,7 +97,7 @@ fn walk_notable(kept: &KeptText<'_>, alloc: Global) -> Result<Found, AllocError>
 // The errors of the envelopes of a text with these heads.
 fn judge_envelopes(
     kept: &KeptText<'_>,
-    heads: Vec<Head>,
+    heads: Vec<Head<'_>>,
     alloc: Global,
 ) -> Result<Vec<ErrorLine>, AllocError>
     requires { heads.items ≡ heads_of kept.now.directory (segments_of_text kept.now.text) }

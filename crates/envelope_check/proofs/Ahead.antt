@@ -5,7 +5,7 @@ use Rattle.std.specs.Option.{option_map_or, option_and_then}
 use Rattle.std.specs.List.{range_with_len, filter_map}
 use Rattle.std.proofs.lemmas.Bool.{cases_Bool, ne_eqb}
 use Rattle.edi_tables.specs.Extents.{tag_in}
-use Rattle.envelope_check.specs.declared.head.Head.{Head}
+use Rattle.envelope_check.specs.Head.{Head}
 use Rattle.envelope_check.specs.declared.head.HeadKind.{HeadKind}
 use Rattle.envelope_check.specs.declared.head.SegmentMark.{SegmentMark}
 use Rattle.envelope_check.specs.Heads.{kind_of, tags_of, start_in, HeadPlace, head_place_of, head_place, head_of, Fits}

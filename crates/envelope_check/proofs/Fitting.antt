@@ -4,7 +4,7 @@ use Rattle.std.specs.Prelude.{slice_get}
 use Rattle.std.specs.Option.{option_map, option_map_or, option_to_list}
 use Rattle.std.specs.List.{range_with_len, filter_map, cons_option}
 use Rattle.edi_tables.specs.Extents.{tag_in}
-use Rattle.envelope_check.specs.declared.head.Head.{Head}
+use Rattle.envelope_check.specs.Head.{Head}
 use Rattle.envelope_check.specs.declared.head.HeadKind.{HeadKind}
 use Rattle.envelope_check.specs.declared.head.SegmentMark.{SegmentMark}
 use Rattle.envelope_check.specs.Heads.{tags_of, kind_of, start_in, HeadPlace, head_place_of, place_by, head_place, Fits}

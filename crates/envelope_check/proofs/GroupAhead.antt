@@ -6,7 +6,7 @@ use Rattle.std.specs.List.{range_with_len}
 use Rattle.std.proofs.lemmas.Bool.{cases_Bool, cases_eq, cases_lt, cases_order, true≢false}
 use Rattle.edi_tables.specs.Extents.{Extent, tag_in, group_opened_at}
 use Rattle.edi_tables.specs.declared.tag.Tag.{Tag}
-use Rattle.envelope_check.specs.declared.head.Head.{Head}
+use Rattle.envelope_check.specs.Head.{Head}
 use Rattle.envelope_check.specs.declared.head.HeadKind.{HeadKind}
 use Rattle.envelope_check.specs.declared.head.HeadKind.TheVariants.{Unb, Ung, Unh, Unt, Une, Unz}
 use Rattle.envelope_check.specs.declared.head.SegmentMark.{SegmentMark}

@@ -7,7 +7,7 @@ use Rattle.std.specs.Borrow.{Bor}
 use Rattle.std.proofs.lemmas.Bool.{cases_Bool}
 use Rattle.edi_tables.specs.Extents.{tag_in}
 use Rattle.edi_tables.specs.declared.tag.Tag.{Tag}
-use Rattle.envelope_check.specs.declared.head.Head.{Head}
+use Rattle.envelope_check.specs.Head.{Head}
 use Rattle.envelope_check.specs.declared.head.HeadKind.{HeadKind}
 use Rattle.envelope_check.specs.declared.head.HeadKind.TheVariants.{Ung, Unh, Unt}
 use Rattle.envelope_check.specs.declared.head.SegmentMark.{SegmentMark}

@@ -1,5 +1,6 @@
 pub mod Ahead
 pub mod Closing
+mod Coming
 pub mod Counting
 pub mod Extents
 pub mod Fitting

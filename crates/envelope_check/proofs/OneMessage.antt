@@ -11,7 +11,7 @@ use Rattle.error_ledger.specs.declared.kind.Kind.TheVariants.{Count, Reference}
 use Rattle.envelope_check.specs.Envelope.{envelope_errors_of, gives}
 use Rattle.envelope_check.specs.Heads.{Fits}
 use Rattle.envelope_check.specs.Known.{error_of, errors_by, head_here, heads_after, mark_at, rules_by}
-use Rattle.envelope_check.specs.declared.head.Head.{Head}
+use Rattle.envelope_check.specs.Head.{Head}
 use Rattle.envelope_check.specs.declared.head.HeadKind.{HeadKind}
 use Rattle.envelope_check.specs.declared.head.HeadKind.TheVariants.{Unb, Unh, Unt, Unz}
 use Rattle.envelope_check.specs.declared.head.SegmentMark.{SegmentMark}

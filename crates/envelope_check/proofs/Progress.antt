@@ -7,7 +7,7 @@ use Rattle.edi_tables.specs.Rows.{when}
 use Rattle.error_ledger.specs.declared.error.ErrorLine.{ErrorLine}
 use Rattle.error_ledger.specs.declared.kind.Kind.{Kind}
 use Rattle.error_ledger.specs.declared.kind.Kind.TheVariants.{NoUnb, NoUnz}
-use Rattle.envelope_check.specs.declared.head.Head.{Head}
+use Rattle.envelope_check.specs.Head.{Head}
 use Rattle.envelope_check.specs.declared.head.SegmentMark.{SegmentMark}
 use Rattle.envelope_check.specs.declared.known.Known.{Known}
 use Rattle.envelope_check.specs.Heads.{tags_of, Fits}
@@ -121,12 +121,21 @@ run_within heads marks known rest errors n done is =
     at_most (known.ended || not (is_some known.message)) known.segments n (next_number rest (length marks)) (length marks) is done.within bounds.1
 
 -- the run that is skipped is done
-pub done_run : (heads : List Head) (marks : List SegmentMark) (old new : Known) (rest : List Head) (errors : List ErrorLine) (n : ℕ) → IsDone heads marks old.segments old rest errors → 0 < n → n ≡ sound_run_by old rest (length marks) → IsKnownAfterOthers old n new → IsDone heads marks new.segments new rest errors
+done_run : (heads : List Head) (marks : List SegmentMark) (old new : Known) (rest : List Head) (errors : List ErrorLine) (n : ℕ) → IsDone heads marks old.segments old rest errors → 0 < n → n ≡ sound_run_by old rest (length marks) → IsKnownAfterOthers old n new → IsDone heads marks new.segments new rest errors
 done_run heads marks old new rest errors n done some is all =
     let run = run_by old rest (length marks) n old.ended (is_some old.message) refl refl some is in
     let bounds = next_ahead marks old.segments (length marks - old.segments) (length marks) rest done.ahead.fits (omega (arith, done.within)) in
     subst (λ i. IsDone heads marks i new rest errors) (sym all.segments)
     (sound_done heads marks old.segments n old new rest errors run.before run.inside (omega (arith, run.length_is, bounds.0)) done all)
+
+-- so it is where the run has no segment
+pub done_skip : (heads : List Head) (marks : List SegmentMark) (old new : Known) (rest : List Head) (errors : List ErrorLine) (n : ℕ) → IsDone heads marks old.segments old rest errors → n ≡ sound_run_by old rest (length marks) → IsKnownAfterOthers old n new → IsDone heads marks new.segments new rest errors
+done_skip heads marks old new rest errors zero done is all =
+    let same : IsDone heads marks old.segments new rest errors =
+    record { within = done.within; so_far = known_same heads (tags_of marks) old.segments old new done.so_far all; ahead = done.ahead; told = done.told } in
+    subst (λ j. IsDone heads marks j new rest errors) (omega (arith, all.segments)) same
+done_skip heads marks old new rest errors (suc n) done is all =
+    done_run heads marks old new rest errors (suc n) done (omega arith) is all
 
 -- the next head is still to come
 pub next_to_come : (heads : List Head) (marks : List SegmentMark) (known : Known) (rest : List Head) (errors : List ErrorLine) → IsDone heads marks known.segments known rest errors → known.segments < next_number rest (length marks)

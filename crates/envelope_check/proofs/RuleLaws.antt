@@ -6,7 +6,7 @@ use Rattle.std.specs.Str.{bytes_eq}
 use Rattle.std.proofs.lemmas.Bool.{false≢true, true≢false}
 use Rattle.edi_tables.specs.Extents.{Extent, tag_in, message_at, group_at, group_closed_at}
 use Rattle.edi_tables.specs.declared.tag.Tag.{Tag}
-use Rattle.envelope_check.specs.declared.head.Head.{Head}
+use Rattle.envelope_check.specs.Head.{Head}
 use Rattle.envelope_check.specs.declared.head.HeadKind.{HeadKind}
 use Rattle.envelope_check.specs.declared.head.HeadKind.TheVariants.{Unb, Unh, Unt, Unz}
 use Rattle.envelope_check.specs.declared.head.SegmentMark.{SegmentMark}

@@ -10,7 +10,7 @@ use Rattle.edi_tables.specs.Rows.{when}
 use Rattle.error_ledger.specs.declared.error.ErrorLine.{ErrorLine}
 use Rattle.error_ledger.specs.declared.kind.Kind.{Kind}
 use Rattle.error_ledger.specs.declared.kind.Kind.TheVariants.{SecondUnb, AfterEnd, Outside, EmptyInterchange, Mixed, Reference, Count, NoUne, EmptyGroup, GroupType, NoTable}
-use Rattle.envelope_check.specs.declared.head.Head.{Head}
+use Rattle.envelope_check.specs.Head.{Head}
 use Rattle.envelope_check.specs.declared.head.HeadKind.{HeadKind}
 use Rattle.envelope_check.specs.declared.head.HeadKind.TheVariants.{Unh, Unt}
 use Rattle.envelope_check.specs.declared.head.SegmentMark.{SegmentMark}

@@ -11,7 +11,7 @@ use Rattle.edi_octets.specs.Decimal.{decimal_in}
 use Rattle.error_ledger.specs.declared.error.ErrorLine.{ErrorLine}
 use Rattle.error_ledger.specs.declared.kind.Kind.{Kind}
 use Rattle.error_ledger.specs.declared.kind.Kind.TheVariants.{NoUnb, NoUnz, SecondUnb, AfterEnd, Outside, EmptyInterchange, Mixed, Reference, Count, NoUne, EmptyGroup, GroupType, NoTable}
-use Rattle.envelope_check.specs.declared.head.Head.{Head}
+use Rattle.envelope_check.specs.Head.{Head}
 use Rattle.envelope_check.specs.declared.head.SegmentMark.{SegmentMark}
 use Rattle.envelope_check.specs.Heads.{tags_of, start_in, reference_of, count_of, message_type_of, is_tabled}
 

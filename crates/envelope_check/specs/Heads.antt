@@ -6,7 +6,7 @@ use Rattle.edi_tables.specs.Octets.{Octets}
 use Rattle.edi_tables.specs.declared.tag.Tag.{Tag}
 use Rattle.edi_tables.specs.Rows.{has_name}
 use Rattle.edi_tables.specs.Extents.{tag_in}
-use Rattle.envelope_check.specs.declared.head.Head.{Head}
+use Rattle.envelope_check.specs.Head.{Head}
 use Rattle.envelope_check.specs.declared.head.HeadKind.{HeadKind}
 use Rattle.envelope_check.specs.declared.head.HeadKind.TheVariants.{Unb, Ung, Unh, Unt, Une, Unz}
 use Rattle.envelope_check.specs.declared.head.SegmentMark.{SegmentMark}

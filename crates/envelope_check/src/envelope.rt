@@ -40,9 +40,9 @@ use std::alloc::{AllocError, Global};
 /// `heads` are those segments that have one of the six tags of `HeadKind`, in order, and `total` is how many segments
 /// there are. A segment's mark is asked for only where an error is told of it. Only want of memory is an error.
 /// The work grows with the heads, and with the segments that are outside of a message or after the end.
-pub fn envelope_errors<M: SegmentMarks>(
+pub fn envelope_errors<'a, 'k, M: SegmentMarks>(
     alloc: Global,
-    heads: &[Head],
+    heads: &'a [Head<'k>],
     total: u32,
     marks: &mut M,
 ) -> Result<Vec<ErrorLine>, AllocError>
@@ -54,24 +54,26 @@ pub fn envelope_errors<M: SegmentMarks>(
 {
     let mut errors = text_errors(alloc, heads)?;
     let mut known = Known::first(heads);
-    let mut rest = heads;
+    // How many heads are done with.
+    let mut done = 0;
     while known.segments < total {
+        let rest = &heads[done..];
         let sound = sound_run(&known, rest, total);
-        if sound > 0 {
-            known = known.after_others(sound);
-            continue;
+        known = known.after_others(sound);
+        if known.segments == total {
+            return Ok(errors);
         }
         let number = known.segments + 1;
         let (head, after) = split_here(rest, number);
         push_segment_errors(&mut errors, number, marks, &known, head, after)?;
         known = known.after(head);
-        rest = after;
+        done = heads.len() - after.len();
     }
     Ok(errors)
 }
 
 // The errors of the text as a whole: it begins with no UNB, and it has no UNZ.
-fn text_errors(alloc: Global, heads: &[Head]) -> Result<Vec<ErrorLine>, AllocError>
+fn text_errors(alloc: Global, heads: &[Head<'_>]) -> Result<Vec<ErrorLine>, AllocError>
     ensures { IfOk result (λ errors. errors.items
         ≡ when (not (is_some (first_unb_of heads.now))) (text_error Kind.NoUnb)
         ++ when (not (has_kind is_unz heads.now)) (text_error Kind.NoUnz)) }
@@ -108,8 +110,8 @@ fn push_segment_errors<M: SegmentMarks>(
     number: u32,
     marks: &mut M,
     known: &Known,
-    head: Option<&Head>,
-    after: &[Head],
+    head: Option<&Head<'_>>,
+    after: &[Head<'_>],
 ) -> Result<(), AllocError>
     requires first { 0 < number }
     requires last { number ≤ length (M.marks marks.old) }

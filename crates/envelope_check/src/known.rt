@@ -7,18 +7,18 @@ use crate::step::{group_after, group_messages_after, message_after, message_segm
 
 /// What is known of a text when one of its segments is looked at: what the segments before it have opened and counted.
 #[derive(Clone, Copy)]
-pub(crate) struct Known<'a> {
+pub(crate) struct Known<'a, 'k> {
     /// The text has a functional group, before the segment or after it.
     pub has_groups: bool,
     /// The first segment, where it is UNB.
-    pub interchange: Option<&'a Head>,
+    pub interchange: Option<&'a Head<'k>>,
     /// A UNZ came before.
     pub ended: bool,
     /// The UNH of the message that is open, and how many segments it has so far.
-    pub message: Option<&'a Head>,
+    pub message: Option<&'a Head<'k>>,
     pub message_segments: u32,
     /// The UNG of the group that is open, and how many messages it has so far.
-    pub group: Option<&'a Head>,
+    pub group: Option<&'a Head<'k>>,
     pub group_messages: u32,
     /// How many segments, groups and messages came before.
     pub segments: u32,
@@ -30,12 +30,12 @@ pub(crate) struct Known<'a> {
     ghost few_messages: { messages ≤ segments },
 }
 
-impl<'a> Known<'a> {
+impl<'a, 'k> Known<'a, 'k> {
     ghost use Rattle.std.specs.Option.{option_copied};
     ghost use Rattle.envelope_check.specs.Known.{IsKnownAfter, IsKnownAfterOthers, IsKnownFirst};
 
     /// Before the first segment.
-    pub(crate) fn first(heads: &'a [Head]) -> Known<'a>
+    pub(crate) fn first(heads: &'a [Head<'k>]) -> Known<'a, 'k>
         ensures { IsKnownFirst heads.now result }
     {
         Known {
@@ -53,7 +53,7 @@ impl<'a> Known<'a> {
     }
 
     /// After a segment, which may be a head.
-    pub(crate) fn after(&self, head: Option<&'a Head>) -> Known<'a>
+    pub(crate) fn after(&self, head: Option<&'a Head<'k>>) -> Known<'a, 'k>
         requires { self.now.segments + 1 < 2 ^ 32 }
         ensures { IsKnownAfter self.now (option_copied head.entry) result }
     {
@@ -76,7 +76,7 @@ impl<'a> Known<'a> {
     }
 
     /// After so many segments that are no heads: they only add to the segments.
-    pub(crate) fn after_others(&self, count: u32) -> Known<'a>
+    pub(crate) fn after_others(&self, count: u32) -> Known<'a, 'k>
         requires { self.now.segments + count < 2 ^ 32 }
         ensures { IsKnownAfterOthers self.now count result }
     {

@@ -10,5 +10,5 @@ mod rules;
 mod step;
 
 pub use envelope::envelope_errors;
-pub use head::{Head, HeadKind, HeadValue, SegmentMark};
+pub use head::{Head, HeadKind, HeadValue, HeadValues, SegmentMark};
 pub use marks::{MarkList, SegmentMarks};

@@ -2,7 +2,7 @@
 ghost use Rattle.std.specs.Prelude.{◌≡◌, ◌+◌, ◌<◌, ◌^◌, List, Some, false, is_some, true};
 ghost use Rattle.std.specs.Option.{option_copied};
 ghost use Rattle.std.specs.List.{list_any};
-ghost use Rattle.envelope_check.specs.declared.head.Head as heads;
+ghost use Rattle.envelope_check.specs.Head as heads;
 ghost use Rattle.envelope_check.specs.Envelope.{gives as gives_number};
 ghost use Rattle.envelope_check.specs.Known.{
   second_unb_by,
@@ -37,7 +37,7 @@ pub(crate) type Rule = (bool, u32, Kind);
 
 /// The rules at a segment, in the order of their errors.
 #[tactic(auto, unfolding(crate::specs::Known::rules_by))]
-pub(crate) fn rules(known: &Known, head: Option<&Head>, after: &[Head]) -> [Rule; 11]
+pub(crate) fn rules(known: &Known, head: Option<&Head<'_>>, after: &[Head<'_>]) -> [Rule; 11]
     requires { known.now.segments + 1 < 2 ^ 32 }
     ensures { result ≡ rules_by known.now (option_copied head.entry) after.now }
 {
@@ -61,13 +61,13 @@ pub(crate) fn rules(known: &Known, head: Option<&Head>, after: &[Head]) -> [Rule
 
 /// Whether a segment is seen at once to break no rule: a UNH or a UNT that is as it should be, as nearly every one is. Another one
 /// may break none either.
-pub(crate) fn is_sound(known: &Known, head: Option<&Head>) -> bool
+pub(crate) fn is_sound(known: &Known, head: Option<&Head<'_>>) -> bool
     requires { known.now.segments + 1 < 2 ^ 32 }
     ensures { (after : List heads.Head) → result ≡ true
         → list_any (λ rule. rule.0) (rules_by known.now (option_copied head.entry) after) ≡ false }
 {
     match head {
-        Some(head) if !known.ended => match head.kind {
+        Some(head) if !known.ended => match head.kind() {
             HeadKind::Unh => is_sound_start(known, head),
             HeadKind::Unt => is_sound_end(known, head),
             _ => false,
@@ -77,7 +77,7 @@ pub(crate) fn is_sound(known: &Known, head: Option<&Head>) -> bool
 }
 
 // Whether a UNH breaks no rule.
-fn is_sound_start(known: &Known, head: &Head) -> bool
+fn is_sound_start(known: &Known, head: &Head<'_>) -> bool
     ensures table { result ≡ true → lacks_table_by (Some head.now) ≡ false }
     ensures mixed { result ≡ true
         → mixed_by (Some head.now.kind) (is_some known.now.group) known.now.has_groups ≡ false }
@@ -85,7 +85,7 @@ fn is_sound_start(known: &Known, head: &Head) -> bool
         → other_type_by (Some head.now.kind) (Some head.now) (option_copied known.now.group)
         ≡ false }
 {
-    let kind = Some(head.kind);
+    let kind = Some(head.kind());
     if lacks_table(Some(head)) || is_mixed(known, kind) {
         return false;
     }
@@ -93,7 +93,7 @@ fn is_sound_start(known: &Known, head: &Head) -> bool
 }
 
 // Whether a UNT is in a message and breaks no rule.
-fn is_sound_end(known: &Known, head: &Head) -> bool
+fn is_sound_end(known: &Known, head: &Head<'_>) -> bool
     requires { known.now.segments + 1 < 2 ^ 32 }
     ensures inside { result ≡ true → is_some known.now.message ≡ true }
     ensures count { result ≡ true
@@ -102,7 +102,7 @@ fn is_sound_end(known: &Known, head: &Head) -> bool
         → refers_elsewhere_by (Some head.now) (opening_by (Some head.now.kind) known.now)
         ≡ false }
 {
-    let kind = Some(head.kind);
+    let kind = Some(head.kind());
     if known.message.is_none() || miscounts(Some(head), count_due(known, kind)) {
         return false;
     }
@@ -111,7 +111,7 @@ fn is_sound_end(known: &Known, head: &Head) -> bool
 
 /// How many segments from here on are no heads and can break no rule: before the end and in an open message, those up to
 /// the next head or to the last segment.
-pub(crate) fn sound_run(known: &Known, rest: &[Head], total: u32) -> u32
+pub(crate) fn sound_run(known: &Known, rest: &[Head<'_>], total: u32) -> u32
     requires { known.now.segments < next_number rest.now total }
     ensures { result ≡ sound_run_by known.now rest.now total }
 {
@@ -119,7 +119,7 @@ pub(crate) fn sound_run(known: &Known, rest: &[Head], total: u32) -> u32
         return 0;
     }
     match rest {
-        [head, ..] => head.segment - 1 - known.segments,
+        [head, ..] => head.segment() - 1 - known.segments,
         [] => total - known.segments,
     }
 }
@@ -172,27 +172,29 @@ fn is_mixed(known: &Known, kind: Option<HeadKind>) -> bool
 }
 
 // A group that ends without a UNE.
-fn lacks_une(kind: Option<HeadKind>, after: &[Head]) -> bool
+fn lacks_une(kind: Option<HeadKind>, after: &[Head<'_>]) -> bool
     ensures { result ≡ lacks_une_by kind (group_end_of after.now) }
 {
     matches!(kind, Some(HeadKind::Ung)) && !matches!(group_end(after), Some(HeadKind::Une))
 }
 
 // A group without a message: its first head that isn't UNT is no UNH.
-fn is_empty_group(kind: Option<HeadKind>, after: &[Head]) -> bool
+fn is_empty_group(kind: Option<HeadKind>, after: &[Head<'_>]) -> bool
     ensures { result ≡ empty_group_by kind (next_but_unt_of after.now) }
 {
     matches!(kind, Some(HeadKind::Ung)) && !matches!(next_but_unt(after), Some(HeadKind::Unh))
 }
 
 // A message of another type than its group's.
-fn is_of_other_type(kind: Option<HeadKind>, head: Option<&Head>, group: Option<&Head>) -> bool
+fn is_of_other_type(
+    kind: Option<HeadKind>,
+    head: Option<&Head<'_>>,
+    group: Option<&Head<'_>>,
+) -> bool
     ensures { result ≡ other_type_by kind (option_copied head.entry) (option_copied group.entry) }
 {
     match (kind, head, group) {
-        (Some(HeadKind::Unh), Some(head), Some(group)) => {
-            head.name.octets() != group.name.octets()
-        }
+        (Some(HeadKind::Unh), Some(head), Some(group)) => { head.name() != group.name() }
         _ => false,
     }
 }
@@ -221,11 +223,11 @@ fn counted(groups: u32, messages: u32) -> u32
 }
 
 // A count that isn't the number that it has to be.
-fn miscounts(head: Option<&Head>, due: Option<u32>) -> bool
+fn miscounts(head: Option<&Head<'_>>, due: Option<u32>) -> bool
     ensures { result ≡ miscounts_by (option_copied head.entry) due }
 {
     match (head, due) {
-        (Some(head), Some(due)) => !gives(head.count.octets(), due),
+        (Some(head), Some(due)) => !gives(head.count(), due),
         _ => false,
     }
 }
@@ -241,7 +243,7 @@ fn gives(value: &[u8], number: u32) -> bool
 }
 
 // The segment that opened what a segment closes.
-fn opening<'a>(known: &Known<'a>, kind: Option<HeadKind>) -> Option<&'a Head>
+fn opening<'a, 'k>(known: &Known<'a, 'k>, kind: Option<HeadKind>) -> Option<&'a Head<'k>>
     ensures { option_copied result ≡ opening_by kind known.now }
 {
     match kind? {
@@ -253,22 +255,22 @@ fn opening<'a>(known: &Known<'a>, kind: Option<HeadKind>) -> Option<&'a Head>
 }
 
 // A reference that isn't that of the opening segment.
-fn refers_elsewhere(head: Option<&Head>, opening: Option<&Head>) -> bool
+fn refers_elsewhere(head: Option<&Head<'_>>, opening: Option<&Head<'_>>) -> bool
     ensures { result
         ≡ refers_elsewhere_by (option_copied head.entry) (option_copied opening.entry) }
 {
     match (head, opening) {
-        (Some(head), Some(opening)) => head.reference.octets() != opening.reference.octets(),
+        (Some(head), Some(opening)) => head.reference() != opening.reference(),
         _ => false,
     }
 }
 
 // A message for which the directory has no table.
-fn lacks_table(head: Option<&Head>) -> bool
+fn lacks_table(head: Option<&Head<'_>>) -> bool
     ensures { result ≡ lacks_table_by (option_copied head.entry) }
 {
     match head {
-        Some(head) => matches!(head.kind, HeadKind::Unh) && !head.tabled,
+        Some(head) => matches!(head.kind(), HeadKind::Unh) && !head.is_tabled(),
         None => false,
     }
 }

@@ -11,11 +11,11 @@ ghost use Rattle.envelope_check.specs.Known.{
 use crate::head::{Head, HeadKind};
 
 /// The message that is open after a segment: each head closes it, and a UNH opens one.
-pub(crate) fn message_after<'a>(
+pub(crate) fn message_after<'a, 'k>(
     kind: Option<HeadKind>,
-    head: Option<&'a Head>,
-    before: Option<&'a Head>,
-) -> Option<&'a Head>
+    head: Option<&'a Head<'k>>,
+    before: Option<&'a Head<'k>>,
+) -> Option<&'a Head<'k>>
     ensures { option_copied result
         ≡ message_left kind (option_copied head.entry) (option_copied before.entry) }
 {
@@ -27,11 +27,11 @@ pub(crate) fn message_after<'a>(
 }
 
 /// The group that is open after a segment: each head but UNH and UNT closes it, and a UNG opens one.
-pub(crate) fn group_after<'a>(
+pub(crate) fn group_after<'a, 'k>(
     kind: Option<HeadKind>,
-    head: Option<&'a Head>,
-    before: Option<&'a Head>,
-) -> Option<&'a Head>
+    head: Option<&'a Head<'k>>,
+    before: Option<&'a Head<'k>>,
+) -> Option<&'a Head<'k>>
     ensures { option_copied result
         ≡ group_left kind (option_copied head.entry) (option_copied before.entry) }
 {

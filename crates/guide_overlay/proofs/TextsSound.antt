@@ -14,7 +14,7 @@ use Rattle.seg_lexer.specs.Service.{service_of}
 use Rattle.seg_lexer.specs.declared.context.Context.{Context}
 use Rattle.envelope_check.specs.Envelope.{envelope_errors_of}
 use Rattle.envelope_check.specs.Heads.{kind_of}
-use Rattle.envelope_check.specs.declared.head.Head.{Head}
+use Rattle.envelope_check.specs.Head.{Head}
 use Rattle.envelope_check.specs.declared.head.HeadKind.{HeadKind}
 use Rattle.envelope_check.specs.declared.head.HeadKind.TheVariants.{Unh}
 use Rattle.error_ledger.specs.Order.{in_order, is_before, put_before, sorted_by}

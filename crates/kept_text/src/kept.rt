@@ -8,6 +8,7 @@ ghost use Rattle.segment_records.specs.Messages.{mode_after};
 ghost use Rattle.segment_records.specs.Segments.{segments_of_text};
 ghost use Rattle.segment_records.specs.Count.{segment_count_of};
 ghost use Rattle.segment_records.specs.Notable.{notable_in};
+ghost use Rattle.segment_records.specs.Told.{KeepsValues};
 ghost use Rattle.segment_records.specs.WalkedSegments.{Follows, LiesIn, kept_in, seen_in};
 ghost use Rattle.kept_text.specs.Change.{changed_by};
 ghost use Rattle.kept_text.specs.Edit.{Edit, edited, reading_with, text_with};
@@ -328,6 +329,8 @@ impl<'d> KeptText<'d> {
         ensures few { length result.0 ≤ LONGEST_TEXT }
         ensures short { length self.now.text ≤ LONGEST_TEXT }
         ensures lawful { IsDirectory self.now.directory }
+        ensures values { All (KeepsValues (context_of self.now.text).service self.now.text)
+            result.0 }
     {
         NotableSegments::of(
             &self.records,

@@ -16,6 +16,7 @@ use Rattle.seg_lexer.proofs.EndsLemmas.{AllBelow, IsAscending, ends-append, ends
 use Rattle.seg_lexer.proofs.SegmentsLemmas.{IsLead, lead-within}
 use Rattle.seg_lexer.proofs.WholeLemmas.{whole-empty}
 use Rattle.element_check.specs.Local.{local_errors_of}
+use Rattle.segment_records.specs.Heads.{given_by}
 use Rattle.segment_records.specs.Laws.{WholeIsBody, WholeThenMore}
 use Rattle.segment_records.specs.Records.{Kept, kept_from, kept_of, records_from}
 use Rattle.segment_records.specs.Segments.{Segment, segment_between, segment_read, segments_by, tag_read}
@@ -116,7 +117,14 @@ module _ (dir : Parts) (context : Context) (n : ℕ) where
   -- what is kept, with these numbers of octets and line ends, and this step
   abbrev kept_with : Segment → ℕ → ℕ → Step → Kept
   kept_with segment octets breaks step =
-      record { octets = octets; breaks = breaks; tag = segment.tag; local = local_errors_of dir context segment.components; step = step }
+      record {
+        octets = octets;
+        breaks = breaks;
+        tag = segment.tag;
+        local = local_errors_of dir context segment.components;
+        given = given_by segment.tag segment.components;
+        step = step;
+      }
 
   one_moved : (before : Mode) (segment : Segment)
       → kept_of dir context before (moved_on n segment) ≡ kept_of dir context before segment

@@ -49,7 +49,8 @@ module _ (dir : Parts) (directory : IsDirectory dir) (text : List ℕ) where
   segments : List Segment
   segments = segments_of_text text
 
-  seen_where : (P : SeenSegment → Type 0)
+  -- what holds of each segment by itself holds of each by its record
+  pub seen_where : (P : SeenSegment → Type 0)
       → ((k : ℕ) (segment : Segment) → slice_get (segments_of_text text) k ≡ Some segment → P (seen_at dir (context_of text) (segments_of_text text) (k, segment)))
       → All P (seen_in dir text)
   seen_where P each =

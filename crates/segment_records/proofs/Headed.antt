@@ -19,7 +19,7 @@ use Rattle.seg_lexer.specs.declared.context.Context.{Context}
 use Rattle.seg_lexer.specs.declared.service.Service.{Service}
 use Rattle.seg_lexer.proofs.AppendLemmas.{pairs}
 use Rattle.seg_lexer.proofs.ContextEnds.{ends-same}
-use Rattle.envelope_check.specs.declared.head.Head.{Head}
+use Rattle.envelope_check.specs.Head.{Head}
 use Rattle.envelope_check.specs.declared.head.HeadKind.{HeadKind}
 use Rattle.envelope_check.specs.declared.head.HeadKind.TheVariants.{Unb, Ung, Unh, Unt, Une, Unz}
 use Rattle.envelope_check.specs.declared.head.SegmentMark.{SegmentMark}
@@ -30,10 +30,10 @@ use Rattle.segment_records.specs.Segments.{Segment, segment_between, segments_by
 use Rattle.segment_records.specs.Steps.{Step, opening_step}
 use Rattle.segment_records.proofs.Taking.{step_at_unh}
 use Rattle.segment_records.specs.Count.{segment_count_of}
-use Rattle.segment_records.specs.Heads.{count_in, head_at, head_of, heads_of, marks_of, name_in, reference_in, tabled_in}
+use Rattle.segment_records.specs.Heads.{count_in, given_by, head_at, head_of, heads_of, marks_of, name_in, reference_in, tabled_in}
 use Rattle.segment_records.specs.WalkedSegments.{SeenSegment, as_segment, seen_at, seen_in}
-use Rattle.segment_records.specs.Told.{components_seen, head_seen, head_when, mark_seen, tabled_seen}
-use Rattle.segment_records.proofs.Following.{All-at, stretch_in}
+use Rattle.segment_records.specs.Told.{KeepsValues, components_seen, head_seen, head_when, mark_seen, tabled_seen}
+use Rattle.segment_records.proofs.Following.{All-at, seen_where, stretch_in}
 use Rattle.segment_records.proofs.Looking.{all_enumerated, filter_map_alike, first_left, map_alike, next_left, seen_is}
 use Rattle.segment_records.proofs.Rests.{length_segments, same_count}
 use Rattle.segment_records.proofs.Stretches.{IsStretch}
@@ -88,6 +88,10 @@ module _ (dir : Parts) (context : Context) (s : Service) (text : List ℕ) (segm
   components_alike =
       ap (λ (n : ℕ). components_at s text n (as_segment seen).end) starts_alike
       ∙ ap (λ (n : ℕ). components_at s text segment.start n) ends_alike ∙ sym place
+
+  -- its values are kept
+  pub values_alike : KeepsValues s text seen
+  values_alike = ap (given_by segment.tag) (sym components_alike)
 
   -- a UNH is at an entry where the directory has its table
   tabled_alike : (kind : HeadKind) → segment.tag ≡ named kind → tabled_seen seen kind ≡ tabled_in dir segment.components kind
@@ -153,6 +157,12 @@ plain_map f n [] = refl
 plain_map f n (x ∷ xs) = ap (λ ys. f x ∷ ys) (plain_map f (n + 1) xs)
 
 module _ (dir : Parts) (directory : IsDirectory dir) (text : List ℕ) where
+  -- of each segment of a text its values are kept
+  pub values_kept : All (KeepsValues (context_of text).service text) (seen_in dir text)
+  values_kept = seen_where dir directory text (KeepsValues (context_of text).service text)
+      (λ i segment is. values_alike dir (context_of text) (context_of text).service text (segments_of_text text) i segment
+      (stretch_in dir directory text i segment is) (place_in text i segment is))
+
   -- the heads of a text
   pub heads_are : filter_map (head_when (context_of text).service text) (seen_in dir text) ≡ heads_of dir (segments_of_text text)
   unfolding heads_of

@@ -7,13 +7,14 @@ use Rattle.segment_records.specs.WalkedSegments.{seen_from}
 use Rattle.segment_records.specs.declared.mode.Mode.{Mode}
 use Rattle.segment_records.specs.declared.mode.Mode.TheVariants.{Outside, Untabled, Within}
 
--- a segment without a local error, with nothing missing before it
+-- a segment without a local error, with nothing missing before it; its values don't matter here
 abbrev kept : List ℕ → Option ℕ → Mode → Kept
 kept name entry after = record {
   octets = 9;
   breaks = 0;
   tag = Some (record { octets = name });
   local = [];
+  given = None;
   step = record { entry = entry; missing = []; over = false; after = after };
 }
 

@@ -4,11 +4,13 @@ use Rattle.std.specs.Option.{option_map}
 use Rattle.std.specs.List.{enumerate_from, filter_map}
 use Rattle.dir_compile.specs.Directory.{Directory}
 use Rattle.edi_tables.specs.Octets.{Octets}
+use Rattle.edi_tables.specs.declared.tag.Tag.{Tag}
 use Rattle.seg_lexer.specs.Fields.{Component}
 use Rattle.envelope_check.specs.Heads.{kind_of}
-use Rattle.envelope_check.specs.declared.head.Head.{Head}
+use Rattle.envelope_check.specs.Head.{Head}
 use Rattle.envelope_check.specs.declared.head.HeadKind.{HeadKind}
 use Rattle.envelope_check.specs.declared.head.HeadKind.TheVariants.{Unb, Ung, Unh, Unt, Une, Unz}
+use Rattle.envelope_check.specs.declared.head.HeadValues.{HeadValues}
 use Rattle.envelope_check.specs.declared.head.SegmentMark.{SegmentMark}
 use Rattle.segment_records.specs.Segments.{Segment, value_in}
 use Rattle.segment_records.specs.Messages.{table_for}
@@ -34,6 +36,32 @@ abbrev pub name_in : List Component → HeadKind → Octets
 name_in components Unh = value_in components 2 1
 name_in components Ung = value_in components 1 1
 name_in components _ = []
+
+-- what it gives beside its reference: its count or its name
+abbrev pub other_in : List Component → HeadKind → Octets
+other_in components Unb = []
+other_in components Ung = value_in components 1 1
+other_in components Unh = value_in components 2 1
+other_in components Unt = value_in components 1 1
+other_in components Une = value_in components 1 1
+other_in components Unz = value_in components 1 1
+
+-- the values that it gives
+abbrev pub values_in : List Component → HeadKind → HeadValues
+values_in components kind = record { reference = reference_in components kind; other = other_in components kind }
+
+-- the values that a segment with this tag gives, where it is a head
+abbrev pub given_by : Option Tag → List Component → Option HeadValues
+given_by tag components = option_map (values_in components) (kind_of tag)
+
+-- for bodies: the element of the second of the two values that are read of a head, where the first is in element 1
+abbrev pub second_element : HeadKind → ℕ
+second_element Unb = 5
+second_element Ung = 5
+second_element Unh = 2
+second_element Unt = 2
+second_element Une = 2
+second_element Unz = 2
 
 -- a UNH whose message the directory has a segment table for
 abbrev pub tabled_in : Directory → List Component → HeadKind → Bool

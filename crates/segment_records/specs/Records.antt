@@ -8,7 +8,9 @@ use Rattle.seg_lexer.specs.Whole.{at_start}
 use Rattle.seg_lexer.specs.declared.context.Context.{Context}
 use Rattle.element_check.specs.declared.error.LocalError.{LocalError}
 use Rattle.element_check.specs.Local.{local_errors_of}
+use Rattle.envelope_check.specs.declared.head.HeadValues.{HeadValues}
 use Rattle.table_walk.specs.Steps.{IsShaped, AreCountsUpTo}
+use Rattle.segment_records.specs.Heads.{given_by}
 use Rattle.segment_records.specs.Segments.{Segment, segments_by}
 use Rattle.segment_records.specs.Messages.{nodes_at}
 use Rattle.segment_records.specs.Steps.{Step, step_of}
@@ -16,12 +18,13 @@ use Rattle.segment_records.specs.declared.mode.Mode.{Mode}
 use Rattle.segment_records.specs.declared.mode.Mode.TheVariants.{Outside, Untabled, Within}
 
 -- how many octets a segment's stretch has, line ends in front and terminator included, how many of them are line
--- ends in front, the tag, the local errors, and the step
+-- ends in front, the tag, the local errors, the values that it gives as a head, and the step
 pub record Kept : Type 0 where
   pub octets : ℕ
   pub breaks : ℕ
   pub tag : Option Tag
   pub local : List LocalError
+  pub given : Option HeadValues
   pub step : Step
 
 -- what is kept of a segment after this mode
@@ -31,6 +34,7 @@ kept_of dir context before segment = record {
   breaks = segment.start - segment.from;
   tag = segment.tag;
   local = local_errors_of dir context segment.components;
+  given = given_by segment.tag segment.components;
   step = step_of dir before segment;
 }
 

@@ -1,10 +1,10 @@
 -- The head, the mark and the place in the tree of a segment, by what is seen of it.
-use Rattle.std.specs.Prelude.{Bool, false, List, Option, is_some}
+use Rattle.std.specs.Prelude.{◌≡◌, Bool, false, List, Option, is_some}
 use Rattle.std.specs.Option.{option_map}
 use Rattle.dir_compile.specs.Directory.{Directory}
 use Rattle.edi_tables.specs.Octets.{Octets}
 use Rattle.envelope_check.specs.Heads.{kind_of}
-use Rattle.envelope_check.specs.declared.head.Head.{Head}
+use Rattle.envelope_check.specs.Head.{Head}
 use Rattle.envelope_check.specs.declared.head.HeadKind.{HeadKind}
 use Rattle.envelope_check.specs.declared.head.HeadKind.TheVariants.{Unh}
 use Rattle.envelope_check.specs.declared.head.SegmentMark.{SegmentMark}
@@ -12,7 +12,7 @@ use Rattle.error_ledger.specs.declared.tree.TreeLine.{TreeLine}
 use Rattle.seg_lexer.specs.Fields.{Component, components_at}
 use Rattle.seg_lexer.specs.declared.service.Service.{Service}
 use Rattle.segment_records.specs.Places.{place_by}
-use Rattle.segment_records.specs.Heads.{count_in, name_in, reference_in}
+use Rattle.segment_records.specs.Heads.{count_in, given_by, name_in, reference_in}
 use Rattle.segment_records.specs.WalkedSegments.{SeenSegment, as_segment}
 
 -- a UNH that is at an entry
@@ -51,3 +51,7 @@ line_in_tree dir seen = record {
 -- a segment as a head, where its tag is one of the six
 abbrev pub head_when : Service → Octets → SeenSegment → Option Head
 head_when service text seen = option_map (head_seen service text seen) (kind_of seen.kept.tag)
+
+-- what is kept of a segment has the values that its text gives, where it is a head
+abbrev pub KeepsValues : Service → Octets → SeenSegment → Type 0
+KeepsValues service text seen = seen.kept.given ≡ given_by seen.kept.tag (components_seen service text seen)

@@ -8,6 +8,7 @@
 #![tactic(auto)]
 
 mod errors;
+mod head_values;
 mod known;
 mod mode;
 mod notable;
@@ -23,5 +24,5 @@ pub use mode::Mode;
 pub use notable::NotableSegments;
 pub use record::{Record, SegmentPlace};
 pub use tags::{bounds_message, is_named, is_no_part, stops_message};
-pub use values::{copy_two, copy_value, find_table, lend_found, lend_two, lend_value};
+pub use values::{copy_two, copy_value, lend_found};
 pub use walked_segment::{Segments, WalkedSegment};

@@ -1,6 +1,6 @@
 //! What is kept of one segment.
-ghost use Rattle.std.specs.Prelude.{◌≡◌, ◌+◌, ◌<◌, ◌≤◌, [], ℕ, length, IfOk};
-ghost use Rattle.std.specs.Option.{option_map};
+ghost use Rattle.std.specs.Prelude.{◌≡◌, ◌+◌, ◌<◌, ◌≤◌, [], ℕ, None, Some, length, IfOk};
+ghost use Rattle.std.specs.Option.{option_copied, option_map};
 ghost use Rattle.edi_octets.specs.declared.octets.Octets.{Ghosts};
 ghost use Rattle.seg_lexer.specs.Fields.{components_at};
 ghost use Rattle.seg_lexer.specs.Service.{IsUsable};
@@ -10,12 +10,13 @@ ghost use Rattle.clean_segments.specs.Clean.{AreClean};
 ghost use Rattle.segment_records.specs.Known.{AreKnown};
 ghost use Rattle.segment_records.specs.Notable.{is_marked, is_well_placed};
 ghost use Rattle.segment_records.specs.Records.{IsModeOf, kept_of};
-ghost use Rattle.segment_records.specs.RecordView.{local_in, missing_in};
+ghost use Rattle.segment_records.specs.RecordView.{faults_in, local_found, local_in, missing_found, missing_in, values_of};
 ghost use Rattle.segment_records.specs.Segments.{segment_read};
 ghost use Rattle.segment_records.specs.Steps.{inner_step};
 ghost use Rattle.segment_records.specs.Taken.{read_as};
 ghost use Rattle.edi_octets.specs.declared.octets.TheConstants.{LONGEST_TEXT};
 
+use crate::head_values::{Heading, read_heading};
 use crate::known::KnownSteps;
 use crate::mode::Mode;
 use crate::step::{Standing, take_inner_step, take_step};
@@ -25,6 +26,7 @@ use dir_compile::Directory;
 use edi_octets::Octets;
 use edi_tables::Tag;
 use element_check::{LocalError, check_components};
+use envelope_check::HeadValues;
 use seg_lexer::{Context, fields};
 use seq_tree::Measured;
 use smallvec::SmallVec;
@@ -52,8 +54,23 @@ pub struct Record {
     tag: Option<Tag>,
     standing: Standing,
     mode: Mode,
-    // Few segments have any: they need not lie in each record.
-    faults: Option<Box<Faults>>,
+    notes: Notes,
+}
+
+// What few segments have, so that it need not lie in each record.
+#[derive(Drop)]
+enum Notes {
+    Nothing,
+    Faulty(Box<Faults>),
+    Head(Box<HeadValues>),
+    FaultyHead(Box<HeadFaults>),
+}
+
+// The values that a head gives, and what is wrong with it.
+#[derive(Drop)]
+struct HeadFaults {
+    values: Box<HeadValues>,
+    faults: Box<Faults>,
 }
 
 // The local errors of a segment, and the nodes that are missing before it.
@@ -83,10 +100,10 @@ impl Drop for Record {
             tag: _,
             standing: _,
             mode,
-            faults,
+            notes,
         } = self;
         drop(mode);
-        drop(faults);
+        drop(notes);
     }
 }
 
@@ -101,6 +118,7 @@ impl Measured for Record {
         self.octets
     }
 
+    #[inline(always)]
     fn marks(&self) -> u32 {
         u32::from(self.is_marked())
     }
@@ -145,22 +163,30 @@ impl Record {
             Some(tag) => (Some(tag), None),
             None => check_alone(alloc, directory, context, text, start, end)?,
         };
-        let service = &context.service;
-        let step = take_step(
-            alloc, directory, before, tag, text, service, start, end, known, placed,
+        let Heading { values, table } = read_heading(
+            alloc,
+            directory,
+            tag,
+            text,
+            &context.service,
+            start,
+            end,
         )?;
+        let step = take_step(alloc, directory, before, tag, table, known, placed)?;
+        let faults = with_missing(alloc, faults, step.missing)?;
+        let notes = notes_of(alloc, values, faults)?;
         Ok(Record {
             octets: (end + 1 - from) as u32,
             breaks: (start - from) as u32,
             tag,
             standing: step.standing,
             mode: step.after,
-            faults: with_missing(alloc, faults, step.missing)?,
+            notes,
         })
     }
 
-    /// The same segment placed after another mode, by its tag alone: its octets, line ends, tag and local errors stay as they
-    /// are. At most one call of the walk is counted. Only want of memory is an error.
+    /// The same segment placed after another mode, by its tag alone: its octets, line ends, tag, local errors and values stay as
+    /// they are. At most one call of the walk is counted. Only want of memory is an error.
     ///
     /// It is for segments of other tags than UNH, UNB, UNG, UNE and UNZ. What is kept of those five is the same after any mode,
     /// and this isn't their step: the caller stops before them.
@@ -184,13 +210,16 @@ impl Record {
         let mut known = KnownSteps::forgetful(alloc);
         let again = take_inner_step(alloc, directory, before, self.tag, &mut known, placed)?;
         let local = SmallVec::from_slice(alloc, self.local())?;
+        let faults = keep_faults(alloc, local, again.missing)?;
+        let values = copy_values(alloc, self.given())?;
+        let notes = notes_of(alloc, values, faults)?;
         Ok(Record {
             octets: self.octets,
             breaks: self.breaks,
             tag: self.tag,
             standing: again.standing,
             mode: again.after,
-            faults: keep_faults(alloc, local, again.missing)?,
+            notes,
         })
     }
 
@@ -234,6 +263,7 @@ impl Record {
 
     /// Whether something is to be said of it by what is kept of it alone: it opens, closes or stops a message, has a local
     /// error, or is in a message with a table and not well placed there.
+    #[inline(always)]
     pub fn is_marked(&self) -> bool
         ensures { result ≡ is_marked self.now }
     {
@@ -243,6 +273,7 @@ impl Record {
     }
 
     // Whether it is at an entry, nothing is missing before it, and it isn't one too many there.
+    #[inline(always)]
     fn is_well_placed(&self) -> bool
         ensures { result ≡ is_well_placed self.now.step }
     {
@@ -253,7 +284,7 @@ impl Record {
     pub fn local(&self) -> &[LocalError]
         ensures { result.now ≡ self.now.local }
     {
-        match &self.faults {
+        match self.faults() {
             Some(faults) => faults.local.as_slice(),
             None => &[],
         }
@@ -263,9 +294,34 @@ impl Record {
     pub fn missing(&self) -> &[u16]
         ensures { result.now ≡ self.now.step.missing }
     {
-        match &self.faults {
+        match self.faults() {
             Some(faults) => faults.missing.as_slice(),
             None => &[],
+        }
+    }
+
+    // What is wrong with it, if something is.
+    #[inline(always)]
+    fn faults(&self) -> Option<&Faults>
+        ensures local { local_found result ≡ self.now.local }
+        ensures missing { missing_found result ≡ self.now.step.missing }
+    {
+        match &self.notes {
+            Notes::Nothing | Notes::Head(_) => None,
+            Notes::Faulty(faults) => Some(faults),
+            Notes::FaultyHead(head) => Some(&head.faults),
+        }
+    }
+
+    /// The values that it gives, if it is a head.
+    #[inline(always)]
+    pub fn given(&self) -> Option<&HeadValues>
+        ensures { option_copied result ≡ self.now.given }
+    {
+        match &self.notes {
+            Notes::Nothing | Notes::Faulty(_) => None,
+            Notes::Head(values) => Some(values),
+            Notes::FaultyHead(head) => Some(&head.values),
         }
     }
 
@@ -360,4 +416,40 @@ fn keep_faults(
     }
     let faults = Box::new(alloc, Faults { local, missing })?;
     Ok(Some(faults))
+}
+
+// A copy of the values that a segment gives, if it is a head.
+fn copy_values(
+    alloc: Global,
+    given: Option<&HeadValues>,
+) -> Result<Option<Box<HeadValues>>, AllocError>
+    ensures { IfOk result
+        (λ values. option_map (λ values. values.value) values ≡ option_copied given.entry) }
+{
+    match given {
+        Some(values) => Ok(Some(Box::new(alloc, values.copy(alloc)?)?)),
+        None => Ok(None),
+    }
+}
+
+// What is kept beside the place of a segment: the values that it gives, if it is a head, and what is wrong with it, if something is.
+#[inline(always)]
+fn notes_of(
+    alloc: Global,
+    values: Option<Box<HeadValues>>,
+    faults: Option<Box<Faults>>,
+) -> Result<Notes, AllocError>
+    ensures faults { IfOk result (λ notes. faults_in notes ≡ faults) }
+    ensures values { IfOk result
+        (λ notes. values_of notes ≡ option_map (λ values. values.value) values) }
+{
+    match (values, faults) {
+        (None, None) => Ok(Notes::Nothing),
+        (None, Some(faults)) => Ok(Notes::Faulty(faults)),
+        (Some(values), None) => Ok(Notes::Head(values)),
+        (Some(values), Some(faults)) => {
+            let head = Box::new(alloc, HeadFaults { values, faults })?;
+            Ok(Notes::FaultyHead(head))
+        }
+    }
 }

@@ -1,12 +1,11 @@
 //! One segment after another: where a segment is by the mode before it, and the mode after it.
-ghost use Rattle.std.specs.Prelude.{◌≡◌, ◌+◌, ◌<◌, ◌≤◌, [], ℕ, None, Some, false, codes, length, IfOk, IfSome, if◌then◌else◌};
+ghost use Rattle.std.specs.Prelude.{◌≡◌, ◌+◌, ◌<◌, ◌≤◌, [], ℕ, List, None, Some, false, true, codes, length, IfOk, IfSome, if◌then◌else◌};
 ghost use Rattle.edi_tables.specs.Rows.{has_name};
 ghost use Rattle.dir_compile.specs.Directory.{tables_of};
-ghost use Rattle.seg_lexer.specs.Fields.{components_at};
-ghost use Rattle.seg_lexer.specs.Service.{IsUsable};
-ghost use Rattle.edi_octets.specs.declared.octets.TheConstants.{LONGEST_TEXT};
+ghost use Rattle.seg_lexer.specs.Fields.{Component};
 ghost use Rattle.dir_compile.specs.declared.parts.Parts.{Parts};
 ghost use Rattle.segment_records.specs.Known.{AreKnown, IsKnown};
+ghost use Rattle.segment_records.specs.Messages.{table_for};
 ghost use Rattle.segment_records.specs.Records.{IsModeOf};
 ghost use Rattle.segment_records.specs.Steps.{inner_step, opening_step, plain_step as step_to, step_of};
 ghost use Rattle.segment_records.specs.Standings.{entry_at, is_over_at};
@@ -15,11 +14,8 @@ ghost use Rattle.segment_records.specs.Taken.{read_as, taken};
 use crate::known::{KnownStep, KnownSteps};
 use crate::mode::Mode;
 use crate::tags::{is_named, is_no_part};
-use crate::values::find_table;
 use dir_compile::Directory;
-use edi_octets::Octets;
 use edi_tables::Tag;
-use seg_lexer::{Service, fields};
 use smallvec::SmallVec;
 use std::alloc::{AllocError, Global};
 use std::sync::ledger::Ledger;
@@ -61,30 +57,25 @@ fn standing_of(entry: Option<u16>, over: bool) -> Standing
     }
 }
 
-/// The step of the segment `start..end` of a text, which has this tag, after this mode. At most one call of the walk is counted.
+/// The step of a segment with this tag after this mode. `table` is the number of the table that it names, if it is a UNH and the
+/// directory has the table. At most one call of the walk is counted.
 #[inline(always)]
-pub(crate) fn take_step<O: Octets, L: Ledger>(
+pub(crate) fn take_step<L: Ledger>(
     alloc: Global,
     directory: &Directory,
     before: &Mode,
     tag: Option<Tag>,
-    text: &O,
-    service: &Service,
-    start: usize,
-    end: usize,
+    table: Option<u32>,
     known: &mut KnownSteps,
     placed: &mut Steps<L>,
 ) -> Result<Step, AllocError>
-    requires usable { IsUsable service.now (O.octets text.now) }
-    requires short { length (O.octets text.now) ≤ LONGEST_TEXT }
-    requires ordered { start ≤ end }
-    requires within { end ≤ length (O.octets text.now) }
+    requires within { IfSome table (λ i. i < length (tables_of directory.now)) }
     requires mode { IsModeOf directory.now 4194303 before.now }
     requires known { AreKnown directory.now known.old }
-    ensures step { IfOk result
-        (λ step. taken step
-        ≡ step_of directory.now before.now
-        (read_as tag (components_at service.now (O.octets text.now) start end))) }
+    ensures step { (components : List Component)
+        → (has_name (codes "UNH") tag ≡ true → table ≡ table_for directory.now components)
+        → IfOk result (λ step. taken step
+        ≡ step_of directory.now before.now (read_as tag components)) }
     ensures mode { (most : ℕ)
         → IsModeOf directory.now most before.now
         → IfOk result (λ step. IsModeOf directory.now (most + 1) step.after) }
@@ -92,8 +83,6 @@ pub(crate) fn take_step<O: Octets, L: Ledger>(
     ensures counted { placed.new ≤ placed.old + 1 }
 {
     if is_named(b"UNH", tag) {
-        let components = fields(text, service, start, end);
-        let table = find_table(alloc, directory, components)?;
         return open_message(alloc, directory, table);
     }
     if is_no_part(tag) {

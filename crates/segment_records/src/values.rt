@@ -1,4 +1,4 @@
-//! Values of a segment, and the segment table that a UNH names by some of them.
+//! Values of a segment, and the segment table that a UNH names.
 ghost use Rattle.std.specs.Prelude.{◌≡◌, ◌<◌, ◌∷◌, List, IfOk, IfSome, length, unwrap_or, []};
 ghost use Rattle.std.specs.Cow.{cow_slice_items};
 ghost use Rattle.std.specs.Option.{option_copied, option_map, option_or};
@@ -20,7 +20,7 @@ use std::borrow::CowSlice;
 
 /// The number of the segment table that a UNH names by its message type, version, release and agency (0065, 0052, 0054 and
 /// 0051), if the directory has it. `components` are those of the UNH.
-pub fn find_table<O: Octets>(
+pub(crate) fn find_table<O: Octets>(
     alloc: Global,
     directory: &Directory,
     components: Fields<'_, O>,
@@ -32,56 +32,35 @@ pub fn find_table<O: Octets>(
 {
     // The number of its tables fits.
     let _parts = directory.parts();
-    let found = match plain_components(&components) {
-        Some(plain) => find_plain_table(directory, plain),
-        None => {
-            let Names {
-                message,
-                version,
-                release,
-                agency,
-            } = find_names(components);
-            let message = lend_found(alloc, message)?;
-            let version = lend_found(alloc, version)?;
-            let release = lend_found(alloc, release)?;
-            let agency = lend_found(alloc, agency)?;
-            directory.find_table(&message, &version, &release, &agency)
-        },
-    };
-    match found {
+    let Names {
+        message,
+        version,
+        release,
+        agency,
+    } = find_names(components);
+    let message = lend_found(alloc, message)?;
+    let version = lend_found(alloc, version)?;
+    let release = lend_found(alloc, release)?;
+    let agency = lend_found(alloc, agency)?;
+    match directory.find_table(&message, &version, &release, &agency) {
         Some(table) => Ok(Some(table as u32)),
         None => Ok(None),
     }
 }
 
-// The place of that table, where the UNH is plain: its values are lent.
-fn find_plain_table(directory: &Directory, components: PlainFields<'_>) -> Option<usize>
-    ensures { result ≡ table_for directory.now (plain_left components.entry) }
-{
-    let PlainNames {
-        message,
-        version,
-        release,
-        agency,
-    } = find_plain_names(components);
-    directory.find_table(
-        message.unwrap_or(&[]),
-        version.unwrap_or(&[]),
-        release.unwrap_or(&[]),
-        agency.unwrap_or(&[]),
-    )
+/// The reference of a plain UNH, and the values that it names its segment table by, those that are written.
+pub(crate) struct PlainNames<'a> {
+    pub(crate) reference: Option<&'a [u8]>,
+    pub(crate) message: Option<&'a [u8]>,
+    pub(crate) version: Option<&'a [u8]>,
+    pub(crate) release: Option<&'a [u8]>,
+    pub(crate) agency: Option<&'a [u8]>,
 }
 
-// The values that a plain UNH names its segment table by, those that are written.
-struct PlainNames<'a> {
-    message: Option<&'a [u8]>,
-    version: Option<&'a [u8]>,
-    release: Option<&'a [u8]>,
-    agency: Option<&'a [u8]>,
-}
-
-// They are found in one way through the components.
-fn find_plain_names<'a>(components: PlainFields<'a>) -> PlainNames<'a>
+/// They are found in one way through the components.
+pub(crate) fn find_plain_names<'a>(components: PlainFields<'a>) -> PlainNames<'a>
+    ensures reference { option_copied result.reference
+        ≡ octets_at 1 1 (plain_left components.entry) }
     ensures message { option_copied result.message
         ≡ octets_at 2 1 (plain_left components.entry) }
     ensures version { option_copied result.version
@@ -92,17 +71,20 @@ fn find_plain_names<'a>(components: PlainFields<'a>) -> PlainNames<'a>
         ≡ octets_at 2 4 (plain_left components.entry) }
 {
     let mut left = components;
+    let mut reference = None;
     let mut message = None;
     let mut version = None;
     let mut release = None;
     let mut agency = None;
     while let Some(found) = left.step() {
+        reference = or_lent(reference, &found, 1, 1);
         message = or_lent(message, &found, 2, 1);
         version = or_lent(version, &found, 2, 2);
         release = or_lent(release, &found, 2, 3);
         agency = or_lent(agency, &found, 2, 4);
     }
     PlainNames {
+        reference,
         message,
         version,
         release,
@@ -132,9 +114,9 @@ fn or_lent<'a>(
     None
 }
 
-// The components of a segment, where it is plain and none was taken yet.
+/// The components of a segment, where it is plain and none was taken yet.
 #[inline(always)]
-fn plain_components<'a, O: Octets>(components: &Fields<'a, O>) -> Option<PlainFields<'a>>
+pub(crate) fn plain_components<'a, O: Octets>(components: &Fields<'a, O>) -> Option<PlainFields<'a>>
     ensures { IfSome result (λ plain. plain_left plain ≡ components_left components.now) }
 {
     let (octets, separators) = components.whole()?;
@@ -199,9 +181,9 @@ fn find_names<'a, O: Octets>(components: Fields<'a, O>) -> Names<'a, O>
     }
 }
 
-/// The value of a component of an element's first repetition, which the text lends where it can; no octets where it isn't
-/// written. Only want of memory is an error.
-pub fn lend_value<'a, O: Octets>(
+// The value of a component of an element's first repetition, which the text lends where it can; no octets where it isn't
+// written. Only want of memory is an error.
+fn lend_value<'a, O: Octets>(
     alloc: Global,
     components: Fields<'a, O>,
     element: u32,
@@ -216,7 +198,8 @@ pub fn lend_value<'a, O: Octets>(
     }
 }
 
-/// A copy of it.
+/// A copy of the value of a component of an element's first repetition; no octets where it isn't written. Only want of memory is an
+/// error.
 pub fn copy_value<O: Octets>(
     alloc: Global,
     components: Fields<'_, O>,
@@ -233,7 +216,7 @@ pub fn copy_value<O: Octets>(
 /// The values of two components of first repetitions, each by the numbers of its element and its own, in one way through the
 /// components of a segment. The text lends them where it can; no octets for one that isn't written. Only want of memory is an
 /// error.
-pub fn lend_two<'a, O: Octets>(
+pub(crate) fn lend_two<'a, O: Octets>(
     alloc: Global,
     components: Fields<'a, O>,
     first: (u32, u32),

@@ -8,7 +8,7 @@ use Rattle.dir_compile.specs.declared.parts.Parts.{Parts}
 use Rattle.edi_octets.specs.Decimal.{decimal_in}
 use Rattle.envelope_check.specs.Envelope.{envelope_errors_of}
 use Rattle.envelope_check.specs.Heads.{Fits, kind_of}
-use Rattle.envelope_check.specs.declared.head.Head.{Head}
+use Rattle.envelope_check.specs.Head.{Head}
 use Rattle.envelope_check.specs.declared.head.HeadKind.{HeadKind}
 use Rattle.envelope_check.specs.declared.head.HeadKind.TheVariants.{Unb, Unh, Unt, Unz}
 use Rattle.envelope_check.specs.declared.head.SegmentMark.{SegmentMark}

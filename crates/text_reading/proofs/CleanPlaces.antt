@@ -20,7 +20,7 @@ use Rattle.element_check.specs.Local.{error_at as local_at, local_errors_of}
 use Rattle.element_check.specs.declared.error.LocalError.{LocalError}
 use Rattle.table_walk.specs.Errors.{Fault, StructureError}
 use Rattle.table_walk.specs.Errors.Fault.{Missing, Over, Unplaced}
-use Rattle.envelope_check.specs.declared.head.Head.{Head}
+use Rattle.envelope_check.specs.Head.{Head}
 use Rattle.envelope_check.specs.declared.head.SegmentMark.{SegmentMark}
 use Rattle.envelope_check.specs.Envelope.{end_of_interchange, envelope_errors_of, error_at, error_of_text, is_at, envelope_errors_at, is_second_unb, text_errors}
 use Rattle.envelope_check.specs.Heads.{tags_of}

@@ -1,5 +1,5 @@
 use Rattle.std.proofs.Common.{◌∙◌, List, length, sym, ap, subst}
-use Rattle.envelope_check.specs.declared.head.Head.{Head}
+use Rattle.envelope_check.specs.Head.{Head}
 use Rattle.envelope_check.specs.Heads.{Fits}
 use Rattle.kept_text.specs.Reading.{Reading}
 use Rattle.segment_records.specs.Segments.{segments_of_text}

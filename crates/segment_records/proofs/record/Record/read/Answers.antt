@@ -1,8 +1,8 @@
-use Rattle.std.proofs.Common.{◌≡◌, refl, sym, ◌∙◌}
+use Rattle.std.proofs.Common.{◌≡◌, ap, refl, sym, ◌∙◌}
 use Rattle.std.specs.Option.{option_map}
 use Rattle.seg_lexer.specs.Tag.{tag_of}
 use Rattle.element_check.specs.Local.{local_errors_of}
-use Rattle.segment_records.specs.RecordView.{local_in}
+use Rattle.segment_records.specs.RecordView.{local_in, missing_in}
 use Rattle.segment_records.specs.Segments.{segment_read}
 use Rattle.segment_records.proofs.Keeping.{kept_is, tag_back}
 use Rattle.segment_records.proofs.record.Record.read.Goals as goal
@@ -24,8 +24,9 @@ returns-clause-kept g c =
       | in-None+in_ok-tag-in-None w ↦ rw w.tag-is w.in_ok-tag-in-None.ensures.local
     ] in
     kept_is dir context c.args.before.now segment
-    _ _ _ _ _ _ c.in_ok-step.step.missing.items _ _
+    _ _ _ _ _ _ _ c.in_ok-step.step.missing.items _ _
     refl refl (tag_back c.match-find.tag.0 segment.components tag_is)
-    (c.in_ok-with_missing.ensures.local ∙ local_is)
-    c.in_ok-with_missing.ensures.missing
-    c.in_ok-step.ensures.step
+    (ap local_in c.in_ok-notes.ensures.faults ∙ c.in_ok-faults.ensures.local ∙ local_is)
+    (c.in_ok-notes.ensures.values ∙ c.in_ok-values.ensures.values)
+    (ap missing_in c.in_ok-notes.ensures.faults ∙ c.in_ok-faults.ensures.missing)
+    (c.in_ok-step.ensures.step segment.components c.in_ok-values.ensures.table)

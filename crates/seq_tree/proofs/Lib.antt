@@ -1,7 +1,8 @@
 pub mod Ends
+pub mod Entries
 pub mod Heights
-pub mod Passing
 pub mod Parts
+pub mod Passing
 pub mod Ranges
 pub mod Stacks
 pub mod Through

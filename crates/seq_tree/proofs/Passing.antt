@@ -24,7 +24,6 @@ next_after w m rank old mid xs ys new leaf rest passed found =
       items = drop_right xs ys (new.items - old.items) j far ∙ found.items;
       low = found.low;
       there = found.there;
-      short = found.short;
       light = found.light;
     }
 
@@ -39,6 +38,7 @@ pub record IsPassing {T : Type 0} (w m : T → ℕ) (rank : ℕ) (old : Front) (
   pub low : now.marks ≤ rank
   pub within : rank < now.marks + sum_by m ys
   pub few : now.items + length ys < 2 ^ 32
+  pub fits : now.marks + sum_by m ys < 2 ^ 32
   pub light : now.weight ≤ 4294967295 * now.items
   pub shorter : length ys ≤ length all
   pub found : (new : Front) (leaf rest : List T) → IsNextLeaf w m rank now ys new leaf rest → IsNextLeaf w m rank old all new leaf rest
@@ -52,6 +52,7 @@ passed_more w m rank old all now next ys xs zs passing same after past light =
       low = omega (arith, passing.low, after.marks, past);
       within = omega (arith, passing.within, marks, after.marks);
       few = omega (arith, passing.few, count, after.items);
+      fits = omega (arith, passing.fits, marks, after.marks);
       light = light;
       shorter = omega (arith, passing.shorter, count);
       found = λ new leaf rest is.

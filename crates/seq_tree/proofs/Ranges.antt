@@ -1,8 +1,7 @@
-use Rattle.std.proofs.Common.{◌≡◌, ℕ, ◌+◌, ◌-◌, ◌<◌, ◌≤◌, suc, List, [], ◌∷◌, ◌++◌, length, take, drop, get_or, sum_by, Some, refl, sym, ap, ◌∙◌, take-add, take-take, drop-drop, get_or-take, arith}
-use Rattle.std.specs.Prelude.{slice_range, slice_get}
+use Rattle.std.proofs.Common.{◌≡◌, ℕ, ◌+◌, ◌-◌, ◌≤◌, List, ◌++◌, length, take, drop, sum_by, sym, ap, ◌∙◌, take-add, take-take, drop-drop, arith}
+use Rattle.std.specs.Prelude.{slice_range}
 use Rattle.std.proofs.Math.Seq.{take-append-add, drop-append-add}
-use Rattle.std.proofs.lemmas.List.{drop-take, get_or-drop}
-use Rattle.std.proofs.lemmas.Option.{get_or_from_slice_get, slice_get-get_or}
+use Rattle.std.proofs.lemmas.List.{drop-take}
 use Rattle.std.proofs.lemmas.List.Sums.{sum_by-append}
 
 -- past the end of `xs`, the first items of `xs ++ ys` are those of `xs` and then the first of `ys`
@@ -29,27 +28,6 @@ pub range_back : {X : Type 0} (xs : List X) (a b i : ℕ) → a + i ≤ b → sl
 range_back xs a b i h =
     let long : i + (b - (a + i)) ≡ b - a = omega arith in
     ap (take (b - (a + i))) (sym (drop-drop i a xs)) ∙ sym (drop-take i (b - (a + i)) (drop a xs)) ∙ ap (λ n. drop i (take n (drop a xs))) long
-
--- past the end of `xs`, the items of `xs ++ ys` are those of `ys`
-pub get_right : {X : Type 0} (xs ys : List X) (n i : ℕ) → n ≡ length xs + i → slice_get (xs ++ ys) n ≡ slice_get ys i
-get_right [] ys n i e = ap (slice_get ys) (e ∙ (omega arith))
-get_right (x ∷ xs) ys n i e =
-    let later : n ≡ suc (length xs + i) = omega arith in
-    rw later (get_right xs ys (length xs + i) i refl)
-
--- past the end of `xs`, the ranges of `xs ++ ys` are those of `ys`
-pub range_right : {X : Type 0} (xs ys : List X) (n a m : ℕ) → n ≡ length xs + a → slice_range (xs ++ ys) n (n + m) ≡ slice_range ys a (a + m)
-range_right xs ys n a m e =
-    let long : n + m - n ≡ m = omega arith in
-    let short : a + m - a ≡ m = omega arith in
-    rw long (rw short (ap (take m) (drop_right xs ys n a e)))
-
--- an item of a range is one of the whole
-pub get_in_range : {X : Type 0} (xs : List X) (a n i : ℕ) (x : X) → a + n ≤ length xs → i < n → slice_get (slice_range xs a (a + n)) i ≡ Some x → slice_get xs (a + i) ≡ Some x
-get_in_range xs a n i x inside less is =
-    let here : get_or (slice_range xs a (a + n)) i x ≡ x = get_or_from_slice_get (slice_range xs a (a + n)) i x x is in
-    let near : get_or (drop a xs) i x ≡ x = sym (get_or-take (a + n - a) (drop a xs) i x (omega arith)) ∙ here in
-    slice_get-get_or xs (a + i) x (omega arith) ∙ ap Some (sym (get_or-drop a xs i x) ∙ near)
 
 -- the weights of the first items, up to one of a range
 pub sum_to_range : {X : Type 0} (m : X → ℕ) (xs : List X) (a n i : ℕ) → i ≤ n → sum_by m (take (a + i) xs) ≡ sum_by m (take a xs) + sum_by m (take i (slice_range xs a (a + n)))

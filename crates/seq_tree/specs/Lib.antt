@@ -1,4 +1,5 @@
 pub mod Gathered
+pub mod Items
 pub mod Join
 pub mod Marks
 pub mod Seq

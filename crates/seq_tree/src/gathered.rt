@@ -5,9 +5,10 @@ ghost use Rattle.std.specs.Option.{option_copied};
 ghost use Rattle.seq_tree.specs.Gathered.{items_of};
 ghost use Rattle.seq_tree.specs.Shape.{longest_run};
 
+use crate::items::LONGEST_RUN;
 use crate::join::join;
 use crate::measure::Measured;
-use crate::run::{LONGEST_RUN, Run};
+use crate::run::Run;
 use crate::sequence::Seq;
 use crate::tree::Tree;
 use std::alloc::{AllocError, Global};

@@ -2,6 +2,7 @@
 #![tactic(auto)]
 
 mod gathered;
+mod items;
 mod join;
 mod look;
 mod marks;

@@ -2,10 +2,10 @@
 
 ghost use Rattle.std.specs.Prelude.{◌≡◌, ℕ, ◌+◌, ◌-◌, ◌*◌, ◌^◌, ◌<◌, ◌≤◌, ◌++◌, length, take, drop, sum_by, slice_get, slice_range, Some};
 ghost use Rattle.seq_tree.specs.Marks.{IsAfter, IsNextLeaf};
-ghost use Rattle.seq_tree.specs.Shape.{FillsHeight, longest_run};
+ghost use Rattle.seq_tree.specs.Shape.{FillsHeight};
 
 use crate::measure::Measured;
-use crate::run::{marked_in, weigh};
+use crate::run::Run;
 use crate::sequence::Seq;
 use crate::tree::{Node, Tree};
 use crate::walk::Pending;
@@ -31,29 +31,26 @@ pub struct Marked<'a, T: Measured> {
 #[derive(Drop)]
 pub struct MarkedItems<'a, T: Measured> {
     seq: &'a Seq<T>,
-    // The leaf that the way is at, and the place of its first item.
-    leaf: &'a [T],
-    first: usize,
-    // Its items from the one that was found last on, how many of them are marked, and what lies before them.
-    rest: &'a [T],
-    marks: u32,
+    // The leaf that the way is at, if it has come to one.
+    leaf: Option<&'a Run<T>>,
+    // What lies before the leaf, and that with the leaf.
     before: Front,
+    after: Front,
     // What comes after the leaf.
     pending: Pending<'a, T>,
 }
 
 impl<'a, T: Measured> Model for MarkedItems<'a, T> {
-    ghost use Rattle.std.specs.Prelude.{List, ℕ, ◌+◌};
+    ghost use Rattle.std.specs.Prelude.{List, ℕ};
 
     ghost Value = { List T × ℕ × ℕ };
 
-    ghost use Rattle.seq_tree.specs.Marks.{IsLeafAt, IsWayThrough};
+    ghost use Rattle.seq_tree.specs.Marks.{IsWayThrough, leaf_items};
 
-    ghost view = { λ way. (way.seq.now, way.before.marks, way.before.marks + way.marks) };
+    ghost view = { λ way. (way.seq.now, way.before.marks, way.after.marks) };
 
     ghost invariant = { λ way.
-        IsWayThrough T.measure T.marks way.seq.now way.before way.rest.now way.marks way.pending.0
-        × IsLeafAt way.seq.now way.leaf.now way.first way.before.items way.rest.now };
+        IsWayThrough T.measure T.marks way.seq.now way.before (leaf_items way.leaf) way.after way.pending.0 };
 }
 
 impl<'a, T: Measured> MarkedItems<'a, T> {
@@ -63,17 +60,17 @@ impl<'a, T: Measured> MarkedItems<'a, T> {
     {
         MarkedItems {
             seq,
-            leaf: &[],
-            first: 0,
-            rest: &[],
-            marks: 0,
+            leaf: None,
             before: Front::NONE,
+            after: Front::NONE,
             pending: Pending::of(seq.root()),
         }
     }
 
-    /// The marked item before which `rank` items are marked, with the items of its leaf. Each node that is visited counts once;
-    /// the one that is a leaf has at most 16 items, and no item of another leaf is looked at. The way is at that leaf then.
+    /// The marked item before which `rank` items are marked, with the items of its leaf. Each node that is visited counts once.
+    /// No other item is looked at, unless the leaf is a part of a list or weighs 65,536 or more, and then those before it in the
+    /// list, which has at most 16. The way is at that leaf then.
+    #[inline(always)]
     pub fn find<L: Ledger>(&mut self, rank: u32, visited: &mut Steps<L>) -> Marked<'a, T>
         requires after { self.old.1 ≤ rank }
         requires within { rank < sum_by T.marks self.old.0 }
@@ -93,25 +90,22 @@ impl<'a, T: Measured> MarkedItems<'a, T> {
             → visited.new ≤ visited.old + (2 * b + 2) }
     {
         self.go_to(rank, visited);
-        let left = rank - self.before.marks;
-        let marked = marked_in(self.rest, left);
-        self.before = Front {
-            items: self.before.items + marked.place,
-            weight: self.before.weight + marked.before,
-            marks: rank,
+        let Some(leaf) = self.leaf else {
+            unreachable!();
         };
-        self.rest = &self.rest[marked.place..];
-        self.marks -= left;
+        let place = leaf.marked_place(rank - self.before.marks);
+        let items = leaf.items();
         Marked {
-            place: self.before.items,
-            before: self.before.weight,
-            item: marked.item,
-            leaf: self.leaf,
-            first: self.first,
+            place: self.before.items + place,
+            before: self.before.weight + leaf.weight_before(place),
+            item: &items[place],
+            leaf: items,
+            first: self.before.items,
         }
     }
 
     // Goes on to the leaf of the marked item before which `rank` items are marked, unless it is in the leaf at hand.
+    #[inline(always)]
     fn go_to<L: Ledger>(&mut self, rank: u32, visited: &mut Steps<L>)
         requires after { self.old.1 ≤ rank }
         requires within { rank < sum_by T.marks self.old.0 }
@@ -122,16 +116,16 @@ impl<'a, T: Measured> MarkedItems<'a, T> {
             → length self.old.0 < 2 ^ b
             → visited.new ≤ visited.old + (2 * b + 2) }
     {
-        if rank - self.before.marks < self.marks {
+        if rank < self.after.marks {
             return;
         }
-        let mut before = self.before.after_leaf(self.rest, self.marks);
+        // So no count of marked items is too large.
+        let _marks = self.seq.marks();
+        let mut before = self.after;
         let leaf = next_leaf(rank, &mut before, &mut self.pending, visited);
-        self.leaf = leaf.items;
-        self.first = before.items;
-        self.rest = leaf.items;
-        self.marks = leaf.marks;
+        self.leaf = Some(leaf.run);
         self.before = before;
+        self.after = leaf.after;
     }
 }
 
@@ -151,23 +145,6 @@ impl Front {
         marks: 0,
     };
 
-    // This and then the items of a leaf, of which so many are marked.
-    fn after_leaf<T: Measured>(self, leaf: &[T], marks: u32) -> Front
-        requires few { self.items + length leaf.now < 2 ^ 32 }
-        requires short { length leaf.now ≤ longest_run }
-        requires light { self.weight ≤ 4294967295 * self.items }
-        requires marks { marks ≡ sum_by T.marks leaf.now }
-        requires fits { self.marks + marks < 2 ^ 32 }
-        ensures further { IsAfter T.measure T.marks self result leaf.now }
-        ensures light { result.weight ≤ 4294967295 * result.items }
-    {
-        Front {
-            items: self.items + leaf.len(),
-            weight: self.weight + weigh(leaf),
-            marks: self.marks + marks,
-        }
-    }
-
     // This and then the items of a tree.
     fn after_tree<T: Measured>(self, tree: &Tree<T>) -> Front
         requires few { self.items + length tree.now.0 < 2 ^ 32 }
@@ -184,11 +161,11 @@ impl Front {
     }
 }
 
-// A leaf: its items, and how many of them are marked.
+// A leaf, and what lies before the place after it.
 #[derive(Clone, Copy)]
 struct Leaf<'a, T: Measured> {
-    items: &'a [T],
-    marks: u32,
+    run: &'a Run<T>,
+    after: Front,
 }
 
 // The leaf of the marked item before which `rank` items are marked, among the items to come, where `before` lies before them.
@@ -202,10 +179,12 @@ fn next_leaf<'a, T: Measured, L: Ledger>(
     requires after { before.old.marks ≤ rank }
     requires within { rank < before.old.marks + sum_by T.marks pending.old.0 }
     requires few { before.old.items + length pending.old.0 < 2 ^ 32 }
+    requires fits { before.old.marks + sum_by T.marks pending.old.0 < 2 ^ 32 }
     requires light { before.old.weight ≤ 4294967295 * before.old.items }
     ensures leaf { IsNextLeaf T.measure T.marks rank
-        before.old pending.old.0 before.new result.items.now pending.new.0 }
-    ensures marks { result.marks ≡ sum_by T.marks result.items.now }
+        before.old pending.old.0 before.new result.run.now pending.new.0 }
+    ensures after { IsAfter T.measure T.marks before.new result.after result.run.now }
+    ensures light { result.after.weight ≤ 4294967295 * result.after.items }
     ensures cost { (b : ℕ)
         → length pending.old.0 < 2 ^ b
         → visited.new ≤ visited.old + (2 * b + 2) }
@@ -231,19 +210,21 @@ fn leaf_in<'a, T: Measured, L: Ledger>(
     requires after { before.old.marks ≤ rank }
     requires within { rank < before.old.marks + sum_by T.marks tree.now.0 }
     requires few { before.old.items + length tree.now.0 < 2 ^ 32 }
+    requires fits { before.old.marks + sum_by T.marks tree.now.0 < 2 ^ 32 }
     requires light { before.old.weight ≤ 4294967295 * before.old.items }
     requires room { tree.now.1 + pending.old.1 < 64 }
     ensures leaf { IsNextLeaf T.measure T.marks rank
-        before.old (tree.now.0 ++ pending.old.0) before.new result.items.now pending.new.0 }
-    ensures marks { result.marks ≡ sum_by T.marks result.items.now }
+        before.old (tree.now.0 ++ pending.old.0) before.new result.run.now pending.new.0 }
+    ensures after { IsAfter T.measure T.marks before.new result.after result.run.now }
+    ensures light { result.after.weight ≤ 4294967295 * result.after.items }
     ensures cost { visited.new ≤ visited.old + (tree.now.1 + 1) }
     ensures low { FillsHeight tree.now.1 (length tree.now.0) }
 {
     visited.tick();
     match &tree.node {
         Node::Leaf(run) => Leaf {
-            items: run.items(),
-            marks: tree.marks(),
+            run,
+            after: before.after_tree(tree),
         },
         Node::Fork(sides) => {
             if rank - before.marks < sides.left.marks() {

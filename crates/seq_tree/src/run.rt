@@ -1,17 +1,15 @@
 //! Items that lie side by side in a short list, which other runs share.
 
-ghost use Rattle.std.specs.Prelude.{◌≡◌, ◌+◌, ◌*◌, ◌^◌, ◌<◌, ◌≤◌, length, take, drop, sum_by, slice_get, slice_range, Some, IfOk};
+ghost use Rattle.std.specs.Prelude.{◌≡◌, ◌+◌, ◌*◌, ◌^◌, ◌<◌, ◌≤◌, length, take, drop, sum_by, slice_get, slice_range, Some, IfOk, IfSome};
 ghost use Rattle.seq_tree.specs.Shape.{longest_run};
+ghost use Rattle.seq_tree.specs.Items.{IsMarkedPlace};
 
+use crate::items::Items;
 use crate::look::Located;
-use crate::marks::Marked;
 use crate::measure::Measured;
 use std::alloc::{AllocError, Global};
 use std::marker::Model;
 use std::rc::Rc;
-
-/// The most items of a list: `longest_run` of the definitions. More make fewer nodes, and a longer way in a leaf.
-pub(crate) const LONGEST_RUN: usize = 16;
 
 /// One item or more, side by side in a list that is shared, seen as these items.
 ///
@@ -19,7 +17,7 @@ pub(crate) const LONGEST_RUN: usize = 16;
 /// aren't its own.
 #[derive(Drop)]
 pub(crate) struct Run<T: Measured> {
-    list: Rc<Vec<T>>,
+    list: Rc<Items<T>>,
     from: u32,
     to: u32,
 }
@@ -30,11 +28,11 @@ impl<T: Measured> Model for Run<T> {
 
     ghost Value = { List T };
 
-    ghost view = { λ run. slice_range run.list.value.items run.from run.to };
+    ghost view = { λ run. slice_range run.list.value run.from run.to };
 
     ghost invariant = { λ run. (run.from < run.to)
-        × (run.to ≤ length run.list.value.items)
-        × (length run.list.value.items ≤ longest_run) };
+        × (run.to ≤ length run.list.value)
+        × (length run.list.value ≤ longest_run) };
 }
 
 impl<T: Measured> Run<T> {
@@ -46,7 +44,7 @@ impl<T: Measured> Run<T> {
     {
         let to = items.len() as u32;
         Ok(Run {
-            list: Rc::new(alloc, items)?,
+            list: Rc::new(alloc, Items::of(items))?,
             from: 0,
             to,
         })
@@ -54,11 +52,11 @@ impl<T: Measured> Run<T> {
 
     /// The items of this list from place `from` up to place `to`. It takes no memory: the error is that of an `Rc` whose
     /// count is full.
-    fn of(list: &Rc<Vec<T>>, from: usize, to: usize) -> Result<Run<T>, AllocError>
+    fn of(list: &Rc<Items<T>>, from: usize, to: usize) -> Result<Run<T>, AllocError>
         requires some { from < to }
-        requires within { to ≤ length list.now.value.items }
-        requires few { length list.now.value.items ≤ longest_run }
-        ensures { IfOk result (λ run. run ≡ slice_range list.now.value.items from to) }
+        requires within { to ≤ length list.now.value }
+        requires few { length list.now.value ≤ longest_run }
+        ensures { IfOk result (λ run. run ≡ slice_range list.now.value from to) }
     {
         Ok(Run {
             list: list.clone()?,
@@ -74,6 +72,66 @@ impl<T: Measured> Run<T> {
         ensures few { length self.now ≤ longest_run }
     {
         &self.list.as_slice()[self.from as usize..self.to as usize]
+    }
+
+    /// What they weigh together.
+    pub fn weight(&self) -> u64
+        ensures is { result ≡ sum_by T.measure self.now }
+        ensures bound { result ≤ 4294967295 * length self.now }
+    {
+        match self.whole() {
+            Some(list) => list.weight(),
+            None => weigh(self.items()),
+        }
+    }
+
+    /// How many of them are marked.
+    pub fn marks(&self) -> u32
+        ensures is { result ≡ sum_by T.marks self.now }
+        ensures most { result ≤ length self.now }
+    {
+        match self.whole() {
+            Some(list) => list.marks(),
+            None => count_marks(self.items()),
+        }
+    }
+
+    // The list, if these are all its items.
+    fn whole(&self) -> Option<&Items<T>>
+        ensures { IfSome result (λ list. list.now ≡ self.now) }
+    {
+        if self.from == 0 && self.to as usize == self.list.as_slice().len() {
+            Some(&self.list)
+        } else {
+            None
+        }
+    }
+
+    /// The place of the marked item before which `rank` of them are marked. No other item is looked at if the list is no
+    /// longer than the run.
+    pub fn marked_place(&self, rank: u32) -> usize
+        requires within { rank < sum_by T.marks self.now }
+        ensures { IsMarkedPlace T.marks self.now rank result }
+    {
+        let from = self.from as usize;
+        let skipped = count_marks(&self.list.as_slice()[..from]);
+        self.list.marked_place(skipped + rank) - from
+    }
+
+    /// What the items before a place weigh. None is looked at if those up to it in the list weigh less than 65,536.
+    pub fn weight_before(&self, place: usize) -> u64
+        requires within { place < length self.now }
+        ensures is { result ≡ sum_by T.measure (take place self.now) }
+        ensures bound { result ≤ 4294967295 * place }
+    {
+        let from = self.from as usize;
+        match (
+            self.list.weight_before(from),
+            self.list.weight_before(from + place),
+        ) {
+            (Some(front), Some(both)) => u64::from(both - front),
+            _ => weigh(&self.items()[..place]),
+        }
     }
 
     /// The same items once more. It takes no memory.
@@ -120,37 +178,6 @@ pub(crate) fn count_marks<T: Measured>(items: &[T]) -> u32
         marks += item.marks();
     }
     marks
-}
-
-/// The marked item of a leaf before which so many are marked.
-pub(crate) fn marked_in<T: Measured>(items: &[T], rank: u32) -> Marked<'_, T>
-    requires few { length items.now ≤ longest_run }
-    requires within { rank < sum_by T.marks items.now }
-    ensures is { slice_get items.now result.place ≡ Some result.item.now }
-    ensures marked { T.marks result.item.now ≡ 1 }
-    ensures rank { sum_by T.marks (take result.place items.now) ≡ rank }
-    ensures before { sum_by T.measure (take result.place items.now) ≡ result.before }
-    ensures bound { result.before ≤ 4294967295 * result.place }
-    ensures leaf { result.leaf.now ≡ items.now }
-    ensures first { result.first ≡ 0 }
-{
-    let mut left = rank;
-    let mut before = 0;
-    for (place, item) in items.iter().enumerate() {
-        let marks = item.marks();
-        if left < marks {
-            return Marked {
-                place,
-                before,
-                item,
-                leaf: items,
-                first: 0,
-            };
-        }
-        left -= marks;
-        before += u64::from(item.weight());
-    }
-    unreachable!();
 }
 
 /// The first of a leaf's items up to which, itself included, they weigh more than `bound`.

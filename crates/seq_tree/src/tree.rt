@@ -4,7 +4,7 @@ ghost use Rattle.std.specs.Prelude.{◌≡◌, ◌+◌, ◌*◌, ◌^◌, ◌<�
 ghost use Rattle.seq_tree.specs.Shape.{IsBalancedPair, FillsHeight};
 
 use crate::measure::Measured;
-use crate::run::{Run, count_marks, weigh};
+use crate::run::Run;
 use std::alloc::{AllocError, Global};
 use std::marker::Model;
 use std::rc::Rc;
@@ -107,10 +107,9 @@ impl<T: Measured> Tree<T> {
     pub fn of_run(run: Run<T>) -> Tree<T>
         ensures items { result.0 ≡ run }
     {
-        let items = run.items();
-        let len = items.len() as u32;
-        let total = weigh(items);
-        let marks = count_marks(items);
+        let len = run.items().len() as u32;
+        let total = run.weight();
+        let marks = run.marks();
         Tree {
             node: Node::Leaf(run),
             height: 0,

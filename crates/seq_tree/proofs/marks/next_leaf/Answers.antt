@@ -7,8 +7,8 @@ use Rattle.seq_tree.proofs.marks.next_leaf.Goals as goal
 
 pub returns-then-rank-before-clause-leaf : goal.returns-then-rank-before-clause-leaf
 returns-then-rank-before-clause-leaf g c =
-    c.loop-tree.invariant.passing.found c.leaf_in.new.before c.leaf_in.result.items.now c.leaf_in.new.pending.0
-    (subst (λ xs. IsNextLeaf g.T.Measured.measure g.T.Measured.marks c.args.rank c.loop-tree.before xs c.leaf_in.new.before c.leaf_in.result.items.now c.leaf_in.new.pending.0)
+    c.loop-tree.invariant.passing.found c.leaf_in.new.before c.leaf_in.result.run.now c.leaf_in.new.pending.0
+    (subst (λ xs. IsNextLeaf g.T.Measured.measure g.T.Measured.marks c.args.rank c.loop-tree.before xs c.leaf_in.new.before c.leaf_in.result.run.now c.leaf_in.new.pending.0)
     (sym c.in-Some.ensures.items) c.leaf_in.ensures.leaf)
 
 pub returns-then-rank-before-clause-cost : goal.returns-then-rank-before-clause-cost

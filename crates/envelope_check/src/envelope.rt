@@ -40,9 +40,9 @@ use std::alloc::{AllocError, Global};
 /// `heads` are those segments that have one of the six tags of `HeadKind`, in order, and `total` is how many segments
 /// there are. A segment's mark is asked for only where an error is told of it. Only want of memory is an error.
 /// The work grows with the heads, and with the segments that are outside of a message or after the end.
-pub fn envelope_errors<'a, 'k, M: SegmentMarks>(
+pub fn envelope_errors<M: SegmentMarks>(
     alloc: Global,
-    heads: &'a [Head<'k>],
+    heads: &[Head<'_>],
     total: u32,
     marks: &mut M,
 ) -> Result<Vec<ErrorLine>, AllocError>

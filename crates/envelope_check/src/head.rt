@@ -1,6 +1,7 @@
 //! The segments as the rules on envelopes see them.
 ghost use Rattle.std.specs.Prelude.{[], ◌≡◌, ◌≤◌, length, IfOk};
 ghost use Rattle.envelope_check.specs.Heads.{kind_of};
+ghost use Rattle.envelope_check.specs.declared.head.TheConstants.{SHORT};
 
 use edi_tables::Tag;
 use std::alloc::{AllocError, Global};
@@ -77,7 +78,7 @@ impl HeadValue {
 
     // A copy of a few octets.
     fn short(octets: &[u8]) -> HeadValue
-        requires { length octets.now ≤ 14 }
+        requires { length octets.now ≤ SHORT }
         ensures { result ≡ octets.now }
     {
         let mut short = [0; SHORT];

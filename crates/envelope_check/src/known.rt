@@ -53,6 +53,7 @@ impl<'a, 'k> Known<'a, 'k> {
     }
 
     /// After a segment, which may be a head.
+    #[inline(always)]
     pub(crate) fn after(&self, head: Option<&'a Head<'k>>) -> Known<'a, 'k>
         requires { self.now.segments + 1 < 2 ^ 32 }
         ensures { IsKnownAfter self.now (option_copied head.entry) result }
@@ -76,6 +77,7 @@ impl<'a, 'k> Known<'a, 'k> {
     }
 
     /// After so many segments that are no heads: they only add to the segments.
+    #[inline(always)]
     pub(crate) fn after_others(&self, count: u32) -> Known<'a, 'k>
         requires { self.now.segments + count < 2 ^ 32 }
         ensures { IsKnownAfterOthers self.now count result }

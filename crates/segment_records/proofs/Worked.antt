@@ -12,6 +12,7 @@ use Rattle.dir_compile.specs.declared.parts.Parts.{Parts}
 use Rattle.seg_lexer.specs.Fields.{Component}
 use Rattle.table_walk.specs.Errors.{Fault, structure_errors_of}
 use Rattle.table_walk.specs.Errors.Fault.{Missing, Unplaced}
+use Rattle.segment_records.specs.Heads.{given_by}
 use Rattle.segment_records.specs.Messages.{structure_errors_at, mode_after, position_at}
 use Rattle.segment_records.specs.Places.{place_at}
 use Rattle.segment_records.specs.Segments.{Segment}
@@ -75,3 +76,20 @@ modes : map (mode_after dir segments) (0 ∷ 5 ∷ 6 ∷ 7 ∷ 10 ∷ [])
     ≡ Outside ∷ Within 0 ((2, 2) ∷ (3, 1) ∷ []) ∷ Outside ∷ Untabled ∷ Within 0 ((1, 1) ∷ []) ∷ []
 unfolding mode_after position_at message_at message_closed_at message_extents candidates_of later_siblings groups_round later_nodes missing_between entry_count group_count is_over rank_of pairs_of end_of parent_of
 modes = refl
+
+abbrev first : List ℕ → Component
+first octets = record { element = 1; repetition = 1; component = 1; octets = octets }
+
+-- UNH+1+ORDERS gives a reference and a type of message
+unh_gives : given_by (Some (record { octets = codes "UNH" })) (first (codes "1") ∷ component 1 (codes "ORDERS") ∷ [])
+    ≡ Some (record { reference = codes "1"; other = codes "ORDERS" })
+unh_gives = refl
+
+-- UNT+14+1 gives a count and a reference
+unt_gives : given_by (Some (record { octets = codes "UNT" })) (first (codes "14") ∷ component 1 (codes "1") ∷ [])
+    ≡ Some (record { reference = codes "1"; other = codes "14" })
+unt_gives = refl
+
+-- another segment gives none
+bgm_gives : given_by (Some (record { octets = codes "BGM" })) (first (codes "220") ∷ []) ≡ None
+bgm_gives = refl

@@ -60,29 +60,22 @@ pub(crate) fn read_heading<O: Octets>(
             table: None,
         });
     }
-    read_head(alloc, directory, tag, text, service, start, end)
+    read_head(alloc, directory, tag, fields(text, service, start, end))
 }
 
-// The same where the segment may be a head. Few are: this is kept out of the way of the others.
+// The same of the components of a segment that may be a head. Few are: this is kept out of the way of the others.
 #[inline(never)]
 fn read_head<O: Octets>(
     alloc: Global,
     directory: &Directory,
     tag: Option<Tag>,
-    text: &O,
-    service: &Service,
-    start: usize,
-    end: usize,
+    components: Fields<'_, O>,
 ) -> Result<Heading, AllocError>
-    requires usable { IsUsable service.now (O.octets text.now) }
-    requires short { length (O.octets text.now) ≤ LONGEST_TEXT }
-    requires ordered { start ≤ end }
-    requires within { end ≤ length (O.octets text.now) }
     ensures values { IfOk result (λ heading. option_map (λ values. values.value) heading.values
-        ≡ given_by tag (components_at service.now (O.octets text.now) start end)) }
+        ≡ given_by tag (components_left components.entry)) }
     ensures table { has_name (codes "UNH") tag ≡ true
-        → IfOk result (λ heading. heading.table
-        ≡ table_for directory.now (components_at service.now (O.octets text.now) start end)) }
+        → IfOk result
+        (λ heading. heading.table ≡ table_for directory.now (components_left components.entry)) }
     ensures within { IfOk result
         (λ heading. IfSome heading.table (λ i. i < length (tables_of directory.now))) }
 {
@@ -92,7 +85,6 @@ fn read_head<O: Octets>(
             table: None,
         });
     };
-    let components = fields(text, service, start, end);
     let Named { values, table } = match kind {
         HeadKind::Unh => read_unh(alloc, directory, components)?,
         _ => Named {

@@ -62,6 +62,7 @@ impl<'e> NotableSegments<'e> {
     }
 
     /// The next one. Each node of the tree of records that is visited counts once.
+    #[inline(always)]
     pub fn next_counted<L: Ledger>(&mut self, visited: &mut Steps<L>) -> Option<WalkedSegment<'e>>
         ensures next { IfSome result (λ seen. self.old.0 ≡ seen_of seen ∷ self.new.0) }
         ensures end { IfNone result ((self.old.0 ≡ []) × (self.new.0 ≡ [])) }
@@ -116,12 +117,14 @@ impl<'e> Iterator for NotableSegments<'e> {
 
     ghost remaining = { item_count (λ walk. walk.0) };
 
+    #[inline(always)]
     fn next(&mut self) -> Option<WalkedSegment<'e>> {
         next_uncounted::<Brand>(self, Blank::new(1))
     }
 }
 
 // The next one, by a counter that nobody reads.
+#[inline(always)]
 fn next_uncounted<'e, L: Ledger>(
     segments: &mut NotableSegments<'e>,
     blank: Blank,
@@ -193,6 +196,7 @@ impl<'e> Nearby<'e> {
     }
 
     // The segment at a place, before whose end there are so many octets. At most three ways down are gone.
+    #[inline(always)]
     fn segment_at<L: Ledger>(
         &self,
         place: usize,

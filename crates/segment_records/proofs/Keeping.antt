@@ -26,7 +26,7 @@ tag_back tag components is = same tag ∙ ap (option_map (λ octets. record { oc
     same (Some tag) = refl
 
 -- a step looks at the tag and the components alone
-step_read : (dir : Parts) (before : Mode) (segment : Segment) → step_of dir before (read_as segment.tag segment.components) ≡ step_of dir before segment
+pub step_read : (dir : Parts) (before : Mode) (segment : Segment) → step_of dir before (read_as segment.tag segment.components) ≡ step_of dir before segment
 unfolding step_of
 step_read dir Outside segment = refl
 step_read dir Untabled segment = refl

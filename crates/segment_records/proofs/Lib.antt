@@ -7,6 +7,7 @@ pub mod FaultLaws
 pub mod Following
 pub mod Forgets
 pub mod Found
+pub mod GoingOn
 pub mod Headed
 pub mod Held
 pub mod Keeping

@@ -113,10 +113,11 @@ pub unnoted : (seen : SeenSegment) → is_notable seen ≡ false → IsQuiet see
 unnoted seen quiet =
     let both = or_false (is_marked seen.kept) (ends_before seen.next) quiet in (unmarked_quiet seen.kept both.0, both.1)
 
+pub stops_none : (tag : Option Tag) → stops_message tag ≡ false → IsPlain tag
+stops_none tag stops = let it = plain_tag tag stops in record { message = stops; group = it.group; head = no_kind tag it }
+
 pub quiet_head : (seen : SeenSegment) → is_notable seen ≡ false → IsPlain seen.kept.tag
-quiet_head seen quiet =
-    let stops = (unnoted seen quiet).0.stops in
-    let it = plain_tag seen.kept.tag stops in record { message = stops; group = it.group; head = no_kind seen.kept.tag it }
+quiet_head seen quiet = stops_none seen.kept.tag (unnoted seen quiet).0.stops
 
 well_placed : (entry : Option ℕ) (missing : List ℕ) (over : Bool) → is_some entry && is_none_of missing && not over ≡ true
     → faults_of_member entry missing over ≡ []

@@ -1,12 +1,14 @@
 //! What is kept of one segment.
-ghost use Rattle.std.specs.Prelude.{◌≡◌, ◌+◌, ◌<◌, ◌≤◌, [], ℕ, None, Some, length, IfOk};
+ghost use Rattle.std.specs.Prelude.{◌≡◌, ◌+◌, ◌<◌, ◌≤◌, [], ℕ, None, Some, false, length, IfOk, IfSome};
 ghost use Rattle.std.specs.Option.{option_copied, option_map};
 ghost use Rattle.edi_octets.specs.declared.octets.Octets.{Ghosts};
+ghost use Rattle.dir_compile.specs.declared.parts.Parts.{Parts};
 ghost use Rattle.seg_lexer.specs.Fields.{components_at};
 ghost use Rattle.seg_lexer.specs.Service.{IsUsable};
 ghost use Rattle.seg_lexer.specs.Tag.{tag_of};
 ghost use Rattle.element_check.specs.Local.{local_errors_of};
 ghost use Rattle.clean_segments.specs.Clean.{AreClean};
+ghost use Rattle.segment_records.specs.Bounds.{stops_message as stops_message_of};
 ghost use Rattle.segment_records.specs.Known.{AreKnown};
 ghost use Rattle.segment_records.specs.Notable.{is_marked, is_well_placed};
 ghost use Rattle.segment_records.specs.Records.{IsModeOf, kept_of};
@@ -19,7 +21,7 @@ ghost use Rattle.edi_octets.specs.declared.octets.TheConstants.{LONGEST_TEXT};
 use crate::head_values::{Heading, read_heading};
 use crate::known::KnownSteps;
 use crate::mode::Mode;
-use crate::step::{Standing, take_inner_step, take_step};
+use crate::step::{Standing, go_on_as_known, take_inner_step, take_step};
 use crate::tags::stops_message;
 use clean_segments::CleanSegments;
 use dir_compile::Directory;
@@ -103,7 +105,11 @@ impl Drop for Record {
             notes,
         } = self;
         drop(mode);
-        drop(notes);
+        // Most have none.
+        match notes {
+            Notes::Nothing => {}
+            notes => drop(notes),
+        }
     }
 }
 
@@ -129,6 +135,7 @@ impl Record {
     /// call of the walk is counted. Only want of memory is an error. `clean` are segments of the text in which nothing is
     /// wrong by themselves, and then the segment too, if nothing is. `known` are steps in the directory's tables that were taken
     /// before, and then the segment's too.
+    #[inline(always)]
     pub fn read<O: Octets, L: Ledger>(
         alloc: Global,
         directory: &Directory,
@@ -159,8 +166,15 @@ impl Record {
         ensures counted { placed.new ≤ placed.old + 1 }
     {
         let SegmentPlace { from, start, end } = place;
+        let octets = (end + 1 - from) as u32;
+        let breaks = (start - from) as u32;
         let (tag, faults) = match clean.find(directory, context, text, start, end) {
-            Some(tag) => (Some(tag), None),
+            Some(tag) => {
+                if let Some(record) = go_on_plain(alloc, octets, breaks, before, tag, known) {
+                    return Ok(record);
+                }
+                (Some(tag), None)
+            }
             None => check_alone(alloc, directory, context, text, start, end)?,
         };
         let Heading { values, table } = read_heading(
@@ -176,8 +190,8 @@ impl Record {
         let faults = with_missing(alloc, faults, step.missing)?;
         let notes = notes_of(alloc, values, faults)?;
         Ok(Record {
-            octets: (end + 1 - from) as u32,
-            breaks: (start - from) as u32,
+            octets,
+            breaks,
             tag,
             standing: step.standing,
             mode: step.after,
@@ -331,6 +345,50 @@ impl Record {
     {
         &self.mode
     }
+}
+
+// The record of a segment with this tag in which nothing is wrong by itself, where it is no head and takes a step that is known.
+// Most segments are such, and are read in this short way.
+#[inline(always)]
+fn go_on_plain(
+    alloc: Global,
+    octets: u32,
+    breaks: u32,
+    before: &Mode,
+    tag: Tag,
+    known: &mut KnownSteps,
+) -> Option<Record>
+    ensures record { (directory : Parts) → AreKnown directory known.old
+        → IfSome result (λ kept. kept
+        ≡ record {
+          octets = octets;
+          breaks = breaks;
+          tag = Some tag;
+          local = [];
+          given = None;
+          step = inner_step directory before.now (read_as (Some tag) []);
+        }) }
+    ensures plain { IfSome result (λ _. stops_message_of (Some tag) ≡ false) }
+    ensures mode { (directory : Parts) (most : ℕ) → AreKnown directory known.old
+        → IsModeOf directory most before.now
+        → IfSome result (λ kept. IsModeOf directory (most + 1) kept.step.after) }
+    ensures known { known.new ≡ known.old }
+{
+    if stops_message(Some(tag)) {
+        return None;
+    }
+    let Mode::Within { table, state } = before else {
+        return None;
+    };
+    let step = go_on_as_known(alloc, *table, state, Some(tag), known)?;
+    Some(Record {
+        octets,
+        breaks,
+        tag: Some(tag),
+        standing: step.standing,
+        mode: step.after,
+        notes: Notes::Nothing,
+    })
 }
 
 // The tag of the segment `start..end` of a text, and its local errors, if there are any. Most segments are seen to have none:

@@ -176,9 +176,9 @@ fn go_on<L: Ledger>(
     }
 }
 
-// The same step as one that is known, if there is one.
+/// The same step as one that is known, if there is one: nothing is missing before it.
 #[inline(always)]
-fn go_on_as_known(
+pub(crate) fn go_on_as_known(
     alloc: Global,
     table: u32,
     state: &State,
@@ -191,6 +191,7 @@ fn go_on_as_known(
     ensures mode { (directory : Parts) (most : ℕ) → AreKnown directory known.old
         → IsModeOf directory most (Mode.Within table state.now)
         → IfSome result (λ step. IsModeOf directory (most + 1) step.after) }
+    ensures whole { IfSome result (λ step. step.missing.items ≡ []) }
     ensures known { known.new ≡ known.old }
 {
     let before = state.few()?;
@@ -210,6 +211,7 @@ fn step_again(alloc: Global, known: &KnownStep) -> Step
     ensures mode { (directory : Parts) (most : ℕ) → IsKnown directory known.now
         → IsModeOf directory most (Mode.Within known.now.table known.now.before)
         → IsModeOf directory (most + 1) result.after }
+    ensures whole { result.missing.items ≡ [] }
 {
     Step {
         standing: Standing::At(known.entry),

@@ -1,4 +1,5 @@
 mod Among
+mod Batches
 mod Begins
 pub mod Begun
 mod Bounded

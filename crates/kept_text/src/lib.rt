@@ -3,9 +3,11 @@
 
 mod change;
 mod kept;
+mod passing;
 mod read;
 mod rerun;
 mod stretch;
 
 pub use kept::KeptText;
+pub use passing::PassingSegments;
 pub use read::{read_records, read_text};

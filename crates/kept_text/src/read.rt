@@ -28,8 +28,8 @@ use step_counter::Steps;
 // A text of fewer octets has too few segments for their steps to be remembered: room for them takes longer.
 const MANY_OCTETS: usize = 16_384;
 
-// Where the steps of a text of so many octets are remembered. Only want of memory is an error.
-fn known_for(alloc: Global, octets: usize) -> Result<KnownSteps, AllocError>
+/// Where the steps of a text of so many octets are remembered. Only want of memory is an error.
+pub(crate) fn known_for(alloc: Global, octets: usize) -> Result<KnownSteps, AllocError>
     ensures { IfOk result (λ known. (directory : Parts) → AreKnown directory known) }
 {
     if octets < MANY_OCTETS {
@@ -99,8 +99,8 @@ pub(crate) fn mode_after<'a>(before: &'a Mode, records: &'a [Record]) -> &'a Mod
     mode_of(before, records.last())
 }
 
-// The mode after a record, or where there is none, the one before.
-fn mode_of<'a>(before: &'a Mode, last: Option<&'a Record>) -> &'a Mode
+/// The mode after a record, or where there is none, the one before.
+pub(crate) fn mode_of<'a>(before: &'a Mode, last: Option<&'a Record>) -> &'a Mode
     ensures { result.now
         ≡ option_map_or (λ kept. kept.step.after) (option_copied last.entry) before.now }
 {

@@ -108,7 +108,7 @@ module _ (s : Service) (text : List ℕ) (usable : IsUsable s text) (k from : �
       ∙ drop_at (segments_by s (take from text)) _ k before_count
 
   -- the segment that ends next
-  segment_is : (start end : ℕ) → IsSegment s text k from (record { from = start; to = end }) → slice_get (segments_by s text) k ≡ Some (segment_read s text from start end)
+  pub segment_is : (start end : ℕ) → IsSegment s text k from (record { from = start; to = end }) → slice_get (segments_by s text) k ≡ Some (segment_read s text from start end)
   unfolding segments_of segments_by
   segment_is start end it =
       let got = mapped_some (segment_in text) (slice_get (zip (boundaries_of s text) (ends_of s text)) k) (record { from = start; to = end })

@@ -1,0 +1,10 @@
+use Rattle.kept_text.proofs.passing.PassingSegments.of.Given as goal
+
+abbrev pub ghosts-read_batch_uncounted-L-Ledger : goal.ghosts-read_batch_uncounted-L-Ledger
+ghosts-read_batch_uncounted-L-Ledger a = record { name = a.lexing.name; parts = a.lexing.parts }
+
+abbrev pub ghosts-read_batch_uncounted-M-Ledger : goal.ghosts-read_batch_uncounted-M-Ledger
+ghosts-read_batch_uncounted-M-Ledger a = record { name = a.placing.name; parts = a.placing.parts }
+
+abbrev pub ghosts-read_context_of : goal.ghosts-read_context_of
+ghosts-read_context_of a = record { name = a.blank.name; parts = a.blank.parts }

@@ -1,2 +1,5 @@
 pub mod Asked
+pub mod Ends
 pub mod Marked
+pub mod Telling
+pub mod TextMarked

@@ -8,9 +8,12 @@ ghost use Rattle.std.specs.List.Sorted.{IsPermutation};
 ghost use Rattle.error_ledger.specs.Order.{IsAscending};
 ghost use Rattle.envelope_check.specs.Envelope.{envelope_errors_of};
 ghost use Rattle.seg_lexer.specs.Context.{context_of};
+ghost use Rattle.seg_lexer.specs.Segments.{tail_of};
+ghost use Rattle.seg_lexer.specs.Service.{service_of};
+ghost use Rattle.segment_records.specs.Count.{segment_count_of};
 ghost use Rattle.segment_records.specs.Segments.{segments_of_text};
 ghost use Rattle.segment_records.specs.Heads.{heads_of, marks_of};
-ghost use Rattle.text_reading.specs.Errors.{errors_found, errors_of};
+ghost use Rattle.text_reading.specs.Errors.{advice_lines, errors_found, errors_of, first_segment, syntax_lines, tail_lines};
 
 use crate::heads::head_of;
 use crate::marks::KeptMarks;
@@ -54,9 +57,8 @@ fn find_errors(kept: &KeptText<'_>, alloc: Global) -> Result<Vec<ErrorLine>, All
 {
     let Found { heads, lines } = walk_notable(kept, alloc)?;
     let mut list = judge_envelopes(kept, heads, alloc)?;
-    put_advice(kept, &mut list)?;
-    put_tail(kept, &mut list)?;
-    put_syntax(kept, &mut list)?;
+    put_ends(kept, &mut list)?;
+    put_first(kept, &mut list)?;
     put_lines(lines, &mut list)?;
     Ok(list)
 }
@@ -109,8 +111,33 @@ fn judge_envelopes(
     envelope_errors(alloc, &heads, kept.segment_count(), &mut marks)
 }
 
-// Puts these errors at the end. Most often one of the lists is empty, and nothing is copied.
-fn put_lines(lines: Vec<ErrorLine>, list: &mut Vec<ErrorLine>) -> Result<(), AllocError>
+// Puts what is wrong before the first segment of the text and after the last.
+fn put_ends(kept: &KeptText<'_>, list: &mut Vec<ErrorLine>) -> Result<(), AllocError>
+    ensures { OnOk result (let text = kept.now.text in
+        list.new.items ≡ list.old.items ++ advice_lines (context_of text).service.sound
+        ++ tail_lines (segment_count_of text) (tail_of (service_of text) text)) }
+{
+    let service = kept.service();
+    put_advice(service, list)?;
+    put_tail(
+        &kept.whole(),
+        service,
+        kept.last_boundary(),
+        kept.segment_count(),
+        list,
+    )
+}
+
+// Puts what is wrong with the syntax that the first segment names.
+fn put_first(kept: &KeptText<'_>, list: &mut Vec<ErrorLine>) -> Result<(), AllocError>
+    ensures { OnOk result (list.new.items
+        ≡ list.old.items ++ syntax_lines (first_segment kept.now.text)) }
+{
+    put_syntax(&kept.whole(), kept.segments().next(), list)
+}
+
+/// Puts these errors at the end. Most often one of the lists is empty, and nothing is copied. Only want of memory is an error.
+pub(crate) fn put_lines(lines: Vec<ErrorLine>, list: &mut Vec<ErrorLine>) -> Result<(), AllocError>
     ensures { OnOk result (list.new.items ≡ list.old.items ++ lines.items) }
 {
     if list.is_empty() {

@@ -1,6 +1,7 @@
 //! The kept reading of an interchange, over edits: its errors, its tree, and the mode after each segment.
 #![tactic(auto)]
 
+mod checked;
 mod edit;
 mod engine;
 mod errors;
@@ -14,8 +15,10 @@ mod places;
 mod structure;
 mod summary;
 mod tail;
+mod told;
 mod tree;
 
+pub use checked::{Checked, check_text};
 pub use edit::{EditStop, stop_by};
 pub use engine::Engine;
 pub use kept_text::read_records;

@@ -1,20 +1,21 @@
 //! How an interchange is opened: what its UNB tells, and what is wrong before the first segment, in the opening, and after the
 //! last segment.
-ghost use Rattle.std.specs.Prelude.{◌≡◌, ◌+◌, ◌++◌, ◌≤◌, [], length, map, unwrap_or, IfOk, OnOk};
+ghost use Rattle.std.specs.Prelude.{◌≡◌, ◌+◌, ◌++◌, ◌≤◌, [], length, map, slice_get, slice_index, unwrap_or, IfOk, IfSome, OnOk};
 ghost use Rattle.std.specs.List.{list_any};
 ghost use Rattle.std.specs.Option.{option_map};
 ghost use Rattle.std.specs.Str.{bytes_eq};
-ghost use Rattle.seg_lexer.specs.Context.{context_of};
+ghost use Rattle.dir_compile.specs.Directory.{IsDirectory};
+ghost use Rattle.dir_compile.specs.declared.parts.Parts.{Parts};
 ghost use Rattle.seg_lexer.specs.Left.{components_left};
-ghost use Rattle.seg_lexer.specs.Service.{IsUsable, service_of};
+ghost use Rattle.seg_lexer.specs.Segments.{boundaries_of, ends_of, tail_of};
+ghost use Rattle.seg_lexer.specs.Service.{IsUsable};
 ghost use Rattle.seg_lexer.specs.Value.{octets_of};
 ghost use Rattle.segment_records.specs.Errors.{is_unknown as is_unknown_of};
 ghost use Rattle.segment_records.specs.Line.{opening_seen};
 ghost use Rattle.segment_records.specs.Look.{seen_of};
 ghost use Rattle.segment_records.specs.Openers.{interchange_party_in, opening_by};
 ghost use Rattle.segment_records.specs.Told.{components_seen};
-ghost use Rattle.seg_lexer.specs.Segments.{tail_of};
-ghost use Rattle.segment_records.specs.Count.{segment_count_of};
+ghost use Rattle.segment_records.specs.WalkedSegments.{LiesIn, seen_in};
 ghost use Rattle.text_reading.specs.Errors.{advice_lines, first_segment, syntax_lines, tail_lines, untagged};
 ghost use Rattle.edi_octets.specs.declared.octets.TheConstants.{LONGEST_TEXT};
 
@@ -24,7 +25,6 @@ use contrl_segments::{Opening, Party};
 use edi_octets::Octets;
 use envelope_check::SegmentMark;
 use error_ledger::{ErrorLine, Kind};
-use kept_text::KeptText;
 use seg_lexer::{Context, Fields, Service, Value, read_service};
 use segment_records::{WalkedSegment, copy_value, error_with, is_named};
 use std::alloc::{AllocError, Global};
@@ -134,12 +134,11 @@ fn is_name<O: Octets>(value: &Value<'_, O>, name: &[u8]) -> bool
     value.is(name)
 }
 
-// Puts that the service string advice can't be used.
-pub(crate) fn put_advice(kept: &KeptText<'_>, list: &mut Vec<ErrorLine>) -> Result<(), AllocError>
-    ensures { OnOk result (list.new.items
-        ≡ list.old.items ++ advice_lines (context_of kept.now.text).service.sound) }
+/// Puts that the service string advice can't be used. Only want of memory is an error.
+pub(crate) fn put_advice(service: &Service, list: &mut Vec<ErrorLine>) -> Result<(), AllocError>
+    ensures { OnOk result (list.new.items ≡ list.old.items ++ advice_lines service.now.sound) }
 {
-    if !kept.service().sound {
+    if !service.sound {
         list.push(error_with(0, untagged(0), 0, 0, Kind::BadUna))?;
     }
     Ok(())
@@ -152,36 +151,47 @@ fn untagged(start: u32) -> SegmentMark
     SegmentMark { start, tag: None }
 }
 
-// Puts that something is left after the last segment.
-pub(crate) fn put_tail(kept: &KeptText<'_>, list: &mut Vec<ErrorLine>) -> Result<(), AllocError>
+/// Puts that something is left after the last of `count` segments, where the boundary `from` is. Only want of memory is an error.
+pub(crate) fn put_tail<O: Octets>(
+    text: &O,
+    service: &Service,
+    from: usize,
+    count: u32,
+    list: &mut Vec<ErrorLine>,
+) -> Result<(), AllocError>
+    requires usable { IsUsable service.now (O.octets text.now) }
+    requires short { length (O.octets text.now) ≤ LONGEST_TEXT }
+    requires last { from ≡ slice_index (boundaries_of service.now (O.octets text.now))
+        (length (ends_of service.now (O.octets text.now))) }
+    requires few { count ≤ LONGEST_TEXT }
     ensures { OnOk result (list.new.items ≡ list.old.items
-        ++ tail_lines (segment_count_of kept.now.text)
-        (tail_of (service_of kept.now.text) kept.now.text)) }
+        ++ tail_lines count (tail_of service.now (O.octets text.now))) }
 {
-    let tail = find_tail::<_, Brand>(
-        &kept.whole(),
-        kept.service(),
-        kept.last_boundary(),
-        Blank::new(1),
-    );
-    if let Some(start) = tail {
-        let number = kept.segment_count() + 1;
-        list.push(error_with(number, untagged(start), 0, 0, Kind::Tail))?;
+    if let Some(start) = find_tail::<_, Brand>(text, service, from, Blank::new(1)) {
+        list.push(error_with(count + 1, untagged(start), 0, 0, Kind::Tail))?;
     }
     Ok(())
 }
 
-// Puts that the first segment, where it is UNB, names a level or a version of the syntax that there isn't. It is cut without
-// repetitions for that, by the service characters of the text itself.
-pub(crate) fn put_syntax(kept: &KeptText<'_>, list: &mut Vec<ErrorLine>) -> Result<(), AllocError>
-    ensures { OnOk result (list.new.items
-        ≡ list.old.items ++ syntax_lines (first_segment kept.now.text)) }
+/// Puts that the first segment of a text, where it is UNB, names a level or a version of the syntax that there isn't. It is cut
+/// without repetitions for that, by the service characters of the text itself. Only want of memory is an error.
+pub(crate) fn put_syntax<O: Octets>(
+    text: &O,
+    first: Option<WalkedSegment<'_>>,
+    list: &mut Vec<ErrorLine>,
+) -> Result<(), AllocError>
+    requires short { length (O.octets text.now) ≤ LONGEST_TEXT }
+    requires within { IfSome first
+        (λ first. LiesIn (O.octets text.now) (seen_of first)) }
+    ensures { (directory : Parts) → IsDirectory directory
+        → option_map seen_of first.entry ≡ slice_get (seen_in directory (O.octets text.now)) 0
+        → OnOk result (list.new.items
+        ≡ list.old.items ++ syntax_lines (first_segment (O.octets text.now))) }
 {
-    match kept.segments().next() {
+    match first {
         Some(first) if is_named(b"UNB", first.record.tag()) => {
-            let text = kept.whole();
-            let service = read_service(&text);
-            put_opening(&text, &service, &first, list)
+            let service = read_service(text);
+            put_opening(text, &service, &first, list)
         }
         _ => Ok(()),
     }

@@ -166,8 +166,8 @@ fn entry_for(table: &Table, node: u16) -> u16
     }
 }
 
-// Whether no segment follows, or one that ends an open message.
-fn ends_before(next: Option<&Record>) -> bool
+/// Whether no segment follows, or one that ends an open message.
+pub(crate) fn ends_before(next: Option<&Record>) -> bool
     ensures { result ≡ ends_before_of (option_copied next.entry) }
 {
     match next {

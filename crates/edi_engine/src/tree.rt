@@ -73,9 +73,13 @@ pub(crate) fn print_tree(kept: &KeptText<'_>, alloc: Global) -> Result<PrintedTr
     Ok(PrintedTree { lines, text })
 }
 
-// The member of the tree for a segment. `numbers` are those that `number_groups` gives of the directory.
+/// The member of the tree for a segment. `numbers` are those that `number_groups` gives of the directory.
 #[inline(always)]
-fn line_of(directory: &Directory, numbers: &[List<u16>], seen: &WalkedSegment<'_>) -> TreeLine
+pub(crate) fn line_of(
+    directory: &Directory,
+    numbers: &[List<u16>],
+    seen: &WalkedSegment<'_>,
+) -> TreeLine
     requires follows { Follows directory.now (seen_of seen.now) }
     requires numbers { numbers.now ≡ map numbers_in (tables_of directory.now) }
     ensures { result ≡ line_in_tree directory.now (seen_of seen.now) }

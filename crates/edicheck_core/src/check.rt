@@ -5,19 +5,18 @@ ghost use Rattle.edicheck_core.specs.About.{checked_text, found_if};
 ghost use Rattle.edi_octets.specs.declared.octets.TheConstants.{LONGEST_TEXT};
 
 use dir_compile::Directory;
-use edi_engine::Engine;
+use edi_engine::check_text;
 use edi_tables::Chunk;
 use error_ledger::{ErrorLine, print_errors, put_tree_head};
 use run_outcome::{Made, Status};
 use std::alloc::{AllocError, Global};
-use std::mem::forget;
 
 /// The errors and the tree of a text, by a directory.
 pub(crate) fn tell_check(alloc: Global, directory: &Directory, octets: Vec<u8>) -> Made
     requires { length octets.items ≤ LONGEST_TEXT }
     ensures { (result ≡ checked_text directory.now octets.items) ⊎ (result ≡ memory_refused) }
 {
-    match print_check(alloc, directory, octets) {
+    match print_check(alloc, directory, &octets) {
         Ok(printed) => Made::headed(printed.status, printed.errors, printed.tree),
         Err(_) => Made::memory_refused(),
     }
@@ -31,22 +30,18 @@ struct Printed {
     tree: Chunk,
 }
 
-fn print_check(alloc: Global, directory: &Directory, octets: Vec<u8>) -> Result<Printed, AllocError>
-    requires { length octets.items ≤ LONGEST_TEXT }
+fn print_check(alloc: Global, directory: &Directory, octets: &[u8]) -> Result<Printed, AllocError>
+    requires { length octets.now ≤ LONGEST_TEXT }
     ensures { IfOk result (λ p. record { status = p.status; output = p.errors ++ p.tree }
-        ≡ checked_text directory.now octets.items) }
+        ≡ checked_text directory.now octets.now) }
 {
-    let engine = Engine::read(alloc, directory, octets)?;
-    let found = engine.errors(alloc)?;
-    let tree = engine.print_tree(alloc)?;
-    let mut errors = print_errors(alloc, &found)?;
-    put_tree_head(&mut errors, tree.lines)?;
-    // The run ends after it: its memory is given back with that of the run, and not record by record.
-    forget(engine);
+    let checked = check_text(alloc, directory, octets)?;
+    let mut errors = print_errors(alloc, &checked.errors)?;
+    put_tree_head(&mut errors, checked.tree.lines)?;
     Ok(Printed {
-        status: found_if(&found),
+        status: found_if(&checked.errors),
         errors,
-        tree: tree.text,
+        tree: checked.tree.text,
     })
 }
 

@@ -4,6 +4,8 @@
 #![tactic(auto)]
 
 #[cfg(test)]
+mod checked_text;
+#[cfg(test)]
 mod edi_engine_calls;
 #[cfg(test)]
 mod long_text;

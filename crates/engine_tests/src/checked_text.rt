@@ -32,7 +32,8 @@ fn errors_are_those_of_an_engine(rt: HostRuntime) -> Result<(), Fail> {
     let alloc = rt.alloc();
     let directory = reduced_directory(alloc)?;
     // A segment outside, a bad code, a message that ends too early and is counted wrongly, and a tail.
-    let text = b"UNB+UNOZ:3+BUYER:14+SELLER:14+960105:0930+R1'AAA'UNH+1+TSTORD:D:96A:UN'DTM+9'UNT+7+2'UNZ+3+R2'BBB";
+    let text =
+        b"UNB+UNOZ:3+BUYER:14+SELLER:14+960105:0930+R1'AAA'UNH+1+TSTORD:D:96A:UN'DTM+9'UNT+7+2'UNZ+3+R2'BBB";
     let engine = Engine::read(alloc, &directory, text.to_vec(alloc)?)?;
     let checked = check_text(alloc, &directory, text)?;
     assert!(rt; checked.errors.len() > 6);

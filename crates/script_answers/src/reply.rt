@@ -12,21 +12,23 @@ ghost use Rattle.script_answers.specs.Replied.{octets_of};
 ghost use Rattle.script_answers.specs.Reply.{contrl_reply, counted, no_memory};
 
 use contrl_writer::{Contrl, Stamp};
-use edi_engine::Engine;
+use edi_engine::{Engine, PrintedTree};
 use edi_ports::Sink;
 use edi_tables::Chunk;
-use error_ledger::{print_errors, print_tree};
+use error_ledger::print_errors;
 use run_outcome::{put_numbered, put_pair};
 use std::alloc::{AllocError, Global};
 
 /// A whole reply, which is put without memory: octets of the program; the length of a text that was edited; words and
-/// the number of an edit; printed lines; or octets, after a line of this head and their number.
+/// the number of an edit; printed lines; the lines of a printed tree, and how many these are; or octets, after a line of
+/// this head and their number.
 #[derive(Debug, Drop)]
 pub(crate) enum Reply {
     Fixed(&'static [u8]),
     Edited(u64),
     Refused(&'static [u8], u32),
     Lines(Chunk),
+    Tree { lines: usize, text: Chunk },
     Counted { head: &'static [u8], octets: Chunk },
 }
 
@@ -53,8 +55,8 @@ pub(crate) fn list_tree(alloc: Global, engine: &Engine<'_>) -> Result<Reply, All
     ensures { IfOk result (λ reply. octets_of reply
         ≡ tree_text (tree_of engine.now.directory engine.now.text)) }
 {
-    let tree = engine.tree(alloc)?;
-    Ok(Reply::Lines(print_tree(alloc, &tree)?))
+    let PrintedTree { lines, text } = engine.print_tree(alloc)?;
+    Ok(Reply::Tree { lines, text })
 }
 
 pub(crate) fn acknowledge(
@@ -100,20 +102,26 @@ pub(crate) fn put_reply<O: Sink>(out: &mut O, reply: &Reply) -> bool
         Reply::Edited(length) => put_numbered(out, b"ok ", *length, b"\n"),
         Reply::Refused(words, edit) => put_numbered(out, words, *edit as u64, b"\n"),
         Reply::Lines(lines) => put_pair(out, lines.octets(), b""),
-        Reply::Counted { head, octets } => put_counted(out, head, octets.octets()),
+        Reply::Tree { lines, text } => {
+            put_counted(out, b"tree ", *lines as u64, text.octets(), b"")
+        }
+        Reply::Counted { head, octets } => {
+            let octets = octets.octets();
+            put_counted(out, head, octets.len() as u64, octets, b"\n")
+        }
     }
 }
 
-// Puts octets after a line of this head and their number, and LF after them.
-fn put_counted<O: Sink>(out: &mut O, head: &[u8], octets: &[u8]) -> bool
+// Puts octets after a line of this head and their count, and an end after them.
+fn put_counted<O: Sink>(out: &mut O, head: &[u8], count: u64, octets: &[u8], end: &[u8]) -> bool
     ensures put { IsPutOut (O.held out.old) (O.held out.new)
-        (head.now ++ decimal (length octets.now) ++ 10 ∷ (octets.now ++ 10 ∷ [])) result }
+        (head.now ++ decimal count ++ 10 ∷ (octets.now ++ end.now)) result }
     ensures counted { O.faults out.old ≤ O.faults out.new }
     ensures cause { OnFalse result (HasRisen (O.faults out.old) (O.faults out.new)) }
     ensures room { (n : ℕ) → O.has_room out.old n
-        → length (head.now ++ decimal (length octets.now) ++ 10 ∷ (octets.now ++ 10 ∷ [])) ≤ n
+        → length (head.now ++ decimal count ++ 10 ∷ (octets.now ++ end.now)) ≤ n
         → IsTrue result × O.has_room out.new
-        (n - length (head.now ++ decimal (length octets.now) ++ 10 ∷ (octets.now ++ 10 ∷ []))) }
+        (n - length (head.now ++ decimal count ++ 10 ∷ (octets.now ++ end.now))) }
 {
-    put_numbered(out, head, octets.len() as u64, b"\n") && put_pair(out, octets, b"\n")
+    put_numbered(out, head, count, b"\n") && put_pair(out, octets, end)
 }

@@ -1,5 +1,6 @@
 //! The errors of a text, and its tree.
-ghost use Rattle.std.specs.Prelude.{◌≡◌, ◌⊎◌, ◌≤◌, length, IfOk};
+ghost use Rattle.std.specs.Prelude.{◌≡◌, ◌⊎◌, ◌++◌, ◌≤◌, codes, length, IfOk};
+ghost use Rattle.edi_octets.specs.Decimal.{count_line};
 ghost use Rattle.edi_octets.specs.declared.octets.TheConstants.{LONGEST_TEXT};
 ghost use Rattle.error_ledger.specs.Printing.{errors_text, tree_text};
 ghost use Rattle.text_reading.specs.Errors.{errors_of};
@@ -14,9 +15,9 @@ use crate::code::{CLOSED, DONE};
 use crate::kept::Kept;
 use crate::opening::open;
 use dir_compile::Directory;
-use edi_engine::Engine;
+use edi_engine::{Engine, PrintedTree, check_text};
 use edi_tables::Chunk;
-use error_ledger::{print_errors, print_tree};
+use error_ledger::{print_errors, put_tree_head};
 use std::alloc::{AllocError, Global};
 
 /// The printed errors of a text, by the directory that a store spells.
@@ -105,8 +106,8 @@ fn list_errors(alloc: Global, directory: &Directory, text: &[u8]) -> Result<Chun
     ensures { IfOk result
         (λ printed. printed ≡ errors_text (errors_of directory.now text.now)) }
 {
-    let engine = Engine::read(alloc, directory, text.to_vec(alloc)?)?;
-    errors_in(alloc, &engine)
+    let checked = check_text(alloc, directory, text)?;
+    print_errors(alloc, &checked.errors)
 }
 
 fn errors_in(alloc: Global, engine: &Engine<'_>) -> Result<Chunk, AllocError>
@@ -121,14 +122,25 @@ fn list_tree(alloc: Global, directory: &Directory, text: &[u8]) -> Result<Chunk,
     requires { length text.now ≤ LONGEST_TEXT }
     ensures { IfOk result (λ printed. printed ≡ tree_text (tree_of directory.now text.now)) }
 {
-    let engine = Engine::read(alloc, directory, text.to_vec(alloc)?)?;
-    tree_in(alloc, &engine)
+    let checked = check_text(alloc, directory, text)?;
+    headed(alloc, &checked.tree)
 }
 
 fn tree_in(alloc: Global, engine: &Engine<'_>) -> Result<Chunk, AllocError>
     ensures { IfOk result
         (λ printed. printed ≡ tree_text (tree_of engine.now.directory engine.now.text)) }
 {
-    let tree = engine.tree(alloc)?;
-    print_tree(alloc, &tree)
+    let tree = engine.print_tree(alloc)?;
+    headed(alloc, &tree)
+}
+
+// A printed tree with its head.
+fn headed(alloc: Global, tree: &PrintedTree) -> Result<Chunk, AllocError>
+    ensures { IfOk result (λ printed. printed
+        ≡ count_line (codes "tree") tree.now.lines ++ tree.now.text) }
+{
+    let mut printed = Chunk::empty(alloc);
+    put_tree_head(&mut printed, tree.lines)?;
+    printed.add(tree.text.octets())?;
+    Ok(printed)
 }

@@ -8,7 +8,7 @@ use Rattle.dir_compile.specs.declared.parts.Parts.{Parts}
 use Rattle.dir_load.specs.declared.stop.Refusal.{Refusal}
 use Rattle.dir_load.specs.Load.{load_of}
 use Rattle.run_outcome.specs.Begun.{IsFileRead, IsFileUnread, IsLoaded, IsUnloaded}
-use Rattle.run_outcome.specs.Outcome.{Outcome, memory_refused, read_failed}
+use Rattle.run_outcome.specs.Outcome.{Outcome, memory_refused}
 use Rattle.run_outcome.specs.Refusal.{refusal, unread}
 use Rattle.edicheck_core.specs.About.{after_reading}
 use Rattle.edicheck_core.specs.OneOf.{IsOneOf}

@@ -54,7 +54,7 @@ fn tell(alloc: Global, question: Question<'_>, opening: OpenedText) -> Made
 {
     let OpenedText { directory, text } = opening;
     match question {
-        Question::Errors => tell_check(alloc, &directory, text),
+        Question::Errors => tell_check(alloc, &directory, &text),
         Question::Answer { stamp, reference } => {
             tell_contrl(alloc, &stamp, reference, &directory, text)
         }

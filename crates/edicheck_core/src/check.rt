@@ -12,11 +12,11 @@ use run_outcome::{Made, Status};
 use std::alloc::{AllocError, Global};
 
 /// The errors and the tree of a text, by a directory.
-pub(crate) fn tell_check(alloc: Global, directory: &Directory, octets: Vec<u8>) -> Made
-    requires { length octets.items ≤ LONGEST_TEXT }
-    ensures { (result ≡ checked_text directory.now octets.items) ⊎ (result ≡ memory_refused) }
+pub(crate) fn tell_check(alloc: Global, directory: &Directory, octets: &[u8]) -> Made
+    requires { length octets.now ≤ LONGEST_TEXT }
+    ensures { (result ≡ checked_text directory.now octets.now) ⊎ (result ≡ memory_refused) }
 {
-    match print_check(alloc, directory, &octets) {
+    match print_check(alloc, directory, octets) {
         Ok(printed) => Made::headed(printed.status, printed.errors, printed.tree),
         Err(_) => Made::memory_refused(),
     }

@@ -48,7 +48,7 @@ fn acknowledge(
 {
     let engine = Engine::read(alloc, directory, octets)?;
     let answer = engine.contrl(alloc, stamp, reference)?;
-    // As in `check`: the run ends after it.
+    // The run ends after it, and its records needn't be freed one by one.
     forget(engine);
     Ok(answer)
 }

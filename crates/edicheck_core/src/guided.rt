@@ -105,7 +105,7 @@ fn check_named<S: Shelf>(alloc: Global, directory: &Directory, text: &[u8], shel
     ensures steady { S.is_steady shelf.old → result.status ≢ Status.ReadFault }
 {
     match load_file(alloc, text, shelf) {
-        Ok(octets) => tell_check(alloc, directory, octets),
+        Ok(octets) => tell_check(alloc, directory, &octets),
         Err(made) => made,
     }
 }

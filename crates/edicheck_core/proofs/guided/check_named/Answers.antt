@@ -6,10 +6,10 @@ use Rattle.edicheck_core.proofs.guided.check_named.Goals as goal
 
 pub returns-in-Ok-clause-due : goal.returns-in-Ok-clause-due
 returns-in-Ok-clause-due g c =
-    last_file (checked_text c.args.directory.now) c.args.text.now (g.S.Shelf.files c.args.shelf.now) c.in-Ok.octets.items _ c.tell_check.result c.in-Ok.ensures.reads c.tell_check.ensures
+    last_file (checked_text c.args.directory.now) c.args.text.now (g.S.Shelf.files c.args.shelf.now) c.in-Ok.octets.items _ c.tell_check.result c.in-Ok.ensures.reads (rw c.deref.ensures.value at c.tell_check.ensures)
 
 pub returns-in-Ok-clause-steady : goal.returns-in-Ok-clause-steady
-returns-in-Ok-clause-steady g c = λ steady. answer_about-steady Errors c.args.directory.now c.in-Ok.octets.items c.tell_check.result c.tell_check.ensures
+returns-in-Ok-clause-steady g c = λ steady. answer_about-steady Errors c.args.directory.now c.in-Ok.octets.items c.tell_check.result (rw c.deref.ensures.value at c.tell_check.ensures)
 
 pub returns-in-Err-clause-due : goal.returns-in-Err-clause-due
 returns-in-Err-clause-due g c =

@@ -26,6 +26,7 @@ use segment_records::WalkedSegment;
 use std::alloc::{AllocError, Global};
 
 /// Puts the local errors of a segment. Only want of memory is an error.
+#[inline(always)]
 pub(crate) fn put_local(
     seen: &WalkedSegment<'_>,
     list: &mut Vec<ErrorLine>,

@@ -18,6 +18,7 @@ use table_walk::State;
 
 /// Puts what is wrong with a segment in the structure of its message, and what is missing where its message ends with it. Only
 /// want of memory is an error.
+#[inline(always)]
 pub(crate) fn put_structure(
     alloc: Global,
     directory: &Directory,
@@ -33,6 +34,7 @@ pub(crate) fn put_structure(
 }
 
 // Puts what is wrong with a segment that is part of an open message with a table.
+#[inline(always)]
 fn put_step(
     directory: &Directory,
     seen: &WalkedSegment<'_>,
@@ -62,6 +64,7 @@ fn is_well_placed(segment: &Record) -> bool
 }
 
 // Puts what is wrong with where a segment is after this state.
+#[inline(never)]
 fn put_walked(
     table: &Table,
     state: &State,
@@ -95,6 +98,7 @@ fn put_walked(
 }
 
 // Puts what is missing where a message ends with a segment.
+#[inline(always)]
 fn put_end(
     alloc: Global,
     directory: &Directory,

@@ -104,7 +104,9 @@ fn error_of_text(kind: Kind) -> ErrorLine
     }
 }
 
-// Puts the errors of the rules that a segment breaks at the end. Most segments break none, which is seen at once.
+// Puts the errors of the rules that a segment breaks at the end. Most segments break none, which is seen at once. The others are
+// given a copy of what is known, so that it lies in memory for them alone.
+#[inline(always)]
 fn push_segment_errors<M: SegmentMarks>(
     errors: &mut Vec<ErrorLine>,
     number: u32,
@@ -124,22 +126,28 @@ fn push_segment_errors<M: SegmentMarks>(
     if is_sound(known, head) {
         return Ok(());
     }
-    push_broken(errors, number, marks, rules(known, head, after))
+    push_broken(errors, number, marks, *known, head, after)
 }
 
-// Puts the errors of those of these rules that a segment breaks at the end.
+// The same, with a look at each rule.
+#[inline(never)]
 fn push_broken<M: SegmentMarks>(
     errors: &mut Vec<ErrorLine>,
     number: u32,
     marks: &mut M,
-    rules: [Rule; 11],
+    known: Known<'_, '_>,
+    head: Option<&Head<'_>>,
+    after: &[Head<'_>],
 ) -> Result<(), AllocError>
     requires first { 0 < number }
     requires last { number ≤ length (M.marks marks.old) }
+    requires few { known.segments + 1 < 2 ^ 32 }
     ensures told { OnOk result (errors.new.items ≡ errors.old.items
-        ++ errors_by number (mark_at (M.marks marks.old) (number - 1)) rules) }
+        ++ errors_by number (mark_at (M.marks marks.old) (number - 1))
+        (rules_by known.entry (option_copied head.entry) after.now)) }
     ensures same { M.marks marks.new ≡ M.marks marks.old }
 {
+    let rules = rules(&known, head, after);
     if !breaks_any(&rules) {
         return Ok(());
     }

@@ -61,6 +61,7 @@ pub(crate) fn rules(known: &Known, head: Option<&Head<'_>>, after: &[Head<'_>]) 
 
 /// Whether a segment is seen at once to break no rule: a UNH or a UNT that is as it should be, as nearly every one is. Another one
 /// may break none either.
+#[inline(always)]
 pub(crate) fn is_sound(known: &Known, head: Option<&Head<'_>>) -> bool
     requires { known.now.segments + 1 < 2 ^ 32 }
     ensures { (after : List heads.Head) → result ≡ true
@@ -77,6 +78,7 @@ pub(crate) fn is_sound(known: &Known, head: Option<&Head<'_>>) -> bool
 }
 
 // Whether a UNH breaks no rule.
+#[inline(always)]
 fn is_sound_start(known: &Known, head: &Head<'_>) -> bool
     ensures table { result ≡ true → lacks_table_by (Some head.now) ≡ false }
     ensures mixed { result ≡ true
@@ -93,6 +95,7 @@ fn is_sound_start(known: &Known, head: &Head<'_>) -> bool
 }
 
 // Whether a UNT is in a message and breaks no rule.
+#[inline(always)]
 fn is_sound_end(known: &Known, head: &Head<'_>) -> bool
     requires { known.now.segments + 1 < 2 ^ 32 }
     ensures inside { result ≡ true → is_some known.now.message ≡ true }
@@ -255,6 +258,7 @@ fn opening<'a, 'k>(known: &Known<'a, 'k>, kind: Option<HeadKind>) -> Option<&'a 
 }
 
 // A reference that isn't that of the opening segment.
+#[inline(always)]
 fn refers_elsewhere(head: Option<&Head<'_>>, opening: Option<&Head<'_>>) -> bool
     ensures { result
         ≡ refers_elsewhere_by (option_copied head.entry) (option_copied opening.entry) }

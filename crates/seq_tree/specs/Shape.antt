@@ -3,7 +3,7 @@ use Rattle.std.specs.Prelude.{ℕ, ◌+◌, ◌/◌, ◌^◌, ◌≤◌}
 
 -- the most items of a leaf, and of the list that it is a part of
 abbrev pub longest_run : ℕ
-longest_run = 16
+longest_run = 32
 
 -- the heights of the two sides of a fork: neither is more than one level above the other
 abbrev pub IsBalancedPair : ℕ → ℕ → Type 0

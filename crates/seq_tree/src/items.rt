@@ -9,7 +9,7 @@ use arrayvec::ArrayVec;
 use std::marker::Model;
 
 /// The most items of a list: `longest_run` of the definitions. More make fewer nodes, and a longer way in a leaf.
-pub(crate) const LONGEST_RUN: usize = 16;
+pub(crate) const LONGEST_RUN: usize = 32;
 
 /// At most `LONGEST_RUN` items, seen as their list.
 #[derive(Drop)]

@@ -1,5 +1,5 @@
 //! The ways down a tree: to an item, to the weight before a place, and to the item at a weight. Each counts the nodes that it
-//! visits, of which the last is a leaf: only there does it look at items, of which a leaf has at most 16.
+//! visits, of which the last is a leaf: only there does it look at items, of which a leaf has at most 32.
 
 ghost use Rattle.std.specs.Prelude.{◌≡◌, ◌+◌, ◌-◌, ◌*◌, ◌^◌, ◌<◌, ◌≤◌, length, take, sum_by, slice_get, Some};
 ghost use Rattle.seq_tree.specs.Shape.{FillsHeight};

@@ -1,8 +1,10 @@
 -- What was told of the first segments of a text, and what is left to be told of the others.
-use Rattle.std.proofs.Common.{◌≡◌, ℕ, ◌+◌, ◌<◌, ◌≤◌, List, [], ◌∷◌, ◌++◌, length, drop, Option, Some, None, inl, inr, refl, sym, ap, ◌∙◌, arith}
+use Rattle.std.proofs.Common.{◌≡◌, Bool, true, false, ℕ, ◌+◌, ◌<◌, ◌≤◌, List, [], ◌∷◌, ◌++◌, length, drop, Option, Some, None, inl, inr, refl, sym, ap, ◌∙◌, arith}
+use Rattle.std.specs.Bool.{OnTrue}
 use Rattle.std.specs.Option.{option_map}
 use Rattle.std.specs.Prelude.{IfSome, codes}
 use Rattle.std.specs.List.{cons_option, enumerate_from, filter_map, flat_map, slice_get}
+use Rattle.std.proofs.lemmas.Bool.{OnTrue_at, OnTrue_from}
 use Rattle.std.proofs.lemmas.List.{append-nil, append_assoc, drop_all, length-map}
 use Rattle.std.proofs.lemmas.List.Elements.{All-cons, All-nil}
 use Rattle.std.proofs.lemmas.List.FromFn.{length-enumerate_from}
@@ -32,14 +34,14 @@ use Rattle.text_reading.specs.Tree.{tree_of}
 use Rattle.text_reading.proofs.Passing.{filter_done, flat_done, flat_left}
 use Rattle.text_reading.proofs.Printed.{all_lines, count_left, lines_few, printed_done, printed_is, text_left, well_first}
 
--- the errors, the heads, the printed lines of the tree and their number, as far as they are told, with those of the segments that
--- are left, are those of all
-pub record IsTold (dir : Parts) (text : List ℕ) (passed : ℕ) (lines : List ErrorLine) (heads : List Head) (out : List ℕ) (count : ℕ) : Type 0 where
+-- the errors, the heads and, where the tree is wanted, its printed lines and their number, as far as they are told, with those of
+-- the segments that are left, are those of all
+pub record IsTold (dir : Parts) (text : List ℕ) (passed : ℕ) (lines : List ErrorLine) (heads : List Head) (wanted : Bool) (out : List ℕ) (count : ℕ) : Type 0 where
   pub errors : lines ++ flat_map (lines_seen dir) (drop passed (seen_in dir text)) ≡ flat_map (lines_seen dir) (seen_in dir text)
   pub found : heads ++ filter_map (head_when (context_of text).service text) (drop passed (seen_in dir text))
       ≡ filter_map (head_when (context_of text).service text) (seen_in dir text)
-  pub printed : out ++ ended_lines (all_lines dir (drop passed (seen_in dir text))) ≡ ended_lines (all_lines dir (seen_in dir text))
-  pub counted : count + length (all_lines dir (drop passed (seen_in dir text))) ≡ length (all_lines dir (seen_in dir text))
+  pub printed : OnTrue wanted (out ++ ended_lines (all_lines dir (drop passed (seen_in dir text))) ≡ ended_lines (all_lines dir (seen_in dir text)))
+  pub counted : OnTrue wanted (count + length (all_lines dir (drop passed (seen_in dir text))) ≡ length (all_lines dir (seen_in dir text)))
 
 -- one more, if there is one
 option_left : {A : Type 0} (done : List A) (o : Option A) (more : List A) → (done ++ cons_option o []) ++ more ≡ done ++ cons_option o more
@@ -53,8 +55,9 @@ is_well dir lawful seen follows =
 
 module _ (dir : Parts) (text : List ℕ) where
   -- nothing is told yet
-  pub none_told : IsTold dir text 0 [] [] [] 0
-  none_told = record { errors = refl; found = refl; printed = refl; counted = omega arith }
+  pub none_told : (wanted : Bool) → IsTold dir text 0 [] [] wanted [] 0
+  none_told true = record { errors = refl; found = refl; printed = refl; counted = omega arith }
+  none_told false = record { errors = refl; found = refl; printed = tt; counted = tt }
 
   module _ (lawful : IsDirectory dir) (short : length text ≤ 4194304) (passed : ℕ) (seen : SeenSegment) (at : slice_get (seen_in dir text) passed ≡ Some seen) where
     pub follows_at : Follows dir seen
@@ -69,20 +72,24 @@ module _ (dir : Parts) (text : List ℕ) where
     left_at : drop passed (seen_in dir text) ≡ seen ∷ drop (passed + 1) (seen_in dir text)
     left_at = drop_get (seen_in dir text) passed seen at
 
-    module _ (lines : List ErrorLine) (heads : List Head) (out : List ℕ) (count : ℕ) (it : IsTold dir text passed lines heads out count) where
-      -- there is room for its lines
-      pub few_told : count + length (tree_lines (line_in_tree dir seen)) < 18446744073709551616
-      few_told =
-          let more = count_left dir (drop passed (seen_in dir text)) seen (drop (passed + 1) (seen_in dir text)) left_at count (length (tree_lines (line_in_tree dir seen))) _ refl it.counted in
-          omega (arith, more, lines_few dir (seen_in dir text), few_seen dir lawful text short)
+    -- there is room for its lines
+    few_counted : (count : ℕ) → count + length (all_lines dir (drop passed (seen_in dir text))) ≡ length (all_lines dir (seen_in dir text))
+        → count + length (tree_lines (line_in_tree dir seen)) < 18446744073709551616
+    few_counted count counted =
+        let more = count_left dir (drop passed (seen_in dir text)) seen (drop (passed + 1) (seen_in dir text)) left_at count (length (tree_lines (line_in_tree dir seen))) _ refl counted in
+        omega (arith, more, lines_few dir (seen_in dir text), few_seen dir lawful text short)
+
+    module _ (lines : List ErrorLine) (heads : List Head) (wanted : Bool) (out : List ℕ) (count : ℕ) (it : IsTold dir text passed lines heads wanted out count) where
+      pub few_told : OnTrue wanted (count + length (tree_lines (line_in_tree dir seen)) < 18446744073709551616)
+      few_told = OnTrue_from wanted _ (λ on. few_counted count (OnTrue_at on it.counted))
 
       -- one segment further
       pub told_next : (lines_next : List ErrorLine) (heads_next : List Head) (out_next : List ℕ) (count_next : ℕ)
           → lines_next ≡ lines ++ lines_seen dir seen
           → heads_next ≡ heads ++ cons_option (head_when (context_of text).service text seen) []
-          → out_next ≡ out ++ ended_lines (tree_lines (line_in_tree dir seen))
-          → count_next ≡ count + length (tree_lines (line_in_tree dir seen))
-          → IsTold dir text (passed + 1) lines_next heads_next out_next count_next
+          → OnTrue wanted (out_next ≡ out ++ ended_lines (tree_lines (line_in_tree dir seen)))
+          → OnTrue wanted (count_next ≡ count + length (tree_lines (line_in_tree dir seen)))
+          → IsTold dir text (passed + 1) lines_next heads_next wanted out_next count_next
       told_next lines_next heads_next out_next count_next lines_is heads_is out_is count_is =
           let left = drop passed (seen_in dir text) in
           let rest = drop (passed + 1) (seen_in dir text) in
@@ -92,9 +99,9 @@ module _ (dir : Parts) (text : List ℕ) where
             found = ap (λ xs. xs ++ filter_map head rest) heads_is
                 ∙ option_left heads (head seen) (filter_map head rest)
                 ∙ ap (λ xs. heads ++ filter_map head xs) (sym left_at) ∙ it.found;
-            printed = text_left dir left seen rest left_at out out_next _ out_is it.printed;
-            counted = ap (λ n. n + length (all_lines dir rest)) count_is
-                ∙ count_left dir left seen rest left_at count (length (tree_lines (line_in_tree dir seen))) _ refl it.counted;
+            printed = OnTrue_from wanted _ (λ on. text_left dir left seen rest left_at out out_next _ (OnTrue_at on out_is) (OnTrue_at on it.printed));
+            counted = OnTrue_from wanted _ (λ on. ap (λ n. n + length (all_lines dir rest)) (OnTrue_at on count_is)
+                ∙ count_left dir left seen rest left_at count (length (tree_lines (line_in_tree dir seen))) _ refl (OnTrue_at on it.counted));
           }
 
   -- the segment at hand, if there is one, lies in the text
@@ -129,7 +136,7 @@ module _ (dir : Parts) (text : List ℕ) where
           let count = seen_count lawful in omega arith
     ]
 
-    module _ (all : passed ≡ segment_count_of text) (lines : List ErrorLine) (heads : List Head) (out : List ℕ) (count : ℕ) (it : IsTold dir text passed lines heads out count) where
+    module _ (all : passed ≡ segment_count_of text) (lines : List ErrorLine) (heads : List Head) (wanted : Bool) (out : List ℕ) (count : ℕ) (it : IsTold dir text passed lines heads wanted out count) where
       none_left : drop passed (seen_in dir text) ≡ []
       none_left = drop_all passed (seen_in dir text) (let same = seen_count lawful in omega arith)
 
@@ -141,7 +148,7 @@ module _ (dir : Parts) (text : List ℕ) where
           filter_done (drop passed (seen_in dir text)) none_left heads _ (head_when (context_of text).service text) it.found
           ∙ heads_are dir lawful text
 
-      pub printed_told : count_line (codes "tree") count ++ out ≡ tree_text (tree_of dir text)
-      printed_told =
-          printed_done dir (drop passed (seen_in dir text)) none_left (seen_in dir text) out count it.printed it.counted
-          ∙ printed_is dir lawful text
+      pub printed_told : OnTrue wanted (count_line (codes "tree") count ++ out ≡ tree_text (tree_of dir text))
+      printed_told = OnTrue_from wanted _ (λ on.
+          printed_done dir (drop passed (seen_in dir text)) none_left (seen_in dir text) out count (OnTrue_at on it.printed) (OnTrue_at on it.counted)
+          ∙ printed_is dir lawful text)

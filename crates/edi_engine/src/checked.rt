@@ -1,5 +1,7 @@
-//! A text checked as it is read, from its first octet to its last: its errors and its tree. No record of it is kept.
+//! A text checked as it is read, from its first octet to its last: its errors, and its tree where it is wanted. No record of it is
+//! kept.
 ghost use Rattle.std.specs.Prelude.{◌≡◌, ◌++◌, ◌≤◌, codes, length, IfOk, OnOk};
+ghost use Rattle.std.specs.Bool.{OnTrue};
 ghost use Rattle.std.specs.List.{enumerate_from, flat_map};
 ghost use Rattle.std.specs.List.Sorted.{IsPermutation};
 ghost use Rattle.dir_compile.specs.Directory.{IsDirectory};
@@ -65,11 +67,36 @@ pub fn check_text(
     // It is checked by a directory.
     let _parts = directory.parts();
     let mut segments = PassingSegments::of(alloc, directory, octets)?;
-    check_all(alloc, &mut segments)
+    let with_tree = true;
+    check_all(alloc, &mut segments, with_tree)
 }
 
-// The same of the text of these segments, of which none is passed before.
-fn check_all(alloc: Global, segments: &mut PassingSegments<'_>) -> Result<Checked, AllocError>
+/// The errors that `check_text` tells of a text, in ascending order, with no time or memory for its tree. Only want of memory is
+/// an error.
+pub fn list_text_errors(
+    alloc: Global,
+    directory: &Directory,
+    octets: &[u8],
+) -> Result<Vec<ErrorLine>, AllocError>
+    requires short { length octets.now ≤ LONGEST_TEXT }
+    ensures exact { IfOk result (λ list. list.items ≡ errors_of directory.now octets.now) }
+    ensures ascending { IfOk result (λ list. IsAscending list.items) }
+    ensures same { IfOk result
+        (λ list. IsPermutation (errors_found directory.now octets.now) list.items) }
+{
+    let _parts = directory.parts();
+    let mut segments = PassingSegments::of(alloc, directory, octets)?;
+    let with_tree = false;
+    let checked = check_all(alloc, &mut segments, with_tree)?;
+    Ok(checked.errors)
+}
+
+// The same of the text of these segments, of which none is passed before. The tree is told only if it is wanted.
+fn check_all(
+    alloc: Global,
+    segments: &mut PassingSegments<'_>,
+    with_tree: bool,
+) -> Result<Checked, AllocError>
     requires lawful { IsDirectory segments.old.directory }
     requires fresh { segments.old.passed ≡ 0 }
     ensures errors { IfOk result (λ checked.
@@ -78,16 +105,16 @@ fn check_all(alloc: Global, segments: &mut PassingSegments<'_>) -> Result<Checke
     ensures same { IfOk result (λ checked.
         IsPermutation (errors_found segments.old.directory segments.old.text)
         checked.errors.items) }
-    ensures printed { IfOk result (λ checked.
+    ensures printed { IfOk result (λ checked. OnTrue with_tree (
         count_line (codes "tree") checked.tree.lines ++ checked.tree.text
-        ≡ tree_text (tree_of segments.old.directory segments.old.text)) }
+        ≡ tree_text (tree_of segments.old.directory segments.old.text))) }
 {
     let text = Flat {
         octets: segments.text(),
     };
     let mut syntax = Vec::new(alloc);
     put_syntax(&text, segments.at_hand(), &mut syntax)?;
-    let Told { tree, lines, heads } = tell_all(alloc, segments)?;
+    let Told { tree, lines, heads } = tell_all(alloc, segments, with_tree)?;
     let mut errors = judge_heads(alloc, segments, &heads)?;
     put_ends(segments, &mut errors)?;
     put_lines(syntax, &mut errors)?;
@@ -96,8 +123,8 @@ fn check_all(alloc: Global, segments: &mut PassingSegments<'_>) -> Result<Checke
     Ok(Checked { errors, tree })
 }
 
-// What the segments of a text tell one after the other: the tree, the errors of each segment by itself and by its message, and
-// the heads.
+// What the segments of a text tell one after the other: the tree, if it is wanted, the errors of each segment by itself and by
+// its message, and the heads.
 #[derive(Drop)]
 struct Told {
     tree: PrintedTree,
@@ -107,7 +134,11 @@ struct Told {
 
 // All that these segments tell. None is passed before, and all are after.
 #[inline(never)]
-fn tell_all(alloc: Global, segments: &mut PassingSegments<'_>) -> Result<Told, AllocError>
+fn tell_all(
+    alloc: Global,
+    segments: &mut PassingSegments<'_>,
+    with_tree: bool,
+) -> Result<Told, AllocError>
     requires { segments.old.passed ≡ 0 }
     ensures directory { segments.new.directory ≡ segments.old.directory }
     ensures text { segments.new.text ≡ segments.old.text }
@@ -118,14 +149,21 @@ fn tell_all(alloc: Global, segments: &mut PassingSegments<'_>) -> Result<Told, A
         told.lines.items
         ≡ flat_map (segment_lines segments.old.directory (context_of segments.old.text) cut)
         (enumerate_from 0 cut)) }
-    ensures printed { IfOk result (λ told.
+    ensures printed { IfOk result (λ told. OnTrue with_tree (
         count_line (codes "tree") told.tree.lines ++ told.tree.text
-        ≡ tree_text (tree_of segments.old.directory segments.old.text)) }
+        ≡ tree_text (tree_of segments.old.directory segments.old.text))) }
 {
     let directory = segments.directory();
     let numbers = number_groups(alloc, directory)?;
+    let octets = segments.text();
+    let room = if with_tree {
+        octets.len().saturating_mul(2)
+    } else {
+        0
+    };
     let mut tree = ToldTree {
-        text: Chunk::with_room(alloc, segments.text().len().saturating_mul(2))?,
+        wanted: with_tree,
+        text: Chunk::with_room(alloc, room)?,
         lines: 0,
         numeral: Numeral::of(0),
     };

@@ -18,7 +18,7 @@ mod tail;
 mod told;
 mod tree;
 
-pub use checked::{Checked, check_text};
+pub use checked::{Checked, check_text, list_text_errors};
 pub use edit::{EditStop, stop_by};
 pub use engine::Engine;
 pub use kept_text::read_records;

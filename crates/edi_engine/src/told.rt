@@ -1,5 +1,6 @@
 //! What the segments of a text tell, one after the other: their lines in the tree, their errors, and the heads among them.
 ghost use Rattle.std.specs.Prelude.{◌≡◌, ◌+◌, ◌++◌, ◌<◌, ◌^◌, ℕ, List, [], codes, length, map, IfOk, OnOk};
+ghost use Rattle.std.specs.Bool.{OnTrue};
 ghost use Rattle.std.specs.List.{cons_option};
 ghost use Rattle.dir_compile.specs.Directory.{IsDirectory, tables_of};
 ghost use Rattle.error_ledger.specs.Printing.{ended_lines, tree_lines};
@@ -22,9 +23,11 @@ use error_ledger::{ErrorLine, put_tree_line};
 use segment_records::WalkedSegment;
 use std::alloc::{AllocError, Global};
 
-/// The lines of a printed tree, each ended by LF, and how many these are. The numeral is that of the segment before.
+/// The lines of a printed tree, each ended by LF, and how many these are: none, if it isn't wanted. The numeral is that of the
+/// segment before.
 #[derive(Drop)]
 pub(crate) struct ToldTree {
+    pub(crate) wanted: bool,
     pub(crate) text: Chunk,
     pub(crate) lines: usize,
     pub(crate) numeral: Numeral,
@@ -38,7 +41,7 @@ pub(crate) struct ToldErrors {
 }
 
 impl ToldTree {
-    /// Puts the lines of the next segment in the tree. `numbers` are those that `number_groups` gives of the directory. Only want
+    /// Puts the lines of the next segment in the tree, if it is wanted. `numbers` are those that `number_groups` gives of the directory. Only want
     /// of memory is an error.
     #[inline(always)]
     pub(crate) fn tell(
@@ -50,13 +53,17 @@ impl ToldTree {
         requires lawful { IsDirectory directory.now }
         requires follows { Follows directory.now (seen_of seen.now) }
         requires numbers { numbers.now ≡ map numbers_in (tables_of directory.now) }
-        requires few { self.old.lines
-            + length (tree_lines (line_in_tree directory.now (seen_of seen.now))) < 2 ^ 64 }
-        ensures text { OnOk result (self.new.text ≡ self.old.text
-            ++ ended_lines (tree_lines (line_in_tree directory.now (seen_of seen.now)))) }
-        ensures lines { OnOk result (self.new.lines ≡ self.old.lines
-            + length (tree_lines (line_in_tree directory.now (seen_of seen.now)))) }
+        requires few { OnTrue self.old.wanted (self.old.lines
+            + length (tree_lines (line_in_tree directory.now (seen_of seen.now))) < 2 ^ 64) }
+        ensures wanted { self.new.wanted ≡ self.old.wanted }
+        ensures text { OnOk result (OnTrue self.old.wanted (self.new.text ≡ self.old.text
+            ++ ended_lines (tree_lines (line_in_tree directory.now (seen_of seen.now))))) }
+        ensures lines { OnOk result (OnTrue self.old.wanted (self.new.lines ≡ self.old.lines
+            + length (tree_lines (line_in_tree directory.now (seen_of seen.now))))) }
     {
+        if !self.wanted {
+            return Ok(());
+        }
         let line = line_of(directory, numbers, seen);
         self.lines += put_tree_line(&mut self.text, &mut self.numeral, &line)?;
         Ok(())

@@ -15,7 +15,7 @@ use crate::code::{CLOSED, DONE};
 use crate::kept::Kept;
 use crate::opening::open;
 use dir_compile::Directory;
-use edi_engine::{Engine, PrintedTree, check_text};
+use edi_engine::{Engine, PrintedTree, check_text, list_text_errors};
 use edi_tables::Chunk;
 use error_ledger::{print_errors, put_tree_head};
 use std::alloc::{AllocError, Global};
@@ -106,8 +106,8 @@ fn list_errors(alloc: Global, directory: &Directory, text: &[u8]) -> Result<Chun
     ensures { IfOk result
         (λ printed. printed ≡ errors_text (errors_of directory.now text.now)) }
 {
-    let checked = check_text(alloc, directory, text)?;
-    print_errors(alloc, &checked.errors)
+    let errors = list_text_errors(alloc, directory, text)?;
+    print_errors(alloc, &errors)
 }
 
 fn errors_in(alloc: Global, engine: &Engine<'_>) -> Result<Chunk, AllocError>

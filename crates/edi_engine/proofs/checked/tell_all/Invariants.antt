@@ -9,7 +9,8 @@ invariant-loop-seen l = record {
   directory : l.segments.directory ≡ l.directory;
   text : l.segments.text ≡ l.initial.segments.text;
   within : l.segments.passed ≤ segment_count_of l.segments.text;
-  told : IsTold l.directory l.segments.text l.segments.passed l.errors.lines.items l.errors.heads.items l.tree.text l.tree.lines;
+  wanted : l.tree.wanted ≡ l.initial.tree.wanted;
+  told : IsTold l.directory l.segments.text l.segments.passed l.errors.lines.items l.errors.heads.items l.tree.wanted l.tree.text l.tree.lines;
 }
 
 abbrev pub decreases-loop-seen : goal.decreases-loop-seen

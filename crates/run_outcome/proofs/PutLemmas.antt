@@ -51,17 +51,17 @@ room_both before between now First Next head rest first next n has fits =
 pub put_at : (before now : Option (List ℕ)) (octets : List ℕ) (whole : Bool) (told : Bool) → whole ≡ told → IsPutOut before now octets whole → IsPutOut before now octets told
 put_at before now octets whole told is put = subst (λ (b : Bool). IsPutOut before now octets b) is put
 
--- a line of words and a number, and octets with LF after it
-pub counted_put : (before between now : Option (List ℕ)) (words octets : List ℕ) (whole : Bool) → IsPutOut before between (words ++ 10 ∷ []) true → IsPutOut between now (octets ++ 10 ∷ []) whole → IsPutOut before now (words ++ 10 ∷ (octets ++ 10 ∷ [])) whole
-counted_put before between now words octets whole put next =
-    subst (λ (xs : List ℕ). IsPutOut before now xs whole) (append_assoc words (10 ∷ []) (octets ++ 10 ∷ []))
-    (put_after before between now (words ++ 10 ∷ []) (octets ++ 10 ∷ []) whole put next)
+-- a line of words and a number, and the octets after it
+pub counted_put : (before between now : Option (List ℕ)) (words rest : List ℕ) (whole : Bool) → IsPutOut before between (words ++ 10 ∷ []) true → IsPutOut between now rest whole → IsPutOut before now (words ++ 10 ∷ rest) whole
+counted_put before between now words rest whole put next =
+    subst (λ (xs : List ℕ). IsPutOut before now xs whole) (append_assoc words (10 ∷ []) rest)
+    (put_after before between now (words ++ 10 ∷ []) rest whole put next)
 
 -- a sink with room for all of these takes the line, and then the octets
-pub counted_room : (before between now : ℕ → Type 0) (First Next : Type 0) (words octets : List ℕ)
+pub counted_room : (before between now : ℕ → Type 0) (First Next : Type 0) (words rest : List ℕ)
     → ((n : ℕ) → before n → length (words ++ 10 ∷ []) ≤ n → First × between (n - length (words ++ 10 ∷ [])))
-    → ((n : ℕ) → between n → length (octets ++ 10 ∷ []) ≤ n → Next × now (n - length (octets ++ 10 ∷ [])))
-    → (n : ℕ) → before n → length (words ++ 10 ∷ (octets ++ 10 ∷ [])) ≤ n → Next × now (n - length (words ++ 10 ∷ (octets ++ 10 ∷ [])))
-counted_room before between now First Next words octets first next =
-    subst (λ (xs : List ℕ). (n : ℕ) → before n → length xs ≤ n → Next × now (n - length xs)) (append_assoc words (10 ∷ []) (octets ++ 10 ∷ []))
-    (room_both before between now First Next (words ++ 10 ∷ []) (octets ++ 10 ∷ []) first next)
+    → ((n : ℕ) → between n → length rest ≤ n → Next × now (n - length rest))
+    → (n : ℕ) → before n → length (words ++ 10 ∷ rest) ≤ n → Next × now (n - length (words ++ 10 ∷ rest))
+counted_room before between now First Next words rest first next =
+    subst (λ (xs : List ℕ). (n : ℕ) → before n → length xs ≤ n → Next × now (n - length xs)) (append_assoc words (10 ∷ []) rest)
+    (room_both before between now First Next (words ++ 10 ∷ []) rest first next)

@@ -69,7 +69,7 @@ impl<'a, T: Measured> MarkedItems<'a, T> {
 
     /// The marked item before which `rank` items are marked, with the items of its leaf. Each node that is visited counts once.
     /// No other item is looked at, unless the leaf is a part of a list or weighs 65,536 or more, and then those before it in the
-    /// list, which has at most 16. The way is at that leaf then.
+    /// list, which has at most 32. The way is at that leaf then.
     #[inline(always)]
     pub fn find<L: Ledger>(&mut self, rank: u32, visited: &mut Steps<L>) -> Marked<'a, T>
         requires after { self.old.1 ≤ rank }

@@ -21,7 +21,7 @@ use step_counter::Steps;
 /// Weighed items in order, fewer than 2^32 of them, seen as their list.
 ///
 /// A call that edits makes a new version and leaves the old one as it was: the two share their nodes, and no item is cloned.
-/// So after an error each version is still what it was. Items lie in lists of at most 16, and a version keeps such a list for
+/// So after an error each version is still what it was. Items lie in lists of at most 32, and a version keeps such a list for
 /// as long as it has an item of it.
 pub struct Seq<T: Measured> {
     root: Option<Tree<T>>,
@@ -143,7 +143,7 @@ impl<T: Measured> Seq<T> {
         }
     }
 
-    /// The sum of the first `i` weights. Each node that is visited counts once; the one that is a leaf has at most 16 items.
+    /// The sum of the first `i` weights. Each node that is visited counts once; the one that is a leaf has at most 32 items.
     pub fn before<L: Ledger>(&self, i: usize, visited: &mut Steps<L>) -> u64
         requires within { i ≤ length self.now }
         ensures is { result ≡ sum_by T.measure (take i self.now) }
@@ -156,7 +156,7 @@ impl<T: Measured> Seq<T> {
     }
 
     /// The first place up to which, its own item included, the items weigh more than `bound`. Each node that is visited counts
-    /// once; the one that is a leaf has at most 16 items.
+    /// once; the one that is a leaf has at most 32 items.
     #[tactic(auto, using(crate::proofs::Parts::sum_by_place))]
     pub fn find<L: Ledger>(&self, bound: u64, visited: &mut Steps<L>) -> usize
         requires below { bound < sum_by T.measure self.now }
@@ -169,7 +169,7 @@ impl<T: Measured> Seq<T> {
     }
 
     /// The item that `find` gives the place of, and how far into it the bound is: what is left of the bound after the items
-    /// before it. Each node that is visited counts once; the one that is a leaf has at most 16 items.
+    /// before it. Each node that is visited counts once; the one that is a leaf has at most 32 items.
     pub fn locate<L: Ledger>(&self, bound: u64, visited: &mut Steps<L>) -> Located<'_, T>
         requires below { bound < sum_by T.measure self.now }
         ensures is { slice_get self.now result.place ≡ Some result.item.now }

@@ -122,15 +122,36 @@ fn is_listed<O: Octets>(list: &CodeList, value: &Value<'_, O>) -> bool
         .is_ok()
 }
 
-/// The same for a value of these octets.
+/// The same for a value of these octets. Most values need not be in a list: this is kept out of their way.
+#[inline(never)]
 fn is_slice_listed(list: &CodeList, octets: &[u8]) -> bool
     requires ordered { IsAscendingBy value_name list.now.values }
     ensures { result ≡ list_any (λ code. bytes_eq code octets.now) list.now.values }
 {
     list.values
         .items()
-        .binary_search_by(|code| code.octets().cmp(octets))
+        .binary_search_by(|code| order_of_octets(code.octets(), octets))
         .is_ok()
+}
+
+/// How a code compares with these octets in octet order.
+fn order_of_octets(code: &[u8], octets: &[u8]) -> Ordering
+    ensures { result ≡ slice_cmp nat_cmp code.now octets.now }
+{
+    let [octet, rest @ ..] = octets else {
+        return if code.is_empty() {
+            Ordering::Equal
+        } else {
+            Ordering::Greater
+        };
+    };
+    let [first, later @ ..] = code else {
+        return Ordering::Less;
+    };
+    match first.cmp(octet) {
+        Ordering::Equal => order_of_octets(later, rest),
+        unequal => unequal,
+    }
 }
 
 /// How a code compares with a value in octet order. The octets of the value are read up to the first that differs.

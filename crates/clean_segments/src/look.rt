@@ -5,6 +5,7 @@ ghost use Rattle.seg_lexer.specs.Fields.{are_single, components_of, separators_o
 ghost use Rattle.seg_lexer.specs.Tag.{tag_of};
 ghost use Rattle.element_check.specs.Local.{local_errors_of};
 ghost use Rattle.element_check.specs.Repertoire.{AreAdmitted};
+ghost use Rattle.element_check.specs.Rules.{parts_of};
 ghost use Rattle.element_check.specs.Streams.{after_front, composite_errors, front_values, item_errors, items_errors, part_errors, part_rules, parts_errors};
 ghost use Rattle.clean_segments.specs.Looked.{AreOfOne, looked_left};
 ghost use Rattle.edi_octets.specs.declared.octets.TheConstants.{LONGEST_TEXT};
@@ -12,7 +13,7 @@ ghost use Rattle.edi_octets.specs.declared.octets.TheConstants.{LONGEST_TEXT};
 use crate::kinds::OctetKinds;
 use crate::looked::LookedFields;
 use dir_compile::Directory;
-use edi_tables::{ItemDef, PartDef, Tag};
+use edi_tables::{Code, ItemDef, PartDef, Tag};
 use element_check::{Rules, passes_admitted};
 use seg_lexer::Context;
 
@@ -85,21 +86,23 @@ fn is_item_clean(
             is_part_clean(rules, part, value) && fields.is_past(element)
         }
         ItemDef::Composite { code, must, .. } => {
-            is_composite_clean(rules, rules.parts(*code), *must, element, fields)
+            is_composite_clean(rules, *code, *must, element, fields)
         }
     }
 }
 
-// Whether a composite is seen to have no error: one that isn't written, or all of whose values are good.
+// Whether the composite of a code is seen to have no error: one that isn't written, or all of whose values are good. Its parts
+// are looked up only if it is written.
 fn is_composite_clean(
     rules: &Rules<'_>,
-    parts: &[PartDef],
+    code: Code,
     must: bool,
     element: u32,
     fields: &mut LookedFields<'_>,
 ) -> bool
     requires level { fields.old.kinds.now.level ≡ rules.now.context.level }
-    ensures clean { IsTrue result → composite_errors rules.now element must parts.now
+    ensures clean { IsTrue result
+        → composite_errors rules.now element must (parts_of rules.now code.octets)
         (front_values element (looked_left fields.old)) ≡ [] }
     ensures after { IsTrue result
         → looked_left fields.new ≡ after_front element (looked_left fields.old) }
@@ -109,7 +112,7 @@ fn is_composite_clean(
         Err(_) => false,
         Ok(None) => !must,
         Ok(Some([])) => !must && fields.is_past(element),
-        Ok(Some(first)) => are_parts_clean(rules, parts, first, element, fields),
+        Ok(Some(first)) => are_parts_clean(rules, rules.parts(code), first, element, fields),
     }
 }
 

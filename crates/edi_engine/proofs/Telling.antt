@@ -54,11 +54,6 @@ is_well dir lawful seen follows =
     well_first dir (seen ∷ []) seen [] refl lawful (All-cons (Follows dir) seen [] follows (All-nil (Follows dir)))
 
 module _ (dir : Parts) (text : List ℕ) where
-  -- nothing is told yet
-  pub none_told : (wanted : Bool) → IsTold dir text 0 [] [] wanted [] 0
-  none_told true = record { errors = refl; found = refl; printed = refl; counted = omega arith }
-  none_told false = record { errors = refl; found = refl; printed = tt; counted = tt }
-
   module _ (lawful : IsDirectory dir) (short : length text ≤ 4194304) (passed : ℕ) (seen : SeenSegment) (at : slice_get (seen_in dir text) passed ≡ Some seen) where
     pub follows_at : Follows dir seen
     follows_at = All-at (Follows dir) (seen_in dir text) (follows_all dir lawful text short) passed seen at

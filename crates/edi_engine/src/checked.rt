@@ -71,8 +71,8 @@ pub fn check_text(
     check_all(alloc, &mut segments, with_tree)
 }
 
-/// The errors that `check_text` tells of a text, in ascending order, with no time or memory for its tree. Only want of memory is
-/// an error.
+/// The errors that `check_text` tells of a text, in ascending order. No line of its tree is made: neither the work nor the memory
+/// grows with the octets of the tree. Only want of memory is an error.
 pub fn list_text_errors(
     alloc: Global,
     directory: &Directory,

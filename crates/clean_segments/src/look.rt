@@ -92,7 +92,7 @@ fn is_item_clean(
 }
 
 // Whether the composite of a code is seen to have no error: one that isn't written, or all of whose values are good. Its parts
-// are looked up only if it is written.
+// are looked up only if it is written. One that is needed is left to the check where its first value is empty.
 fn is_composite_clean(
     rules: &Rules<'_>,
     code: Code,
@@ -111,7 +111,8 @@ fn is_composite_clean(
     match fields.take(element) {
         Err(_) => false,
         Ok(None) => !must,
-        Ok(Some([])) => !must && fields.is_past(element),
+        Ok(Some([])) if must => false,
+        Ok(Some([])) if fields.is_past(element) => true,
         Ok(Some(first)) => are_parts_clean(rules, rules.parts(code), first, element, fields),
     }
 }

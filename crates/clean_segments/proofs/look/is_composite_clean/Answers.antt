@@ -5,5 +5,5 @@ use Rattle.clean_segments.proofs.look.is_composite_clean.Goals as goal
 pub returns-in-Ok-None-clause-after : goal.returns-in-Ok-None-clause-after
 returns-in-Ok-None-clause-after c passed = sym (front-none c.args.element _ (rw c.in-Ok-None.field-0-is at c.in-Ok-None.ensures.value).1) ∙ c.in-Ok-None.ensures.after
 
-pub returns-then-not-must-clause-after : goal.returns-then-not-must-clause-after
-returns-then-not-must-clause-after c passed = sym (front-none c.args.element _ (c.is_past.ensures passed)) ∙ c.in-Ok-Some-empty.ensures.after
+pub returns-in-Ok-Some-empty-2-clause-after : goal.returns-in-Ok-Some-empty-2-clause-after
+returns-in-Ok-Some-empty-2-clause-after c passed = sym (front-none c.args.element _ (c.is_past.ensures c.if-is_past.true)) ∙ c.in-Ok-Some-empty-2.ensures-1.after

@@ -25,6 +25,10 @@ sum_next f xs i x within is = sum_by_place f xs i x (slice_get_read xs (length x
 sum_more : {T : Type 0} (f : T → ℕ) (xs : List T) (i j : ℕ) → i ≤ j → sum_by f (take i xs) ≤ sum_by f (take j xs)
 sum_more f xs i j less = omega (arith, sum_to f xs i j (j - i) (omega arith))
 
+-- two octets don't hold what lies before an item that is past the weights
+pub weight_past : {T : Type 0} (f : T → ℕ) (xs : List T) (ws : List ℕ) (i : ℕ) → (length ws < length xs → 65535 < sum_by f (take (length ws) xs)) → i < length xs → length ws ≤ i → 65535 < sum_by f (take i xs)
+weight_past f xs ws i first within past = omega (arith, first (omega (arith, within, past)), sum_more f xs (length ws) i past)
+
 -- the marked item of a range is one of the whole: no item before the range is it
 pub marked_in_range : {T : Type 0} (m : T → ℕ) (xs : List T) (a n rank p : ℕ) → rank < sum_by m (slice_range xs a (a + n)) → IsMarkedPlace m xs (sum_by m (take a xs) + rank) p → (a ≤ p) × IsMarkedPlace m (slice_range xs a (a + n)) rank (p - a)
 marked_in_range m xs a n rank p within found =

@@ -1,6 +1,6 @@
 //! A short list of items with what they weigh and which of them are marked, so that no item is looked at for either.
 
-ghost use Rattle.std.specs.Prelude.{◌≡◌, ◌+◌, ◌-◌, ◌*◌, ◌^◌, ◌<◌, ◌≤◌, length, take, drop, sum_by, IfSome};
+ghost use Rattle.std.specs.Prelude.{◌≡◌, ◌+◌, ◌-◌, ◌*◌, ◌^◌, ◌<◌, ◌≤◌, length, take, drop, sum_by, IfSome, IfNone};
 ghost use Rattle.seq_tree.specs.Items.{IsMarkedPlace};
 ghost use Rattle.seq_tree.specs.Shape.{longest_run};
 
@@ -86,8 +86,11 @@ impl<T: Measured> Items<T> {
     }
 
     /// What the items before a place weigh, unless that needs more than two octets.
+    #[tactic(auto, using(crate::proofs::Entries::weight_past))]
     pub fn weight_before(&self, place: usize) -> Option<u16>
-        ensures { IfSome result (λ weight. weight ≡ sum_by T.measure (take place self.now)) }
+        requires { place < length self.now }
+        ensures is { IfSome result (λ weight. weight ≡ sum_by T.measure (take place self.now)) }
+        ensures none { IfNone result (65535 < sum_by T.measure (take place self.now)) }
     {
         self.weights.get(place).copied()
     }

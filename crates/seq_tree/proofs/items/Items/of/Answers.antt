@@ -1,8 +1,8 @@
-use Rattle.std.proofs.Common.{◌≡◌, ◌<◌, [], ◌∷◌, ◌++◌, length, take, get_or, sum_by, ℕ, sym, ap, ◌∙◌, subst, arith}
+use Rattle.std.proofs.Common.{◌≡◌, ◌+◌, ◌<◌, [], ◌∷◌, ◌++◌, length, take, get_or, sum_by, ℕ, sym, ap, ◌∙◌, subst, arith}
 use Rattle.seq_tree.specs.Items.{EachEntry, IsMarkedPlace}
 use Rattle.seq_tree.proofs.Entries.{each_pushed, sum_next}
 use Rattle.seq_tree.proofs.items.Items.of.Goals as goal
-use Rattle.seq_tree.proofs.items.Items.of.Goals.{then-len-place+then-total-from, else-len-place, then-marks-eq1, else-marks-eq1}
+use Rattle.seq_tree.proofs.items.Items.of.Goals.{then-len-place+then-total-from, else-len-place, else-len-place-via-then-len-place+else-total-from, else-len-place-via-else-len-place, then-marks-eq1, else-marks-eq1}
 
 pub loop-place-preserved : goal.loop-place-preserved
 loop-place-preserved g c =
@@ -25,6 +25,18 @@ loop-place-preserved g c =
             subst (λ ys. EachEntry ys weighs) (sym all)
             (each_pushed weighs c.loop-place.weights.items c.loop-place.total so_far.weights (so_far.total ∙ ap (λ k. sum_by g.T.Measured.measure (take k xs)) (sym here))))
         | else-len-place w ↦ subst (λ ys. EachEntry ys weighs) (sym (ap (λ v. v.items) w.weights-is)) so_far.weights
+      ];
+      first = elim c.if-len-place.branch [
+        | then-len-place+then-total-from w ↦ λ short. absurd (grind (arith, short))
+        | else-len-place w ↦
+            (let same : length c.if-len-place.weights.items ≡ length c.loop-place.weights.items = ap (λ v. length v.items) w.weights-is in
+            subst (λ n. n < i + 1 → 65535 < sum_by g.T.Measured.measure (take n xs)) (sym same) (elim w.else-len-place.branch [
+              | else-len-place-via-then-len-place+else-total-from v ↦
+                  (let here : length c.loop-place.weights.items ≡ i = grind (arith, c.len.ensures.value, v.if-len-place.true) in
+                  let past : 65535 < c.loop-place.total = grind (arith, v.from.ensures, v.if-total-from) in
+                  λ _. omega (arith, past, so_far.total, ap (λ k. sum_by g.T.Measured.measure (take k xs)) here))
+              | else-len-place-via-else-len-place v ↦ λ short. so_far.first (grind (arith, short, so_far.no_more, c.len.ensures.value, v.if-len-place.false))
+            ]))
       ];
       no_more = elim c.if-len-place.branch [ then-len-place+then-total-from w ↦ grind arith | else-len-place w ↦ grind arith ];
       marked = elim c.if-marks-eq1.branch [

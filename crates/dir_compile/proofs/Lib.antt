@@ -12,3 +12,5 @@ pub mod FoundByName
 pub mod Orders
 pub mod TableNames
 pub mod Twice
+pub mod CodeLemmas
+pub mod NumberLemmas

@@ -1,3 +1,4 @@
+pub mod Codes
 pub mod Compile
 pub mod CompileKind
 pub mod Directory
@@ -7,5 +8,6 @@ pub mod Indexed
 pub mod Judges
 pub mod Known
 pub mod Names
+pub mod Number
 pub mod Ordered
 pub mod Stop

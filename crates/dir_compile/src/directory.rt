@@ -6,6 +6,7 @@ ghost use Rattle.collision_check.specs.Listed.{collision_seen};
 ghost use Rattle.edi_tables.specs.Collisions.{collisions_of};
 ghost use Rattle.edi_tables.specs.Rows.{nodes_of, table_faults};
 ghost use Rattle.service_tables.specs.ServiceTables.{contrl_table_rows};
+ghost use Rattle.dir_compile.specs.Codes.{AreNumbersOf};
 ghost use Rattle.dir_compile.specs.Compile.{composite_name, list_name, message_name, named_in, segment_name};
 ghost use Rattle.dir_compile.specs.Directory.{
   IsDirectory,
@@ -16,6 +17,7 @@ ghost use Rattle.dir_compile.specs.Directory.{
   tables_of,
 };
 
+use crate::codes::{Codes, numbers_of};
 use crate::names::{Names, octets_of};
 use crate::parts::Parts;
 use collision_check::{Collision, list_collisions};
@@ -31,6 +33,8 @@ use std::marker::Model;
 pub struct Directory {
     parts: Parts,
     names: Names,
+    // The numbers of the codes of each list.
+    numbers: Vec<List<u64>>,
     tables: Vec<Table>,
     collisions: Vec<List<Collision>>,
 }
@@ -56,9 +60,11 @@ impl Directory {
         let tables = build_tables(alloc, parts.messages.items())?;
         let collisions = find_collisions(alloc, &tables)?;
         let names = Names::of(alloc, &parts)?;
+        let numbers = number_lists(alloc, parts.lists.items())?;
         Ok(Directory {
             parts,
             names,
+            numbers,
             tables,
             collisions,
         })
@@ -173,11 +179,13 @@ impl Directory {
 
     /// The code list of that data element, if it has one.
     #[inline(always)]
-    pub fn list(&self, element: Code) -> Option<&CodeList>
-        ensures { option_copied result ≡ named_in list_name self.now.lists element.octets }
+    pub fn list(&self, element: Code) -> Option<Codes<'_>>
+        ensures { result ≡ named_in list_name self.now.lists element.octets }
     {
         let place = self.names.lists.place_of(&element.octets)?;
-        self.parts.lists.items().get(place)
+        let list = self.parts.lists.items().get(place)?;
+        let numbers = self.numbers.get(place)?;
+        Some(Codes::of(list, numbers.items()))
     }
 }
 
@@ -216,4 +224,16 @@ fn find_collisions(alloc: Global, tables: &[Table]) -> Result<Vec<List<Collision
         collisions.push(List::of(list_collisions(alloc, table)?))?;
     }
     Ok(collisions)
+}
+
+/// The numbers of the codes of each of these lists.
+fn number_lists(alloc: Global, lists: &[CodeList]) -> Result<Vec<List<u64>>, AllocError>
+    ensures long { IfOk result (λ numbers. length numbers.items ≡ length lists.now) }
+    ensures numbers { IfOk result (λ numbers. AreNumbersOf lists.now numbers.items) }
+{
+    let mut numbers = Vec::with_capacity(alloc, lists.len())?;
+    for list in lists {
+        numbers.push(numbers_of(alloc, list.values.items())?)?;
+    }
+    Ok(numbers)
 }

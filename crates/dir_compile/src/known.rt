@@ -6,12 +6,13 @@ ghost use Rattle.dir_compile.specs.Known.{IsHint};
 ghost use Rattle.dir_compile.specs.declared.known.TheConstants.{SLOTS};
 
 use crate::names::{Named, octets_of};
+use crate::number::{MOST_OCTETS, number_of, spread};
 use indexmap::IndexSet;
 use std::alloc::{AllocError, Global};
 use std::marker::Model;
 
 /// How many names are remembered at most.
-const SLOTS: usize = 1_024;
+const SLOTS: usize = 2_048;
 
 /// A name that may be asked for, and its place among the names, if it is one of them.
 #[derive(Clone, Copy, Debug)]
@@ -96,17 +97,12 @@ fn hint_of<const N: usize>(names: &IndexSet<[u8; N]>, name: [u8; N]) -> Option<H
     Some(Hint { name, place })
 }
 
-// Whether two names are the same. They are short, so their octets are compared one by one.
+// Whether two names are the same, if they are short. They are compared at once.
 #[inline(always)]
 fn are_same<const N: usize>(one: &[u8; N], other: &[u8; N]) -> bool
     ensures { IsTrue result → one.now ≡ other.now }
 {
-    for i in 0..N {
-        if one[i] != other[i] {
-            return false;
-        }
-    }
-    true
+    N <= MOST_OCTETS && number_of(one) == number_of(other)
 }
 
 // The slot in which a name is remembered.
@@ -114,9 +110,8 @@ fn are_same<const N: usize>(one: &[u8; N], other: &[u8; N]) -> bool
 fn slot_of<const N: usize>(name: &[u8; N]) -> usize
     ensures { result < SLOTS }
 {
-    let mut sum = 0_u32;
-    for octet in name {
-        sum = sum.wrapping_mul(8) ^ u32::from(*octet);
+    if N > MOST_OCTETS {
+        return 0;
     }
-    sum as usize % SLOTS
+    spread(number_of(name)) as usize % SLOTS
 }

@@ -2,16 +2,19 @@
 #![tactic(auto)]
 
 mod build;
+mod codes;
 mod directory;
 mod judge;
 mod known;
 mod names;
+mod number;
 mod order;
 mod parts;
 mod stop;
 mod verdict;
 
 pub use build::compile;
+pub use codes::Codes;
 pub use directory::Directory;
 pub use names::Named;
 pub use parts::Parts;

@@ -3,12 +3,10 @@ use Rattle.std.proofs.Common.{◌≡◌, ℕ, ◌≤◌, Bool, true, ◌&&◌, c
 use Rattle.std.proofs.lemmas.Bool.{and_from, and_parts, cases_Bool}
 use Rattle.std.proofs.lemmas.Option.{same_Some}
 use Rattle.std.proofs.lemmas.Bool.Decides.{nat_tests}
-use Rattle.std.specs.Prelude.{Option, IfSome, nat_le, unwrap_or}
+use Rattle.std.specs.Prelude.{Option, nat_le, unwrap_or}
 use Rattle.std.specs.List.{list_all}
 use Rattle.std.specs.Option.{ForSome, option_map}
 use Rattle.std.specs.Str.{bytes_eq}
-use Rattle.edi_tables.specs.Ascending.{IsAscendingBy}
-use Rattle.edi_tables.specs.declared.element.CodeList.{CodeList}
 use Rattle.edi_tables.specs.declared.element.CompositeDef.{CompositeDef}
 use Rattle.edi_tables.specs.declared.element.PartDef.{PartDef}
 use Rattle.edi_tables.specs.declared.segment.ItemDef.{ItemDef}
@@ -16,11 +14,9 @@ use Rattle.edi_tables.specs.declared.segment.SegmentDef.{SegmentDef}
 use Rattle.edi_tables.specs.declared.segment.ItemDef.TheVariants.{Alone, Composite}
 use Rattle.edi_tables.specs.Forms.{is_composite_code, is_composite_formed, is_count_formed, is_item_formed, is_part_formed, is_reps_formed, is_segment_formed, reps_of}
 use Rattle.edi_tables.specs.Tag.{is_tag_of}
-use Rattle.dir_compile.specs.Compile.{composite_name, list_name, named_in, segment_name, value_name}
+use Rattle.dir_compile.specs.Compile.{composite_name, named_in, segment_name}
 use Rattle.dir_compile.specs.Directory.{IsDirectory}
 use Rattle.dir_compile.specs.declared.parts.Parts.{Parts}
-use Rattle.dir_compile.proofs.Apart.{named-is}
-use Rattle.dir_compile.proofs.AscendingLemmas.{Contains-from-Has}
 use Rattle.service_tables.specs.ServiceTables.{held_by, service_composites, service_items_of, service_parts_of, service_segments}
 use Rattle.seg_lexer.specs.declared.context.Context.{Context}
 use Rattle.element_check.specs.Streams.{is_repeatable, is_single_item}
@@ -164,10 +160,3 @@ service-repeatable parts context tag (Some items) rules lawful found is =
 pub rules_of-repeatable : (parts : Parts) (context : Context) (tag : List ℕ) (rules : SegmentRules) → IsDirectory parts → Some rules ≡ rules_of parts context tag → list_all is_repeatable rules.items ≡ true
 unfolding rules_of
 rules_of-repeatable parts context tag rules lawful is = service-repeatable parts context tag (service_items_of tag) rules lawful refl is
-
--- the code list that a directory has for a data element has its codes in ascending order
-pub named-ascending : (parts : Parts) (element : List ℕ) (o : Option CodeList) → IsDirectory parts → o ≡ named_in list_name parts.lists element → IfSome o (λ list. IsAscendingBy value_name list.values)
-named-ascending parts element None lawful is = tt
-named-ascending parts element (Some list) lawful is =
-    let (k, within, at) = Contains-from-Has parts.lists list (named-is list_name element parts.lists list (sym is)).0 in
-    subst (λ (l : CodeList). IsAscendingBy value_name l.values) at (lawful.ordered.codes k list within)

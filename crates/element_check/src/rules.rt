@@ -1,13 +1,11 @@
 //! What a segment is checked by: its items, the parts of composites, and code lists.
-ghost use Rattle.std.specs.Prelude.{None, ◌≡◌, if◌then◌else◌, IfSome};
-ghost use Rattle.std.specs.Option.{ForSome, option_copied};
-ghost use Rattle.edi_tables.specs.Ascending.{IsAscendingBy};
-ghost use Rattle.dir_compile.specs.Compile.{value_name};
+ghost use Rattle.std.specs.Prelude.{None, ◌≡◌, if◌then◌else◌};
+ghost use Rattle.std.specs.Option.{ForSome};
 ghost use Rattle.dir_compile.specs.Directory.{IsDirectory};
 ghost use Rattle.element_check.specs.Rules.{list_of, parts_of, rules_of};
 
-use dir_compile::Directory;
-use edi_tables::{Code, CodeList, ItemDef, PartDef, Tag};
+use dir_compile::{Codes, Directory};
+use edi_tables::{Code, ItemDef, PartDef, Tag};
 use seg_lexer::Context;
 use service_tables::{service_composite, service_segment};
 use std::marker::Model;
@@ -82,22 +80,17 @@ impl<'a> Rules<'a> {
     /// The code list that the values of a data element must be in, if one is loaded: none where its composite names a
     /// list itself.
     #[inline(always)]
-    pub fn list_unless(&self, named: bool, element: Code) -> Option<&'a CodeList>
-        ensures list { option_copied result
-            ≡ (if named then None else list_of self.now element.octets) }
-        ensures ordered { IfSome (option_copied result)
-            (λ list. IsAscendingBy value_name list.values) }
+    pub fn list_unless(&self, named: bool, element: Code) -> Option<Codes<'a>>
+        ensures { result ≡ (if named then None else list_of self.now element.octets) }
     {
         if named { None } else { self.list(element) }
     }
 
-    /// The code list of a data element, if one is loaded, with its codes in ascending order.
+    /// The code list of a data element, if one is loaded.
     #[inline(always)]
     #[tactic(auto, unfolding(crate::specs::Rules::list_of))]
-    fn list(&self, element: Code) -> Option<&'a CodeList>
-        ensures list { option_copied result ≡ list_of self.now element.octets }
-        ensures ordered { IfSome (option_copied result)
-            (λ list. IsAscendingBy value_name list.values) }
+    fn list(&self, element: Code) -> Option<Codes<'a>>
+        ensures { result ≡ list_of self.now element.octets }
     {
         self.directory?.list(element)
     }

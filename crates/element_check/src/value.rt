@@ -1,8 +1,7 @@
 //! The tests of a value.
-ghost use Rattle.std.specs.Prelude.{◌≡◌, ◌&&◌, ℕ, List, Option, nat_lt, not, IfSome};
+ghost use Rattle.std.specs.Prelude.{◌≡◌, ◌&&◌, ℕ, List, Option, nat_lt, not};
 ghost use Rattle.std.specs.Cmp.Lexicographic.{slice_cmp};
 ghost use Rattle.std.specs.List.{list_any};
-ghost use Rattle.std.specs.Option.{option_copied};
 ghost use Rattle.std.specs.Ordering.{nat_cmp};
 ghost use Rattle.std.specs.Str.{bytes_eq};
 ghost use Rattle.edi_tables.specs.Ascending.{IsAscendingBy};
@@ -15,6 +14,7 @@ ghost use Rattle.element_check.specs.Tally.{nothing_found, tally_over};
 ghost use Rattle.element_check.specs.Value.{is_unlisted as is_unlisted_of, test_results};
 
 use crate::tally::{Tally, scan, typed_length};
+use dir_compile::Codes;
 use edi_octets::Octets;
 use edi_tables::{CodeList, Repr};
 use error_ledger::Kind;
@@ -28,12 +28,11 @@ const TESTS: usize = 6;
 pub(crate) fn test_value<O: Octets>(
     context: &Context,
     repr: Repr,
-    list: Option<&CodeList>,
+    list: Option<Codes<'_>>,
     value: &Value<'_, O>,
 ) -> [(Kind, bool); TESTS]
-    requires ordered { IfSome (option_copied list) (λ list. IsAscendingBy value_name list.values) }
     ensures { result
-        ≡ test_results context.now repr (option_copied list.entry) (octets_of value.now) }
+        ≡ test_results context.now repr list.entry (octets_of value.now) }
 {
     let found = scan(context, repr.class, value);
     results_of(repr, found, is_unlisted(list, value))
@@ -45,13 +44,12 @@ pub(crate) fn test_value<O: Octets>(
 pub fn passes_admitted(
     context: &Context,
     repr: Repr,
-    list: Option<&CodeList>,
+    list: Option<Codes<'_>>,
     octets: &[u8],
 ) -> bool
     requires admitted { AreAdmitted context.now.level octets.now }
-    requires ordered { IfSome (option_copied list) (λ list. IsAscendingBy value_name list.values) }
     ensures { result ≡ not (list_any (λ test. test.1)
-        (test_results context.now repr (option_copied list.entry) octets.now)) }
+        (test_results context.now repr list.entry octets.now)) }
 {
     let Some(length) = typed_length(&context.service, repr.class, octets) else {
         return false;
@@ -90,23 +88,21 @@ fn is_too_short(repr: Repr, counted: usize) -> bool
 }
 
 /// Whether a value isn't in the code list that it must be in, if there is one.
-fn is_unlisted<O: Octets>(list: Option<&CodeList>, value: &Value<'_, O>) -> bool
-    requires ordered { IfSome (option_copied list) (λ list. IsAscendingBy value_name list.values) }
-    ensures { result ≡ is_unlisted_of (option_copied list.entry) (octets_of value.now) }
+fn is_unlisted<O: Octets>(list: Option<Codes<'_>>, value: &Value<'_, O>) -> bool
+    ensures { result ≡ is_unlisted_of list.entry (octets_of value.now) }
 {
     match list {
-        Some(list) => !is_listed(list, value),
+        Some(codes) => !is_listed(codes.list(), value),
         None => false,
     }
 }
 
 /// The same for a value of these octets.
-fn is_slice_unlisted(list: Option<&CodeList>, octets: &[u8]) -> bool
-    requires ordered { IfSome (option_copied list) (λ list. IsAscendingBy value_name list.values) }
-    ensures { result ≡ is_unlisted_of (option_copied list.entry) octets.now }
+fn is_slice_unlisted(list: Option<Codes<'_>>, octets: &[u8]) -> bool
+    ensures { result ≡ is_unlisted_of list.entry octets.now }
 {
     match list {
-        Some(list) => !is_slice_listed(list, octets),
+        Some(codes) => !codes.knows(octets) && !is_slice_listed(codes.list(), octets),
         None => false,
     }
 }
@@ -122,7 +118,8 @@ fn is_listed<O: Octets>(list: &CodeList, value: &Value<'_, O>) -> bool
         .is_ok()
 }
 
-/// The same for a value of these octets. Most values need not be in a list: this is kept out of their way.
+/// The same for a value of these octets. Most values need not be in a list, or are seen at once to be in it: this is kept out of
+/// their way.
 #[inline(never)]
 fn is_slice_listed(list: &CodeList, octets: &[u8]) -> bool
     requires ordered { IsAscendingBy value_name list.now.values }

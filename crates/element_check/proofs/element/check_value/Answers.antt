@@ -1,5 +1,4 @@
 use Rattle.std.proofs.Common.{◌≡◌, ◌+◌, ◌++◌, ◌<◌, List, length, ap, ◌∙◌, subst}
-use Rattle.std.specs.Option.{option_copied}
 use Rattle.seg_lexer.specs.Value.{octets_of}
 use Rattle.element_check.specs.Rules.{SegmentRules}
 use Rattle.element_check.specs.Streams.{part_errors, part_rules, told_errors}
@@ -12,8 +11,8 @@ use Rattle.element_check.proofs.element.check_value.Goals.{After-put_failed}
 told : (g : _) (c : After-put_failed g) → told_errors c.args.element c.args.component c.test_value-results.result
     ≡ part_errors (part_rules c.args.rules.now c.args.named) c.args.element c.args.component c.args.part.now (octets_of c.args.value.now)
 told g c = part-filled c.args.rules.now c.args.element c.args.component c.args.part.now c.args.named (octets_of c.args.value.now) c.is_empty.result
-    c.rules.inside.context.now (option_copied c.list_unless-list.result) c.test_value-results.result
-    (ap (λ (r : SegmentRules). r.context) c.rules.view_is) c.list_unless-list.ensures.list c.test_value-results.ensures c.is_empty.ensures c.if-is_empty.false
+    c.rules.inside.context.now c.list_unless-list.result c.test_value-results.result
+    (ap (λ (r : SegmentRules). r.context) c.rules.view_is) c.list_unless-list.ensures c.test_value-results.ensures c.is_empty.ensures c.if-is_empty.false
 
 pub returns-clause-ok : goal.returns-clause-ok
 returns-clause-ok g c =

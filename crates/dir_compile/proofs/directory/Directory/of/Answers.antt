@@ -1,7 +1,8 @@
-use Rattle.std.proofs.Common.{◌≡◌, ◌∙◌, ◌∷◌, [], All, map, subst, sym, ap}
+use Rattle.std.proofs.Common.{◌≡◌, ◌∙◌, ◌∷◌, [], All, length, map, subst, sym, ap}
 use Rattle.edi_tables.specs.Collisions.{collisions_of}
 use Rattle.edi_tables.specs.Rows.{nodes_of, table_faults}
 use Rattle.service_tables.specs.ServiceTables.{contrl_table_rows}
+use Rattle.dir_compile.specs.Codes.{AreNumbersOf}
 use Rattle.dir_compile.specs.Directory.{tables_of}
 use Rattle.dir_compile.proofs.Groups.{fault-free, free-twice}
 use Rattle.dir_compile.proofs.Making.{tables-free}
@@ -21,6 +22,8 @@ invariant_of-result c =
     record {
       lawful = c.requires;
       names = c.in_ok-names.ensures;
+      many = c.in_ok-numbers.ensures.long ∙ ap length c.items-2.ensures;
+      numbers = subst (λ lists. AreNumbersOf lists c.in_ok-numbers.numbers.items) c.items-2.ensures c.in_ok-numbers.ensures.numbers;
       tables = tables;
       collisions = c.in_ok-collisions.ensures ∙ ap (map collisions_of) (c.deref.ensures.value ∙ tables);
     }

@@ -6,6 +6,7 @@ ghost use Rattle.seg_lexer.specs.Tag.{tag_of};
 ghost use Rattle.seg_lexer.specs.declared.context.Context.{Context};
 ghost use Rattle.element_check.specs.Local.{local_errors_of};
 ghost use Rattle.clean_segments.specs.Clean.{AreClean};
+ghost use Rattle.clean_segments.specs.declared.clean.TheConstants.{PLACES};
 ghost use Rattle.edi_octets.specs.declared.octets.TheConstants.{LONGEST_TEXT};
 
 use crate::kinds::OctetKinds;
@@ -19,7 +20,7 @@ use std::alloc::{AllocError, Global};
 use std::marker::Model;
 
 /// How many segments are remembered at most.
-const PLACES: usize = 1_024;
+const PLACES: usize = 256;
 
 /// A segment in which nothing is wrong by itself: its first octet, the place of its terminator, and its tag.
 #[derive(Clone, Copy, Debug)]
@@ -148,25 +149,34 @@ fn spelled<O: Octets>(text: &O, start: usize, end: usize) -> Option<&[u8]>
     Some(&part[..end - start])
 }
 
-// The place where a segment of these octets is remembered. They are summed eight at a time, and the last eight once more: so
-// few are left only where there are fewer than eight.
+// The place where a segment of these octets is remembered. Eight octets are summed at its beginning, in its middle and at its end:
+// all of them where it has no more than twenty-four.
 fn slot_of(octets: &[u8]) -> usize
-    ensures { result < 1024 }
+    ensures { result < PLACES }
 {
     let mut sum = 0_u64;
-    let mut left = octets;
-    while let Some((word, others)) = left.split_first_chunk::<8>() {
-        sum = add_word(sum, u64::from_le_bytes(*word));
-        left = others;
-    }
-    if let Some((_, word)) = octets.split_last_chunk::<8>() {
-        sum = add_word(sum, u64::from_le_bytes(*word));
-    } else {
+    if octets.len() < 8 {
         for octet in octets {
             sum = add_word(sum, u64::from(*octet));
         }
+    } else {
+        let last = octets.len() - 8;
+        sum = add_word(sum, word_at(octets, 0));
+        sum = add_word(sum, word_at(octets, last / 2));
+        sum = add_word(sum, word_at(octets, last));
     }
-    (sum >> 54) as usize % PLACES
+    (sum >> 56) as usize % PLACES
+}
+
+// Eight octets from a place on, as a number.
+#[inline(always)]
+fn word_at(octets: &[u8], at: usize) -> u64
+    requires { at ≤ length octets.now }
+{
+    match octets[at..].first_chunk::<8>() {
+        Some(word) => u64::from_le_bytes(*word),
+        None => 0,
+    }
 }
 
 // The sum with one word more. Each bit of a word counts in the first bits of the sum.

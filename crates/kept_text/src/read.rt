@@ -35,7 +35,7 @@ pub(crate) fn known_for(alloc: Global, octets: usize) -> Result<KnownSteps, Allo
     if octets < MANY_OCTETS {
         return Ok(KnownSteps::forgetful(alloc));
     }
-    KnownSteps::none(alloc)
+    KnownSteps::none(alloc, octets)
 }
 
 /// The records of the octets after the boundary `from` of a text, in order, after a mode. Each call of the lexer and of the

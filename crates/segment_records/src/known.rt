@@ -1,5 +1,5 @@
 //! Steps of segments that are remembered, so that the same step isn't looked for again.
-ghost use Rattle.std.specs.Prelude.{◌≡◌, ◌<◌, [], Some, false, set, slice_get, IfNone, IfOk, IfSome, IsTrue};
+ghost use Rattle.std.specs.Prelude.{◌≡◌, [], Some, false, set, slice_get, IfNone, IfOk, IfSome, IsTrue};
 ghost use Rattle.dir_compile.specs.declared.parts.Parts.{Parts};
 ghost use Rattle.segment_records.specs.declared.known.KnownStep.{KnownStep};
 ghost use Rattle.segment_records.specs.Known.{AreKnown, IsKnown, IsPlaceOf, IsPlaced, IsStepOf};
@@ -9,8 +9,14 @@ use std::alloc::{AllocError, Global};
 use std::marker::Model;
 use table_walk::{FewPairs, Placed, State};
 
-/// How many steps are remembered at most.
+/// How many steps are remembered at most, if the text isn't long.
 const PLACES: usize = 1_024;
+
+/// How many of a long text, which has at least `LONG_TEXT` octets.
+const MOST_PLACES: usize = 4_096;
+
+/// A text of so many octets is long.
+const LONG_TEXT: usize = 262_144;
 
 /// A step of a segment with this tag in a message that has the table of this number: the pairs before it, its entry and the pairs
 /// after it. Nothing is missing before it, and it isn't one too many.
@@ -29,11 +35,13 @@ pub(crate) struct KnownStep {
 /// and again.
 #[derive(Debug, Drop)]
 pub struct KnownSteps {
-    // `PLACES` of them, or none where nothing is remembered.
+    // As many as there is room for, a power of two; or none where nothing is remembered.
     places: Vec<Option<KnownStep>>,
     // For each place, that of the step which came next when it was last taken; and the place of the step that was taken last.
     next: Vec<u16>,
     last: u16,
+    // The bits of a place.
+    mask: u16,
 }
 
 impl Model for KnownSteps {
@@ -46,18 +54,24 @@ impl Model for KnownSteps {
 }
 
 impl KnownSteps {
-    /// None yet.
-    pub fn none(alloc: Global) -> Result<KnownSteps, AllocError>
+    /// None yet, of a text that has so many octets. There is room for more of them in a long one.
+    pub fn none(alloc: Global, octets: usize) -> Result<KnownSteps, AllocError>
         ensures { IfOk result (λ known. (directory : Parts) → AreKnown directory known) }
     {
-        let mut places = Vec::with_capacity(alloc, PLACES)?;
-        for _ in 0..PLACES {
+        let count = if octets < LONG_TEXT {
+            PLACES
+        } else {
+            MOST_PLACES
+        };
+        let mut places = Vec::with_capacity(alloc, count)?;
+        for _ in 0..count {
             places.push(None)?;
         }
         Ok(KnownSteps {
             places,
-            next: Vec::from_elem(alloc, 0, PLACES)?,
+            next: Vec::from_elem(alloc, 0, count)?,
             last: 0,
+            mask: count as u16 - 1,
         })
     }
 
@@ -69,6 +83,7 @@ impl KnownSteps {
             places: Vec::new(alloc),
             next: Vec::new(alloc),
             last: 0,
+            mask: 0,
         }
     }
 
@@ -85,11 +100,23 @@ impl KnownSteps {
         if self.places.is_empty() {
             return None;
         }
-        let place = place_for(before, tag);
+        let place = self.place_for(before, tag);
         if self.is_at(place, table, before, tag) {
             return Some(place);
         }
         None
+    }
+
+    // The place for the step of a segment with this tag after these pairs.
+    #[inline(always)]
+    fn place_for(&self, before: &FewPairs, tag: Tag) -> u16 {
+        let [first, second, third] = tag.octets;
+        let word = u64::from(first) << 16 | u64::from(second) << 8 | u64::from(third);
+        let digest = before
+            .digest()
+            .wrapping_add(word)
+            .wrapping_mul(0x9E37_79B9_7F4A_7C15);
+        (digest >> 48) as u16 & self.mask
     }
 
     // The place of the step that came after the one at a place when that was last taken.
@@ -156,7 +183,7 @@ impl KnownSteps {
         ensures { (directory : Parts) → AreKnown directory self.old
             → IsKnown directory known → AreKnown directory self.new }
     {
-        let place = place_for(&known.before, known.tag);
+        let place = self.place_for(&known.before, known.tag);
         self.go_to(place);
         self.put_at(usize::from(place), known);
     }
@@ -207,18 +234,4 @@ fn is_well_placed(next: &Placed) -> bool
     ensures missing { IsTrue result → next.now.missing.items ≡ [] }
 {
     !next.over && next.missing.is_empty()
-}
-
-// The place for the step of a segment with this tag after these pairs.
-#[inline(always)]
-fn place_for(before: &FewPairs, tag: Tag) -> u16
-    ensures { result < 1024 }
-{
-    let [first, second, third] = tag.octets;
-    let word = u64::from(first) << 16 | u64::from(second) << 8 | u64::from(third);
-    let digest = before
-        .digest()
-        .wrapping_add(word)
-        .wrapping_mul(0x9E37_79B9_7F4A_7C15);
-    (digest >> 54) as u16 % PLACES as u16
 }

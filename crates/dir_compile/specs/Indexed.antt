@@ -7,8 +7,8 @@ use Rattle.dir_compile.specs.Codes.{AreNumbersOf}
 use Rattle.dir_compile.specs.Names.{IsNamesOf}
 use Rattle.dir_compile.specs.Directory.{IsDirectory, tables_of}
 
--- its parts are a directory's, each name is at the place of its definition, the numbers of codes are those of its lists, and
--- the tables and collisions are those of the parts
+-- its parts are a directory's, each name is at the place of its definition, the numbers of codes are those of its
+-- lists, and the tables and collisions are those of the parts
 pub record IsIndexed (d : Inside) : Type 0 where
   pub lawful : IsDirectory d.parts
   pub names : IsNamesOf d.names d.parts

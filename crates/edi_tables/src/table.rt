@@ -33,7 +33,7 @@ pub enum TableKind {
 
 /// The first row, from 0, that breaks a rule of segment tables, and the first rule that it breaks.
 ///
-/// Where there are more than 2,000 rows it is the one that follows 2,000 others, and where there are none, row 0.
+/// Where there are more than 2,000 rows it is the one that follows 2,000 others, and where there are none, it is 0.
 #[derive(Clone, Copy, Debug, PartialEq, Eq)]
 pub struct RowFault {
     pub at: u16,

@@ -12,8 +12,8 @@ pub record IsMarkedPlace {T : Type 0} (marks_of : T → ℕ) (xs : List T) (n pl
   pub rank : sum_by marks_of (take place xs) ≡ n
   pub marked : sum_by marks_of (take (place + 1) xs) ≡ n + 1
 
--- items weigh w; before each of the first ones lies what ws says, and ks are the places of the marked ones. If ws ends before
--- the items do, two octets don't hold what comes next
+-- items weigh w; before each of the first ones lies what ws says, and ks are the places of the marked ones. If ws ends
+-- before the items do, two octets don't hold what comes next
 pub record IsKnown {T : Type 0} (measure marks_of : T → ℕ) (xs : List T) (w : ℕ) (ws ks : List ℕ) : Type 0 where
   pub few : length xs ≤ longest_run
   pub total : w ≡ sum_by measure xs
